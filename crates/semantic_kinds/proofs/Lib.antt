@@ -1,0 +1,7 @@
+pub mod Words
+pub mod KindNames
+pub mod RoleNames
+pub mod MarkNames
+pub mod ByLength
+pub mod MarkLaws
+pub mod AllowedBits
