@@ -1,0 +1,14 @@
+pub mod Forests
+pub mod Fits
+pub mod Faults
+pub mod FitLaws
+pub mod OwnRoles
+pub mod ShapedLaws
+pub mod Wrappers
+pub mod NullName
+pub mod Rising
+pub mod Preorder
+pub mod SameTexts
+pub mod Swapped
+pub mod RenamedKinds
+pub mod RenamedShape
