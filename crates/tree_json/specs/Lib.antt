@@ -1,0 +1,10 @@
+pub mod Lines
+pub mod Listing
+pub mod Form
+pub mod Comments
+pub mod Top
+pub mod Outcome
+pub mod Reading
+pub mod Written
+pub mod Views
+pub mod WrittenForm

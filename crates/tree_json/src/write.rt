@@ -1,0 +1,156 @@
+//! From a program to its written forms.
+ghost use Rattle.std.specs.Prelude.{◌≡◌, Ok, None, codes, map, IfOk};
+ghost use Rattle.serde_json.specs.View.{view as data_of, items_of};
+ghost use Rattle.serde_json.specs.Data.{array, no_members, member};
+ghost use Rattle.serde_json.specs.Written.{compact_text};
+ghost use Rattle.semantic_tree.specs.Shaped.{IsShaped};
+ghost use Rattle.tree_json.specs.Form.{in_rows, in_list};
+ghost use Rattle.tree_json.specs.Lines.{listing};
+ghost use Rattle.tree_json.specs.Listing.{line};
+ghost use Rattle.tree_json.specs.Views.{characters, places_view, IsSpelled, AreSpelled};
+ghost use Rattle.tree_json.specs.Reading.{reading, listed};
+ghost use Rattle.tree_json.specs.Written.{texts_of, comment_data, rows_data, text_data, object_data, program_data, Each, IsReadable};
+
+use crate::list::push_rows;
+use crate::places::{TextPlaces, texts_of};
+use crate::row::Row;
+use crate::top::{goal_name, lang_name};
+use crate::values::{comment_values, row_values, text_values};
+use indexmap::IndexSet;
+use semantic_kinds::role::Role;
+use semantic_syntax::SourceType;
+use semantic_tree::program::Program;
+use serde_json::{Value, json};
+use std::alloc::{AllocError, Global};
+
+/// The parts of a written form that differ from program to program, as JSON values.
+#[derive(Drop)]
+struct Parts {
+    comments: Value,
+    rows: Value,
+    source: Value,
+}
+
+/// The compact text of the program's written form in format 1: keys in order, marks in the order of
+/// their table. Reading it gives the program again.
+pub fn write_program(alloc: Global, program: &Program) -> Result<Vec<u8>, AllocError>
+    ensures text { IfOk result (λ bytes. bytes.items ≡ compact_text (program_data in_rows program.now)) }
+    ensures again { IfOk result (λ bytes. reading bytes.items ≡ Ok (listed program.now)) }
+{
+    let rows = rows_of(alloc, program)?;
+    let value = plain_value(alloc, program, &rows)?;
+    value.to_vec(alloc)
+}
+
+/// The same in format 2, whose list of texts has each text of a node once, in order of first use.
+pub fn write_program_with_texts(alloc: Global, program: &Program) -> Result<Vec<u8>, AllocError>
+    ensures text { IfOk result (λ bytes. bytes.items
+        ≡ compact_text (program_data (in_list (texts_of program.now)) program.now)) }
+    ensures again { IfOk result (λ bytes. reading bytes.items ≡ Ok (listed program.now)) }
+{
+    let rows = rows_of(alloc, program)?;
+    let texts = texts_of(alloc, &rows)?;
+    let value = value_with_texts(alloc, program, &texts, &rows)?;
+    value.to_vec(alloc)
+}
+
+/// The rows of a program.
+fn rows_of(alloc: Global, program: &Program) -> Result<Vec<Row<'_>>, AllocError>
+    ensures rows { IfOk result (λ rows. map line rows.items ≡ listing program.now.root) }
+    ensures shaped { IfOk result (λ rows. IsShaped program.now) }
+{
+    let mut rows = Vec::with_capacity(alloc, program.node_count() as usize)?;
+    push_rows(&mut rows, program.root().node(), 0, Role::Root)?;
+    Ok(rows)
+}
+
+/// The written form in format 1 of a program with these rows.
+#[tactic(auto, unfolding(crate::specs::Written::program_data))]
+fn plain_value(alloc: Global, program: &Program, rows: &[Row<'_>]) -> Result<Value, AllocError>
+    requires { map line rows.now ≡ listing program.now.root }
+    ensures value { IfOk result (λ v. data_of v ≡ program_data in_rows program.now) }
+    ensures readable { IfOk result (λ v. IsReadable in_rows program.now) }
+{
+    let parts = parts_of(alloc, program, TextPlaces::InPlace, rows)?;
+    plain_object(alloc, program.source_type(), parts)
+}
+
+/// The written form in format 2 of a program with these rows, whose texts are these.
+#[tactic(auto, unfolding(crate::specs::Written::program_data))]
+fn value_with_texts(
+    alloc: Global,
+    program: &Program,
+    texts: &IndexSet<&str>,
+    rows: &[Row<'_>],
+) -> Result<Value, AllocError>
+    requires spelled { Each IsSpelled texts.now.keys }
+    requires listed { map line rows.now ≡ listing program.now.root }
+    ensures value { IfOk result (λ v. data_of v
+        ≡ program_data (in_list (map characters texts.now.keys)) program.now) }
+    ensures readable { IfOk result (λ v. IsReadable (in_list (map characters texts.now.keys)) program.now) }
+{
+    let parts = parts_of(alloc, program, TextPlaces::InSet(texts), rows)?;
+    let texts = Value::Array(text_values(alloc, texts.as_slice())?);
+    object_with_texts(alloc, program.source_type(), parts, texts)
+}
+
+/// The parts of a program's written form, whose rows are these and tell their texts so.
+fn parts_of(
+    alloc: Global,
+    program: &Program,
+    places: TextPlaces<'_, '_>,
+    rows: &[Row<'_>],
+) -> Result<Parts, AllocError>
+    requires spelled { AreSpelled places }
+    requires listed { map line rows.now ≡ listing program.now.root }
+    ensures comments { IfOk result (λ parts. data_of parts.comments
+        ≡ array (items_of (map comment_data program.now.comments))) }
+    ensures rows { IfOk result (λ parts. data_of parts.rows
+        ≡ rows_data (places_view places.entry) (listing program.now.root)) }
+    ensures source { IfOk result (λ parts. data_of parts.source ≡ text_data program.now.source) }
+    ensures readable { IfOk result (λ parts. IsReadable (places_view places.entry) program.now) }
+{
+    let comments = comment_values(alloc, program.comments())?;
+    let rows = row_values(alloc, places, rows)?;
+    let source = Value::try_from_str(alloc, program.source_text())?;
+    Ok(Parts {
+        comments: Value::Array(comments),
+        rows: Value::Array(rows),
+        source,
+    })
+}
+
+fn plain_object(alloc: Global, source_type: SourceType, parts: Parts) -> Result<Value, AllocError>
+    ensures { IfOk result (λ v. data_of v ≡ object_data 1 source_type
+        (data_of parts.comments) (data_of parts.rows) (data_of parts.source) no_members) }
+{
+    json!(in alloc; {
+        "comments": parts.comments,
+        "format": 1u64,
+        "goal": goal_name(source_type.goal),
+        "lang": lang_name(source_type.lang),
+        "rows": parts.rows,
+        "source": parts.source,
+    })
+}
+
+fn object_with_texts(
+    alloc: Global,
+    source_type: SourceType,
+    parts: Parts,
+    texts: Value,
+) -> Result<Value, AllocError>
+    ensures { IfOk result (λ v. data_of v ≡ object_data 2 source_type
+        (data_of parts.comments) (data_of parts.rows) (data_of parts.source)
+        (member (codes "texts") (data_of texts) no_members)) }
+{
+    json!(in alloc; {
+        "comments": parts.comments,
+        "format": 2u64,
+        "goal": goal_name(source_type.goal),
+        "lang": lang_name(source_type.lang),
+        "rows": parts.rows,
+        "source": parts.source,
+        "texts": texts,
+    })
+}
