@@ -1,0 +1,5 @@
+use Rattle.semantic_model.proofs.Afterwards.{lists_begin}
+use Rattle.semantic_model.proofs.laws.redeclarations_begin_with_own.Goals as goal
+
+pub returns : goal.returns
+returns c = λ p. lists_begin p

@@ -1,0 +1,6 @@
+use Rattle.semantic_model.proofs.Afterwards.{one_list}
+use Rattle.semantic_model.proofs.Whole.{tables_fit}
+use Rattle.semantic_model.proofs.laws.references_stand_in_one_list.Goals as goal
+
+pub returns : goal.returns
+returns c = λ p h. one_list p (tables_fit p h).references_stand_once

@@ -1,0 +1,5 @@
+use Rattle.semantic_model.proofs.Compose.{steps-append}
+use Rattle.semantic_model.proofs.laws.steps_compose.Goals as goal
+
+pub returns : goal.returns
+returns c = λ ds first rest st. steps-append ds first rest st

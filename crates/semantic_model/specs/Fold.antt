@@ -1,0 +1,106 @@
+-- What the events of a program make: bindings, symbols and conflicts.
+use Rattle.std.specs.Prelude.{ℕ, zero, suc, List, [], ◌∷◌, ◌++◌, Option, Some, None, cond, length, slice_get}
+use Rattle.semantic_syntax.specs.declared.spans.Span.{Span}
+use Rattle.semantic_syntax.specs.declared.symbol_flags.TheConstants.SymbolFlags as symbol
+use Rattle.semantic_syntax.specs.Sets.{meets, union}
+use Rattle.semantic_syntax.specs.declared.references.Redeclaration.{Redeclaration}
+use Rattle.semantic_syntax.specs.Tables.{Name, Symbol}
+use Rattle.semantic_model.specs.Declaration.{Declaration}
+use Rattle.semantic_model.specs.Binding.{Binding, get, put}
+
+-- a name is declared although it may not be: the span of its symbol, and that of the new declaration
+pub record Conflict : Type 0 where
+  pub name : Name
+  pub earlier : Span
+  pub later : Span
+
+-- a declaration and its symbol
+pub record Made : Type 0 where
+  pub declaration : Declaration
+  pub symbol : ℕ
+
+pub record State : Type 0 where
+  pub bindings : List Binding
+  -- names that a scope doesn't bind, but knows of
+  pub remembered : List Binding
+  pub symbols : List Symbol
+  pub made : List Made
+  pub conflicts : List Conflict
+
+abbrev pub start : State
+start = record { bindings = []; remembered = []; symbols = []; made = []; conflicts = [] }
+
+abbrev pub update : (Symbol → Symbol) → List Symbol → ℕ → List Symbol
+update f [] n = []
+update f (y ∷ ys) zero = f y ∷ ys
+update f (y ∷ ys) (suc n) = y ∷ update f ys n
+
+abbrev pub flags_or_none : Option Symbol → ℕ
+flags_or_none None = 0
+flags_or_none (Some y) = y.flags.bits
+
+abbrev pub flags_of : State → ℕ → ℕ
+flags_of st s = flags_or_none (slice_get st.symbols s)
+
+abbrev pub or_else : Option ℕ → Option ℕ → Option ℕ
+or_else (Some s) o = Some s
+or_else None o = o
+
+abbrev pub unless_expression : State → Option ℕ → Option ℕ
+unless_expression st None = None
+unless_expression st (Some s) = cond (meets (flags_of st s) symbol.FunctionExpression.bits) None (Some s)
+
+-- the symbol that a scope binds to the name, else the one that it remembers; the name of a function expression counts as none
+abbrev pub found : State → ℕ → Name → Option ℕ
+found st c x = unless_expression st (or_else (get st.bindings c x) (get st.remembered c x))
+
+abbrev pub entry_of : Declaration → Redeclaration
+entry_of d = record { span = d.span; declaration = d.node; flags = record { bits = d.flags } }
+
+abbrev pub with_entry : Option (List Redeclaration) → Symbol → Declaration → List Redeclaration
+with_entry None y d = record { span = y.span; declaration = y.node; flags = y.flags } ∷ entry_of d ∷ []
+with_entry (Some rs) y d = rs ++ entry_of d ∷ []
+
+-- one more declaration of the symbol; without a list, its own goes first
+abbrev pub redeclared : Declaration → Symbol → Symbol
+redeclared d y = record y { redeclarations = Some (with_entry y.redeclarations y d) }
+
+abbrev pub united : ℕ → Symbol → Symbol
+united flags y = record y { flags = record { bits = union y.flags.bits flags } }
+
+abbrev pub in_scope : ℕ → Symbol → Symbol
+in_scope c y = record y { scope = c }
+
+abbrev pub new_symbol : ℕ → Declaration → Symbol
+new_symbol c d = record { name = d.name; span = d.span; flags = record { bits = d.flags }; scope = c; node = d.node; redeclarations = None }
+
+-- the declaration gets the symbol
+abbrev pub gets : State → Declaration → ℕ → State
+gets st d s = record st { made = st.made ++ record { declaration = d; symbol = s } ∷ [] }
+
+-- a new symbol, bound in the scope
+abbrev pub make : State → ℕ → Declaration → State
+make st c d =
+    gets (record st { bindings = put st.bindings c d.name (length st.symbols); symbols = st.symbols ++ new_symbol c d ∷ [] })
+    d (length st.symbols)
+
+abbrev pub conflict_with : Declaration → Option Symbol → List Conflict
+conflict_with d None = []
+conflict_with d (Some y) =
+    cond (meets y.flags.bits d.excluded) (record { name = d.name; earlier = y.span; later = d.span } ∷ []) []
+
+-- a conflict is noted where the symbol's flags meet the excluded ones
+abbrev pub against : State → Declaration → ℕ → State
+against st d s = record st { conflicts = st.conflicts ++ conflict_with d (slice_get st.symbols s) }
+
+-- declared in a scope, by what was found there
+abbrev pub declare_in : State → ℕ → Declaration → Option ℕ → State
+declare_in st c d None = make st c d
+declare_in st c d (Some s) =
+    let noted : State = against st d s in
+    gets (record noted { symbols = update (λ y. united d.flags (redeclared d y)) noted.symbols s }) d s
+
+-- the symbol that a declaration gets then
+abbrev pub chosen : State → Option ℕ → ℕ
+chosen st None = length st.symbols
+chosen st (Some s) = s
