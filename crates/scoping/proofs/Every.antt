@@ -1,0 +1,68 @@
+-- What holds of each element of a list.
+use Rattle.std.proofs.Common.{◌≡◌, ℕ, ◌<◌, zero, suc, Bool, true, false, cond, if◌then◌else◌, List, [], ◌∷◌, ◌++◌, map, filter, length, get_or, take, position, swap_remove, ◌-◌, Option, None, Some, arith, refl}
+use Rattle.std.specs.List.{AllByRecursion}
+use Rattle.std.proofs.Math.ListN.{set}
+use Rattle.indexmap.specs.IndexMap.{insert_entry, shift_remove_entry, swap_remove_by}
+use Rattle.std.specs.Option.{option_map_or}
+
+module _ {X : Type 0} (P : X → Type 0) where
+  pub every-push : (x : X) (xs : List X) → AllByRecursion P xs → P x → AllByRecursion P (xs ++ x ∷ [])
+  every-push x [] h p = (p, tt)
+  every-push x (y ∷ xs) h p = (h.0, every-push x xs h.1 p)
+
+  pub every-last : (x : X) (xs : List X) → AllByRecursion P (xs ++ x ∷ []) → P x
+  every-last x [] h = h.0
+  every-last x (y ∷ xs) h = every-last x xs h.1
+
+  pub every-set : (x : X) (xs : List X) (i : ℕ) → AllByRecursion P xs → P x → AllByRecursion P (set xs i x)
+  every-set x [] i h p = tt
+  every-set x (y ∷ xs) zero h p = (p, h.1)
+  every-set x (y ∷ xs) (suc i) h p = (h.0, every-set x xs i h.1 p)
+
+  pub every-at : (d : X) (xs : List X) (i : ℕ) → AllByRecursion P xs → i < length xs → P (get_or xs i d)
+  every-at d [] i h within = absurd (omega arith)
+  every-at d (y ∷ xs) zero h within = h.0
+  every-at d (y ∷ xs) (suc i) h within = every-at d xs i h.1 (omega arith)
+
+  -- at any place, where it holds of what stands past the end
+  pub every-or : (d : X) (xs : List X) (i : ℕ) → AllByRecursion P xs → P d → P (get_or xs i d)
+  every-or d [] i h p = p
+  every-or d (y ∷ xs) zero h p = h.0
+  every-or d (y ∷ xs) (suc i) h p = every-or d xs i h.1 p
+
+pub every-more : {X : Type 0} (P Q : X → Type 0) → ((x : X) → P x → Q x) → (xs : List X) → AllByRecursion P xs → AllByRecursion Q xs
+every-more P Q more [] h = tt
+every-more P Q more (x ∷ xs) h = (more x h.0, every-more P Q more xs h.1)
+
+module _ {K X : Type 0} (P : K × X → Type 0) where
+  pub every-insert : (eq : K → K → Bool) (k : K) (v : X) → P (k, v) → (es : List (K × X)) → ((e : K × X) → P e → P (e.0, v)) → AllByRecursion P es → AllByRecursion P (insert_entry eq es k v)
+  every-insert eq k v p [] again h = (p, tt)
+  every-insert eq k v p (e ∷ es) again h = by (eq k e.0) (every-insert eq k v p es again h.1)
+    where
+      by : (b : Bool) → AllByRecursion P (insert_entry eq es k v) → AllByRecursion P (if b then (e.0, v) ∷ es else e ∷ insert_entry eq es k v)
+      by true rest = (again e h.0, h.1)
+      by false rest = (h.0, rest)
+
+  pub every-remove : (test : K → Bool) (es : List (K × X)) → AllByRecursion P es → AllByRecursion P (shift_remove_entry test es)
+  every-remove test [] h = tt
+  every-remove test (e ∷ es) h = by (test e.0) (every-remove test es h.1)
+    where
+      by : (b : Bool) → AllByRecursion P (shift_remove_entry test es) → AllByRecursion P (cond b es (e ∷ shift_remove_entry test es))
+      by true rest = h.1
+      by false rest = (h.0, rest)
+
+-- what the last element's move into a place leaves
+module _ {X : Type 0} (P : X → Type 0) where
+  every-take : (n : ℕ) (xs : List X) → AllByRecursion P xs → AllByRecursion P (take n xs)
+  every-take zero [] h = tt
+  every-take (suc n) [] h = tt
+  every-take zero (x ∷ xs) h = tt
+  every-take (suc n) (x ∷ xs) h = (h.0, every-take n xs h.1)
+
+  pub every-swapped : (test : X → Bool) (xs : List X) → AllByRecursion P xs → AllByRecursion P (swap_remove_by test xs)
+  every-swapped test [] h = h
+  every-swapped test (x ∷ xs) h = by (position test (x ∷ xs))
+    where
+      by : (o : Option ℕ) → AllByRecursion P (option_map_or (λ i. swap_remove (x ∷ xs) i x) o (x ∷ xs))
+      by None = h
+      by (Some i) = every-take (length (x ∷ xs) - 1) _ (every-set P _ (x ∷ xs) i h (every-at P x (x ∷ xs) (length (x ∷ xs) - 1) h (omega arith)))

@@ -1,0 +1,48 @@
+use Rattle.std.proofs.Common.{length, refl, ap, sym, ◌∙◌, arith, get_or, []}
+use Rattle.std.specs.Str.{bytes_eq}
+use Rattle.std.proofs.Math.ListN.{set}
+use Rattle.std.proofs.lemmas.List.{length-set}
+use Rattle.indexmap.specs.IndexMap.{insert_entry}
+use Rattle.scoping.specs.Names.{name_of}
+use Rattle.scoping.proofs.Results.{on_err}
+use Rattle.scoping.proofs.Shown.{tables_eq, bound_insert, shown_insert, scope_within, symbol_within, tables_interned, sound_interned, bindings_interned, symbols_interned, free_interned}
+use Rattle.scoping.proofs.scoping.Scoping.add_binding.Goals as goal
+
+pub invariant_of-self-in_err-insert : goal.invariant_of-self-in_err-insert
+invariant_of-self-in_err-insert c = rw c.in_err-insert.ensures.err (sound_interned c.self.inside c.self.invariant _ _ _ c.in_ok-number.ensures.ok)
+
+pub returns-in_err-insert-clause-err : goal.returns-in_err-insert-clause-err
+returns-in_err-insert-clause-err c =
+    rw c.in_err-insert.ensures.err
+    (on_err c.from_residual-in_err-insert.result (tables_interned c.self.inside c.self.invariant _ _ _ c.in_ok-number.ensures.ok ∙ c.self.view_is))
+
+pub invariant_of-self-2 : goal.invariant_of-self-2
+invariant_of-self-2 c =
+    let interned = c.in_ok-number.ensures.ok in
+    let sound = sound_interned c.self.inside c.self.invariant _ _ _ interned in
+    let symbol = symbol_within c.self.inside c.self.invariant c.args.symbol (rw (← c.self.view_is) at c.requires.symbol) in
+    record {
+      counted = rw (c.in_ok-insert.ensures.ok, length-set) sound.counted;
+      bound = rw c.in_ok-insert.ensures.ok (bound_insert _ _ c.args.scope c.in_ok-number.number c.args.symbol c.self.inside.bindings interned.number.within symbol sound.bound);
+      named = sound.named;
+      used = sound.used;
+      uses = sound.uses;
+      free = sound.free;
+      forest = sound.forest;
+      symbols_fit = sound.symbols_fit;
+      scopes_fit = sound.scopes_fit;
+    }
+
+pub returns-clause-ok : goal.returns-clause-ok
+returns-clause-ok c =
+    let interned = c.in_ok-number.ensures.ok in
+    let sound = sound_interned c.self.inside c.self.invariant _ _ _ interned in
+    let within = scope_within c.self.inside c.self.invariant c.args.scope (rw (← c.self.view_is) at c.requires.scope) in
+    rw (← c.self.view_is, c.in_ok-insert.ensures.ok)
+    (tables_eq _ _ refl
+    (shown_insert _ _ c.self.inside.bindings sound.bound c.args.scope within _ _ interned.number c.args.symbol
+    ∙ ap (λ bs. set bs c.args.scope (insert_entry bytes_eq (get_or bs c.args.scope []) (name_of c.args.name) c.args.symbol)) (bindings_interned c.self.inside c.self.invariant _ _ _ interned))
+    (symbols_interned c.self.inside c.self.invariant _ _ _ interned)
+    refl refl
+    (free_interned c.self.inside c.self.invariant _ _ _ interned)
+    refl)

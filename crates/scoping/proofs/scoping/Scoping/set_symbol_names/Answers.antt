@@ -1,0 +1,25 @@
+use Rattle.std.proofs.Common.{refl, sym, ap, ◌∙◌, length, fold}
+use Rattle.std.proofs.lemmas.List.{length-map}
+use Rattle.scoping.specs.Names.{name_of}
+use Rattle.scoping.specs.Writing.{with_name}
+use Rattle.scoping.proofs.Folds.{length_named, named_named, shown_named}
+use Rattle.scoping.proofs.Shown.{tables_eq, sound_interned, sound_rows, bindings_interned, symbols_interned, free_interned}
+use Rattle.scoping.proofs.scoping.Scoping.set_symbol_names.Goals as goal
+
+pub invariant_of-self-2 : goal.invariant_of-self-2
+invariant_of-self-2 c =
+    let interned = c.in_ok-number.ensures.ok in
+    let sound = sound_interned c.self.inside c.self.invariant _ _ _ interned in
+    let rows = c.self.inside.symbols.items in
+    sound_rows _ sound c.set_names.new.rows
+    (ap length c.set_names.ensures ∙ length_named c.intern.new.self c.in_ok-number.number c.args.ids.now rows)
+    (rw c.set_names.ensures (named_named c.intern.new.self _ c.in_ok-number.number interned.number.within c.args.ids.now rows sound.named))
+
+pub returns-clause-ok : goal.returns-clause-ok
+returns-clause-ok c =
+    let interned = c.in_ok-number.ensures.ok in
+    rw (← c.self.view_is, c.set_names.ensures)
+    (tables_eq _ _ refl (bindings_interned c.self.inside c.self.invariant _ _ _ interned)
+    (shown_named c.intern.new.self c.in_ok-number.number (name_of c.args.name) interned.number.named c.args.ids.now c.self.inside.symbols.items (rw (← c.self.view_is, length-map) at c.requires)
+    ∙ ap (λ ys. fold (with_name (name_of c.args.name)) ys c.args.ids.now) (symbols_interned c.self.inside c.self.invariant _ _ _ interned))
+    refl refl (free_interned c.self.inside c.self.invariant _ _ _ interned) refl)

@@ -1,0 +1,17 @@
+use Rattle.std.proofs.Common.{refl, ap, ◌∙◌}
+use Rattle.std.specs.Int.RustNames.{bit_or}
+use Rattle.semantic_syntax.specs.declared.symbol_flags.SymbolFlags.{SymbolFlags}
+use Rattle.scoping.specs.Row.{symbol_of_row}
+use Rattle.scoping.proofs.Shown.{tables_eq, symbol_changed, symbol_within}
+use Rattle.scoping.proofs.scoping.Scoping.union_symbol_flag.Goals as goal
+
+pub returns : goal.returns
+returns c =
+    let within = symbol_within c.self.inside c.self.invariant c.args.symbol (rw (← c.self.view_is) at c.requires) in
+    rw (← c.self.view_is)
+    (tables_eq _ _ refl refl
+    (symbol_changed c.self.inside.names c.self.inside.symbols.items c.args.symbol c.index.result c.index_mut-row.result.now c.set_flags.new.self c.index.ensures within c.index_mut-row.ensures.value
+    (λ y. record y { flags = record { bits = bit_or y.flags.bits c.args.includes.bits } })
+    (ap (symbol_of_row c.self.inside.names) c.set_flags.ensures
+    ∙ (λ j. symbol_of_row c.self.inside.names (record c.index_mut-row.result.now { flags = record { bits = (c.union.ensures ∙ ap (λ (f : SymbolFlags). bit_or f.bits c.args.includes.bits) c.flags.ensures) j } }))))
+    refl refl refl refl)

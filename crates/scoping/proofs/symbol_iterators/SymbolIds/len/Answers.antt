@@ -1,0 +1,6 @@
+use Rattle.std.proofs.Common.{sym, length, ap}
+use Rattle.std.proofs.lemmas.List.FromFn.{length-range_with_len}
+use Rattle.scoping.proofs.symbol_iterators.SymbolIds.len.Goals as goal
+
+pub returns : goal.returns
+returns c = rw (← c.self.view_is) (sym (length-range_with_len c.self.inside.next c.self.inside.left))

@@ -1,0 +1,14 @@
+pub mod Names
+pub mod Flat
+pub mod Row
+pub mod Source
+pub mod Reading
+pub mod Writing
+pub mod View
+pub mod NodeEntries
+pub mod Told
+pub mod Lending
+pub mod RowLending
+pub mod Numbering
+pub mod Left
+pub mod Redeclared

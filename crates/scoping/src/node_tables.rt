@@ -1,0 +1,87 @@
+//! What belongs to each node.
+ghost use Rattle.std.specs.Prelude.{◌≡◌, [], nat_eq, OnOk, OnErr};
+ghost use Rattle.std.specs.Map.{lookup};
+ghost use Rattle.indexmap.specs.IndexMap.{insert_entry};
+
+use indexmap::IndexMap;
+use semantic_syntax::{NodeId, ReferenceId, ScopeId, SymbolId};
+use std::alloc::{AllocError, Global};
+use std::marker::Model;
+
+/// Which scope a node opens, which symbol a binding identifier or enum member declares, and which reference an
+/// identifier reference is. Any node may have an entry; room is taken for the entries alone.
+#[derive(Drop)]
+pub struct NodeTables {
+    scopes: IndexMap<NodeId, ScopeId>,
+    symbols: IndexMap<NodeId, SymbolId>,
+    references: IndexMap<NodeId, ReferenceId>,
+}
+
+impl Model for NodeTables {
+    ghost use Rattle.scoping.specs.NodeEntries.{NodeEntries};
+
+    ghost Value = { NodeEntries };
+
+    ghost view = { λ t. record { scopes = t.scopes.entries; symbols = t.symbols.entries; references = t.references.entries } };
+}
+
+impl NodeTables {
+    /// Tables without entries.
+    pub fn new(alloc: Global) -> NodeTables
+        ensures { result ≡ record { scopes = []; symbols = []; references = [] } }
+    {
+        NodeTables {
+            scopes: IndexMap::new(alloc),
+            symbols: IndexMap::new(alloc),
+            references: IndexMap::new(alloc),
+        }
+    }
+
+    /// The scope that the node opens, if any.
+    pub fn scope_of(&self, node: NodeId) -> Option<ScopeId>
+        ensures { result ≡ lookup (nat_eq node) self.now.scopes }
+    {
+        self.scopes.get(&node).copied()
+    }
+
+    /// The symbol that the node declares, if any.
+    pub fn symbol_of(&self, node: NodeId) -> Option<SymbolId>
+        ensures { result ≡ lookup (nat_eq node) self.now.symbols }
+    {
+        self.symbols.get(&node).copied()
+    }
+
+    /// The reference that the node is, if any.
+    pub fn reference_of(&self, node: NodeId) -> Option<ReferenceId>
+        ensures { result ≡ lookup (nat_eq node) self.now.references }
+    {
+        self.references.get(&node).copied()
+    }
+
+    /// Notes the scope that the node opens.
+    pub fn set_scope(&mut self, node: NodeId, scope: ScopeId) -> Result<(), AllocError>
+        ensures ok { OnOk result (self.new ≡ record self.old { scopes = insert_entry nat_eq self.old.scopes node scope }) }
+        ensures err { OnErr result (self.new ≡ self.old) }
+    {
+        self.scopes.insert(node, scope)?;
+        Ok(())
+    }
+
+    /// Notes the symbol that the node declares.
+    pub fn set_symbol(&mut self, node: NodeId, symbol: SymbolId) -> Result<(), AllocError>
+        ensures ok { OnOk result (self.new ≡ record self.old { symbols = insert_entry nat_eq self.old.symbols node symbol }) }
+        ensures err { OnErr result (self.new ≡ self.old) }
+    {
+        self.symbols.insert(node, symbol)?;
+        Ok(())
+    }
+
+    /// Notes the reference that the node is.
+    pub fn set_reference(&mut self, node: NodeId, reference: ReferenceId) -> Result<(), AllocError>
+        ensures ok { OnOk result (self.new ≡ record self.old { references = insert_entry nat_eq self.old.references node reference }) }
+        ensures err { OnErr result (self.new ≡ self.old) }
+    {
+        self.references.insert(node, reference)?;
+        Ok(())
+    }
+}

@@ -1,0 +1,34 @@
+//! The places of entries in lists.
+ghost use Rattle.std.specs.Prelude.{◌≡◌, nat_eq, position};
+ghost use Rattle.indexmap.specs.IndexMap.{swap_remove_by};
+
+use itertools::Itertools;
+use semantic_syntax::ReferenceId;
+
+/// The first place of the number.
+pub fn place_of_number(numbers: &[usize], number: usize) -> Option<usize>
+    ensures { result ≡ position (nat_eq number) numbers.now }
+{
+    let (place, _) = numbers.iter().copied().find_position(|n| *n == number)?;
+    Some(place)
+}
+
+/// The first place of the reference.
+pub fn place_of_reference(references: &[ReferenceId], reference: ReferenceId) -> Option<usize>
+    ensures { result ≡ position (nat_eq reference) references.now }
+{
+    let (place, _) = references
+        .iter()
+        .copied()
+        .find_position(|r| *r == reference)?;
+    Some(place)
+}
+
+/// Takes the reference out of the list. The last one takes its place.
+pub fn take_out(references: &mut Vec<ReferenceId>, reference: ReferenceId)
+    ensures { references.new.items ≡ swap_remove_by (nat_eq reference) references.old.items }
+{
+    if let Some(place) = place_of_reference(references, reference) {
+        let _reference = references.swap_remove(place);
+    }
+}

@@ -1,0 +1,79 @@
+//! Bindings that move.
+ghost use Rattle.std.specs.Prelude.{◌≡◌, ◌==◌, ◌<◌, [], false, length, fold, OnOk, OnErr};
+ghost use Rattle.std.specs.List.{AllByRecursion};
+ghost use Rattle.scoping.specs.Row.{row_moved};
+ghost use Rattle.scoping.specs.Names.{name_of};
+ghost use Rattle.scoping.specs.Reading.{symbol_of, bindings_of};
+ghost use Rattle.scoping.specs.Writing.{with_symbol, moved, taken_over};
+
+use super::Scoping;
+use crate::bindings::BoundSymbols;
+use crate::symbol_row::SymbolRow;
+use semantic_syntax::{Ident, ScopeId, SymbolId};
+use std::alloc::AllocError;
+
+/// Gives the symbols to the scope.
+fn set_homes(rows: &mut Vec<SymbolRow>, bound: BoundSymbols<'_>, scope: ScopeId)
+    requires { AllByRecursion (λ y. y < length rows.old.items) bound }
+    ensures { rows.new.items ≡ fold (row_moved scope) rows.old.items bound.entry }
+{
+    for symbol in bound {
+        rows[symbol.index()].set_scope(scope);
+    }
+}
+
+impl Scoping {
+    /// Moves the name from one scope to the other, where it is bound.
+    pub fn move_binding(
+        &mut self,
+        from: ScopeId,
+        to: ScopeId,
+        name: Ident<'_>,
+    ) -> Result<(), AllocError>
+        requires from { from < length self.old.scopes }
+        requires to { to < length self.old.scopes }
+        ensures ok { OnOk result (self.new ≡ moved self.old from to (name_of name.entry)) }
+        ensures err { OnErr result (self.new ≡ self.old) }
+    {
+        if let Some(number) = self.names.find(name) {
+            self.bindings.move_number(from, to, number)?;
+        }
+        Ok(())
+    }
+
+    /// Moves the symbol's name from one scope to the other, where it is bound, and gives the symbol to the other
+    /// in every case.
+    pub fn move_binding_by_symbol_id(
+        &mut self,
+        from: ScopeId,
+        to: ScopeId,
+        symbol: SymbolId,
+    ) -> Result<(), AllocError>
+        requires from { from < length self.old.scopes }
+        requires to { to < length self.old.scopes }
+        requires symbol { symbol < length self.old.symbols }
+        ensures ok { OnOk result (self.new ≡ with_symbol (moved self.old from to (symbol_of self.old symbol).name) symbol (record (symbol_of self.old symbol) { scope = to })) }
+        ensures err { OnErr result (self.new ≡ self.old) }
+    {
+        let number = self.symbols[symbol.index()].name();
+        self.names.attest(number);
+        self.bindings.move_number(from, to, number)?;
+        self.symbols[symbol.index()].set_scope(to);
+        Ok(())
+    }
+
+    /// Makes the list of one scope that of the other, which binds nothing, and gives its symbols to the other.
+    pub fn take_over_bindings(&mut self, from: ScopeId, to: ScopeId) -> Result<(), AllocError>
+        requires from { from < length self.old.scopes }
+        requires to { to < length self.old.scopes }
+        requires apart { (from == to) ≡ false }
+        requires empty { bindings_of self.old to ≡ [] }
+        ensures ok { OnOk result (self.new ≡ taken_over self.old from to) }
+        ensures err { OnErr result (self.new ≡ self.old) }
+    {
+        self.bindings.take_over(from, to)?;
+        let bound = BoundSymbols::new(&self.bindings, to);
+        set_homes(&mut self.symbols, bound, to);
+        Ok(())
+    }
+}

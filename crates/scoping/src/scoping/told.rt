@@ -1,0 +1,45 @@
+//! What a look-up asks.
+ghost use Rattle.scoping.specs.Source.{IsSource};
+ghost use Rattle.scoping.specs.Told.{source_of};
+
+use super::Scoping;
+use crate::source::BindingSource;
+use semantic_syntax::{
+    Ident, ReferenceFlags, ReferenceId, ScopeFlags, ScopeId, Steps, SymbolFlags, SymbolId,
+};
+
+impl Scoping {
+    /// The parents make no cycle, and each parent and each bound symbol exists.
+    pub fn attest(&self)
+        ensures { IsSource (source_of self.now) }
+    {
+        let _scopes = &self.scopes;
+    }
+}
+
+impl<L> BindingSource<L> for Scoping {
+    ghost meaning = { source_of };
+
+    fn probe(&self, scope: ScopeId, name: Ident<'_>, steps: &mut Steps<L>) -> Option<SymbolId> {
+        self.attest();
+        steps.tick();
+        self.get_binding(scope, name)
+    }
+
+    fn parent(&self, scope: ScopeId) -> Option<ScopeId> {
+        self.attest();
+        self.scope_parent_id(scope)
+    }
+
+    fn flags_of_scope(&self, scope: ScopeId) -> ScopeFlags {
+        self.scope_flags(scope)
+    }
+
+    fn flags_of_symbol(&self, symbol: SymbolId) -> SymbolFlags {
+        self.symbol_flags(symbol)
+    }
+
+    fn way(&self, reference: ReferenceId) -> ReferenceFlags {
+        self.get_reference(reference).flags
+    }
+}

@@ -1,0 +1,47 @@
+//! What a look-up of names asks.
+ghost use Rattle.std.specs.Prelude.{◌≡◌, ◌<◌};
+ghost use Rattle.std.specs.Str.{chars};
+ghost use Rattle.semantic_syntax.specs.Counts.{raised};
+ghost use Rattle.scoping.specs.Source.{Source, IsSource};
+
+use semantic_syntax::{
+    Ident, ReferenceFlags, ReferenceId, ScopeFlags, ScopeId, Steps, SymbolFlags, SymbolId,
+};
+
+/// Scopes with parents, flags and bindings, symbols with flags, and references with ways. Steps are counted
+/// on a ledger of the type `L`.
+///
+/// The law of a source: the parents make no cycle, and each parent and each bound symbol exists.
+pub trait BindingSource<L> {
+    // What the calls tell.
+    ghost meaning: { Self → Source };
+
+    /// The symbol that the scope binds to the name, if any. No other call tells a binding, and each call is
+    /// one step.
+    fn probe(&self, scope: ScopeId, name: Ident<'_>, steps: &mut Steps<L>) -> Option<SymbolId>
+        requires { scope < (meaning self.now).scopes }
+        ensures bound { result ≡ (meaning self.now).bound scope (chars name.entry.text.now) }
+        ensures step { steps.new ≡ raised steps.old 1 }
+        ensures law { IsSource (meaning self.now) };
+
+    /// The scope around the scope, if any.
+    fn parent(&self, scope: ScopeId) -> Option<ScopeId>
+        requires { scope < (meaning self.now).scopes }
+        ensures outward { result ≡ (meaning self.now).parent scope }
+        ensures law { IsSource (meaning self.now) };
+
+    /// What the scope is.
+    fn flags_of_scope(&self, scope: ScopeId) -> ScopeFlags
+        requires { scope < (meaning self.now).scopes }
+        ensures { result.bits ≡ (meaning self.now).scope_flags scope };
+
+    /// What the symbol is.
+    fn flags_of_symbol(&self, symbol: SymbolId) -> SymbolFlags
+        requires { symbol < (meaning self.now).symbols }
+        ensures { result.bits ≡ (meaning self.now).symbol_flags symbol };
+
+    /// The way in which the reference uses its name.
+    fn way(&self, reference: ReferenceId) -> ReferenceFlags
+        requires { reference < (meaning self.now).references }
+        ensures { result.bits ≡ (meaning self.now).way reference };
+}

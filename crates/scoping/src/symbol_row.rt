@@ -1,0 +1,193 @@
+//! A symbol with the number of its name.
+ghost use Rattle.std.specs.Prelude.{◌≡◌, ◌++◌, [], ◌∷◌, None, Some, unwrap_or, OnOk, OnErr};
+ghost use Rattle.std.specs.Borrow.{sem};
+ghost use Rattle.scoping.specs.Row.{own_entry_of_row};
+ghost use Rattle.scoping.specs.Redeclared.{elsewhere, united, row_without_declaration};
+ghost use Rattle.scoping.specs.RowLending.{LendsRowFlags};
+
+use semantic_syntax::{NodeId, Redeclaration, ScopeId, Span, SymbolFlags};
+use std::alloc::{AllocError, Global};
+use std::marker::Model;
+
+/// A symbol with the number of its name. It has a list of redeclarations once it is declared twice.
+#[derive(Drop)]
+pub struct SymbolRow {
+    name: usize,
+    span: Span,
+    flags: SymbolFlags,
+    scope: ScopeId,
+    node: NodeId,
+    redeclarations: Option<Vec<Redeclaration>>,
+}
+
+impl Model for SymbolRow {
+    ghost use Rattle.std.specs.Option.{option_map};
+    ghost use Rattle.scoping.specs.Row.{Row};
+
+    ghost Value = { Row };
+
+    ghost view = { λ a. record { name = a.name; span = a.span; flags = a.flags; scope = a.scope; node = a.node; redeclarations = option_map (λ v. v.items) a.redeclarations } };
+}
+
+/// Drops the declarations of the span.
+fn retain_elsewhere(list: &mut Vec<Redeclaration>, span: Span)
+    ensures { list.new.items ≡ elsewhere span list.old.items }
+{
+    list.retain(|entry| entry.span != span);
+}
+
+/// The flags of all of them.
+fn united_flags(list: &[Redeclaration]) -> SymbolFlags
+    ensures { result ≡ united list.now }
+{
+    let mut flags = SymbolFlags::empty();
+    for entry in list {
+        flags = flags.union(entry.flags);
+    }
+    flags
+}
+
+impl SymbolRow {
+    /// A symbol that is declared once.
+    pub fn new(
+        name: usize,
+        span: Span,
+        flags: SymbolFlags,
+        scope: ScopeId,
+        node: NodeId,
+    ) -> SymbolRow
+        ensures { result ≡ record { name = name; span = span; flags = flags; scope = scope; node = node; redeclarations = None } }
+    {
+        SymbolRow {
+            name,
+            span,
+            flags,
+            scope,
+            node,
+            redeclarations: None,
+        }
+    }
+
+    /// The number of its name.
+    pub fn name(&self) -> usize
+        ensures { result ≡ self.now.name }
+    {
+        self.name
+    }
+
+    pub fn span(&self) -> Span
+        ensures { result ≡ self.now.span }
+    {
+        self.span
+    }
+
+    pub fn flags(&self) -> SymbolFlags
+        ensures { result ≡ self.now.flags }
+    {
+        self.flags
+    }
+
+    /// The scope to which it belongs.
+    pub fn scope(&self) -> ScopeId
+        ensures { result ≡ self.now.scope }
+    {
+        self.scope
+    }
+
+    /// The node that declares it.
+    pub fn node(&self) -> NodeId
+        ensures { result ≡ self.now.node }
+    {
+        self.node
+    }
+
+    /// Its redeclarations; none where it has no list.
+    pub fn redeclarations(&self) -> &[Redeclaration]
+        ensures { result.now ≡ unwrap_or self.now.redeclarations [] }
+    {
+        match &self.redeclarations {
+            Some(list) => list.as_slice(),
+            None => &[],
+        }
+    }
+
+    pub fn set_name(&mut self, name: usize)
+        ensures { self.new ≡ record self.old { name = name } }
+    {
+        self.name = name;
+    }
+
+    pub fn set_span(&mut self, span: Span)
+        ensures { self.new ≡ record self.old { span = span } }
+    {
+        self.span = span;
+    }
+
+    pub fn set_flags(&mut self, flags: SymbolFlags)
+        ensures { self.new ≡ record self.old { flags = flags } }
+    {
+        self.flags = flags;
+    }
+
+    pub fn flags_mut(&mut self) -> &mut SymbolFlags
+        ensures* writes_back { sem 𝓛 (LendsRowFlags self.entry result) }
+        ensures value { result.now ≡ self.old.flags }
+    {
+        &mut self.flags
+    }
+
+    pub fn set_scope(&mut self, scope: ScopeId)
+        ensures { self.new ≡ record self.old { scope = scope } }
+    {
+        self.scope = scope;
+    }
+
+    /// Adds the declaration to the list, last. Where there is no list, the symbol's own entry goes first.
+    pub fn add_redeclaration(
+        &mut self,
+        alloc: Global,
+        added: Redeclaration,
+    ) -> Result<(), AllocError>
+        ensures ok { OnOk result (self.new ≡ record self.old { redeclarations = Some (unwrap_or self.old.redeclarations (own_entry_of_row self.old ∷ []) ++ added ∷ []) }) }
+        ensures err { OnErr result (self.new ≡ self.old) }
+    {
+        if let Some(list) = &mut self.redeclarations {
+            list.push(added)?;
+            return Ok(());
+        }
+        let mut list = Vec::with_capacity(alloc, 2)?;
+        list.push(Redeclaration {
+            span: self.span,
+            declaration: self.node,
+            flags: self.flags,
+        })?;
+        list.push(added)?;
+        self.redeclarations = Some(list);
+        Ok(())
+    }
+
+    /// Drops the redeclarations of the span. Where one or more stay, the first gives the span and the node, and
+    /// their united flags the flags; where exactly one stays the list goes. Without a list nothing happens.
+    pub fn remove_declaration(&mut self, span: Span)
+        ensures { self.new ≡ row_without_declaration self.old span }
+    {
+        if let Some(list) = &mut self.redeclarations {
+            retain_elsewhere(list, span);
+            if let Some(first) = list.first() {
+                self.span = first.span;
+                self.node = first.declaration;
+                self.flags = united_flags(list);
+            }
+            if list.len() == 1 {
+                self.redeclarations = None;
+            }
+        }
+    }
+
+    /// Forgets the list.
+    pub fn clear_redeclarations(&mut self)
+        ensures { self.new ≡ record self.old { redeclarations = None } }
+    {
+        self.redeclarations = None;
+    }
+}
