@@ -1,0 +1,5 @@
+pub mod Chain
+pub mod Asking
+pub mod SameTexts
+pub mod Kept
+pub mod NonePending

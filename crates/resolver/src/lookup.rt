@@ -1,0 +1,129 @@
+//! The look-up of one reference, scope by scope.
+ghost use Rattle.std.specs.Prelude.{◌≡◌, ◌<◌, ◌==◌, codes};
+ghost use Rattle.std.specs.List.{list_any};
+ghost use Rattle.std.specs.Str.{bytes_eq, chars};
+ghost use Rattle.semantic_syntax.specs.Counts.{raised};
+ghost use Rattle.scoping.specs.Source.{Source, IsSource, chain};
+ghost use Rattle.resolver.specs.Outward.{is_arguments, fits, tie, ends_at, ends_after};
+ghost use Rattle.resolver.specs.Settling.{answer_of, asked_of};
+
+use crate::outcomes::Outcome;
+use crate::pending::UnresolvedReference;
+use crate::rules::usable;
+use scoping::BindingSource;
+use semantic_syntax::{Ident, ReferenceFlags, ScopeFlags, ScopeId, Steps, SymbolFlags, SymbolId};
+
+fn is_named_arguments(name: Ident<'_>) -> bool
+    ensures { result ≡ bytes_eq (chars name.entry.text.now) (codes "arguments") }
+{
+    name.as_str() == "arguments"
+}
+
+// Whether the reference means the arguments of the function around it.
+fn means_arguments(name: Ident<'_>, way: ReferenceFlags) -> bool
+    ensures { result ≡ is_arguments (chars name.entry.text.now) way.bits }
+{
+    is_named_arguments(name) && (way.is_value() || way.is_value_as_type())
+}
+
+// Whether a symbol with the flags fits the reference. `arguments` is never the own name of a function expression.
+fn fits_symbol(name: Ident<'_>, way: ReferenceFlags, flags: SymbolFlags) -> bool
+    ensures { result ≡ fits (chars name.entry.text.now) way.bits flags.bits }
+{
+    usable(way, flags)
+        && !(means_arguments(name, way) && flags.intersects(SymbolFlags::FunctionExpression))
+}
+
+// The symbol that the scope ties the reference to, if any.
+fn tied_in<L, B: BindingSource<L>>(
+    scope: ScopeId,
+    name: Ident<'_>,
+    way: ReferenceFlags,
+    source: &B,
+    steps: &mut Steps<L>,
+) -> Option<SymbolId>
+    requires { scope < (B.meaning source.now).scopes }
+    ensures tie { result ≡ tie (B.meaning source.now) (chars name.entry.text.now) way.bits scope }
+    ensures step { steps.new ≡ raised steps.old 1 }
+    ensures law { IsSource (B.meaning source.now) }
+{
+    let symbol = source.probe(scope, name, steps)?;
+    if fits_symbol(name, way, source.flags_of_symbol(symbol)) {
+        Some(symbol)
+    } else {
+        None
+    }
+}
+
+// Whether the look-up ends as free after the scope: `arguments` isn't looked up past a function that is no arrow.
+fn is_barrier<L, B: BindingSource<L>>(
+    scope: ScopeId,
+    name: Ident<'_>,
+    way: ReferenceFlags,
+    source: &B,
+) -> bool
+    requires { scope < (B.meaning source.now).scopes }
+    ensures { result ≡ ends_after (B.meaning source.now) (chars name.entry.text.now) way.bits scope }
+{
+    let flags = source.flags_of_scope(scope);
+    means_arguments(name, way) && flags.is_function() && !flags.is_arrow()
+}
+
+// Whether the scope is the last one to be asked.
+fn is_last(scope: ScopeId, last: &Option<ScopeId>) -> bool
+    ensures { result ≡ ends_at last.now scope }
+{
+    match last {
+        Some(end) => scope == *end,
+        None => false,
+    }
+}
+
+// What the scopes from the look-up scope to the last one give: the symbol, or that it is free, or nothing. Without
+// a last one it is the first scope outward that has no parent.
+pub fn look_up<L, B: BindingSource<L>>(
+    pending: &UnresolvedReference<'_>,
+    last: Option<ScopeId>,
+    source: &B,
+    steps: &mut Steps<L>,
+) -> Option<Outcome>
+    requires scope { pending.now.lookup_scope_id < (B.meaning source.now).scopes }
+    requires reference { pending.now.reference_id < (B.meaning source.now).references }
+    ensures answer { result ≡ answer_of (B.meaning source.now) last pending.now }
+    ensures cost { steps.new ≡ raised steps.old (asked_of (B.meaning source.now) last pending.now) }
+{
+    let way = source.way(pending.reference_id);
+    let mut scope = pending.lookup_scope_id;
+    loop {
+        if let Some(symbol) = tied_in(scope, pending.name, way, source, steps) {
+            return Some(Outcome::Tied(symbol));
+        }
+        if is_barrier(scope, pending.name, way, source) {
+            return Some(Outcome::Free);
+        }
+        if is_last(scope, &last) {
+            return None;
+        }
+        match source.parent(scope) {
+            Some(parent) => scope = parent,
+            None => return None,
+        }
+    }
+}
+
+// Whether the scope `inner` is the scope or below it.
+pub fn is_within<L, B: BindingSource<L>>(inner: ScopeId, scope: ScopeId, source: &B) -> bool
+    requires { inner < (B.meaning source.now).scopes }
+    ensures { result ≡ list_any (λ s. s == scope) (chain (B.meaning source.now) inner) }
+{
+    let mut at = inner;
+    loop {
+        if at == scope {
+            return true;
+        }
+        match source.parent(at) {
+            Some(parent) => at = parent,
+            None => return false,
+        }
+    }
+}

@@ -1,0 +1,116 @@
+//! The look-up of the references that wait, at the end of a header and in the end.
+ghost use Rattle.std.specs.Prelude.{◌≡◌, ◌<◌, ◌≤◌, map, drop, IfOk, OnOk, OnErr, All, IsTrue};
+ghost use Rattle.std.specs.List.{sum_by};
+ghost use Rattle.semantic_syntax.specs.Counts.{raised};
+ghost use Rattle.scoping.specs.Source.{Source};
+ghost use Rattle.resolver.specs.Settling.{outside as pending_outside, header_outcome, header_asks, last_outcome, last_asks, is_settled};
+
+use crate::lookup::{is_within, look_up};
+use crate::outcomes::{Outcome, Outcomes};
+use crate::pending::{UnresolvedReference, UnresolvedReferences};
+use scoping::BindingSource;
+use semantic_syntax::{ScopeId, Steps};
+use std::alloc::{AllocError, Global};
+
+// What becomes of a reference that no scope up to this one answers: it waits in the parent.
+fn outside<L, B: BindingSource<L>>(scope: ScopeId, source: &B) -> Outcome
+    requires { scope < (B.meaning source.now).scopes }
+    ensures { result ≡ pending_outside (B.meaning source.now) scope }
+{
+    match source.parent(scope) {
+        Some(parent) => Outcome::Pending(parent),
+        None => Outcome::Free,
+    }
+}
+
+// What becomes of the reference at the end of the header whose scope this is.
+fn resolve_in_header<L, B: BindingSource<L>>(
+    entry: &UnresolvedReference<'_>,
+    scope: ScopeId,
+    source: &B,
+    steps: &mut Steps<L>,
+) -> Outcome
+    requires scope { scope < (B.meaning source.now).scopes }
+    requires lookup_scope { entry.now.lookup_scope_id < (B.meaning source.now).scopes }
+    requires reference { entry.now.reference_id < (B.meaning source.now).references }
+    ensures outcome { result ≡ header_outcome (B.meaning source.now) scope entry.now }
+    ensures cost { steps.new ≡ raised steps.old (header_asks (B.meaning source.now) scope entry.now) }
+{
+    if !is_within(entry.lookup_scope_id, scope, source) {
+        return Outcome::Pending(entry.lookup_scope_id);
+    }
+    match look_up(entry, Some(scope), source, steps) {
+        Some(outcome) => outcome,
+        None => outside(scope, source),
+    }
+}
+
+// What becomes of the reference in the end.
+fn resolve_last<L, B: BindingSource<L>>(
+    entry: &UnresolvedReference<'_>,
+    source: &B,
+    steps: &mut Steps<L>,
+) -> Outcome
+    requires lookup_scope { entry.now.lookup_scope_id < (B.meaning source.now).scopes }
+    requires reference { entry.now.reference_id < (B.meaning source.now).references }
+    ensures outcome { result ≡ last_outcome (B.meaning source.now) entry.now }
+    ensures cost { steps.new ≡ raised steps.old (last_asks (B.meaning source.now) entry.now) }
+{
+    match look_up(entry, None, source, steps) {
+        Some(outcome) => outcome,
+        None => Outcome::Free,
+    }
+}
+
+/// The outcomes, at the end of the header whose scope this is, of the references from the place `start` on. One
+/// that waits in the scope or below is looked up as far as the scope; if nothing is found it waits in the scope's
+/// parent. Another one waits on as it was.
+///
+/// A step is taken for each scope that is asked. After want of memory as many steps may have been taken.
+pub fn resolve_header<L, B: BindingSource<L>>(
+    alloc: Global,
+    pending: &UnresolvedReferences<'_>,
+    start: usize,
+    scope: ScopeId,
+    source: &B,
+    steps: &mut Steps<L>,
+) -> Result<Outcomes, AllocError>
+    requires scope { scope < (B.meaning source.now).scopes }
+    requires lookup_scopes { All (λ u. u.lookup_scope_id < (B.meaning source.now).scopes) (drop start pending.now) }
+    requires references { All (λ u. u.reference_id < (B.meaning source.now).references) (drop start pending.now) }
+    ensures outcomes { IfOk result (λ v. v ≡ map (header_outcome (B.meaning source.now) scope) (drop start pending.now)) }
+    ensures cost { OnOk result (steps.new ≡ raised steps.old (sum_by (header_asks (B.meaning source.now) scope) (drop start pending.now))) }
+    ensures given_up { OnErr result (steps.new ≤ raised steps.old (sum_by (header_asks (B.meaning source.now) scope) (drop start pending.now))) }
+{
+    let mut outcomes = Outcomes::new(alloc);
+    for entry in pending.entries_from(start) {
+        let outcome = resolve_in_header(entry, scope, source, steps);
+        outcomes.push(outcome)?;
+    }
+    Ok(outcomes)
+}
+
+/// The outcomes, in the end, of all references that wait: each is looked up as far as the first scope outward
+/// that has no parent, and is free if nothing is found. None is pending.
+///
+/// A step is taken for each scope that is asked. After want of memory as many steps may have been taken.
+pub fn resolve_all<L, B: BindingSource<L>>(
+    alloc: Global,
+    pending: &UnresolvedReferences<'_>,
+    source: &B,
+    steps: &mut Steps<L>,
+) -> Result<Outcomes, AllocError>
+    requires lookup_scopes { All (λ u. u.lookup_scope_id < (B.meaning source.now).scopes) pending.now }
+    requires references { All (λ u. u.reference_id < (B.meaning source.now).references) pending.now }
+    ensures outcomes { IfOk result (λ v. v ≡ map (last_outcome (B.meaning source.now)) pending.now) }
+    ensures settled { IfOk result (All (λ o. IsTrue (is_settled o))) }
+    ensures cost { OnOk result (steps.new ≡ raised steps.old (sum_by (last_asks (B.meaning source.now)) pending.now)) }
+    ensures given_up { OnErr result (steps.new ≤ raised steps.old (sum_by (last_asks (B.meaning source.now)) pending.now)) }
+{
+    let mut outcomes = Outcomes::new(alloc);
+    for entry in pending.entries_from(0) {
+        let outcome = resolve_last(entry, source, steps);
+        outcomes.push(outcome)?;
+    }
+    Ok(outcomes)
+}
