@@ -1,0 +1,10 @@
+use Rattle.std.proofs.Common.{◌≡◌}
+use Rattle.std.specs.List.{list_any}
+use Rattle.semantic_kinds.specs.Kinds.{same_kind}
+use Rattle.node_store.specs.HeldKinds.{has_kind}
+use Rattle.node_store.specs.Left.{nodes_left}
+use Rattle.node_store.proofs.nodes.AstNodes.contains.Given as goal
+
+-- the nodes that are left decide
+abbrev pub invariant-loop-node : goal.invariant-loop-node
+invariant-loop-node l = list_any (λ s. same_kind l.ty s.node.kind) (nodes_left l.node-iterator) ≡ has_kind l.self l.ty

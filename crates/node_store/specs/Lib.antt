@@ -1,0 +1,12 @@
+pub mod NodeList
+pub mod Outward
+pub mod Seen
+pub mod Lending
+pub mod Left
+pub mod KindSets
+pub mod Path
+pub mod PathIn
+pub mod PathOf
+pub mod Store
+pub mod PathLeft
+pub mod HeldKinds
