@@ -1,0 +1,4 @@
+pub mod Outcomes
+pub mod Growing
+pub mod Unwrapping
+pub mod Waiting

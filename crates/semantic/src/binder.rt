@@ -1,0 +1,211 @@
+//! What each node declares, and where.
+
+ghost use Rattle.std.specs.Prelude.{OnOk};
+ghost use Rattle.semantic.specs.Growth.{Goes};
+
+use crate::declaration::Row;
+use crate::instance_state::instance_state;
+use crate::route::Route;
+use crate::rows;
+use crate::walk::Walk;
+use semantic_syntax::ScopeFlags;
+use semantic_tree::{AstKind, AstType, Mark, Role};
+use std::alloc::AllocError;
+
+/// What declares names.
+pub trait Binder<'a> {
+    /// Declares what the node declares, by its binder row, in the scope where the walk stands. For want of memory
+    /// the walk is given up.
+    fn bind(&self, walk: &mut Walk<'a>) -> Result<(), AllocError>
+        ensures { OnOk result (Goes walk.old walk.new) };
+}
+
+impl<'a> Binder<'a> for AstKind<'a> {
+    fn bind(&self, walk: &mut Walk<'a>) -> Result<(), AllocError> {
+        let kind = *self;
+        match kind.ty() {
+            AstType::VariableDeclarator => walk.bind_variables(kind),
+            AstType::Class => walk.bind_all(kind, rows::class_row(kind)),
+            AstType::Function => walk.bind_function(kind),
+            AstType::FormalParameter | AstType::FormalParameterRest => walk.bind_parameter(kind),
+            AstType::BindingRestElement => walk.bind_rest(kind),
+            AstType::CatchParameter => walk.bind_caught(kind),
+            AstType::ImportSpecifier
+            | AstType::ImportDefaultSpecifier
+            | AstType::ImportNamespaceSpecifier => walk.bind_import(kind),
+            AstType::TSImportEqualsDeclaration => walk.bind_all(kind, rows::import_equals_row()),
+            AstType::TSTypeAliasDeclaration => walk.bind_all(kind, rows::type_alias_row(kind)),
+            AstType::TSInterfaceDeclaration => walk.bind_all(kind, rows::interface_row(kind)),
+            AstType::TSEnumDeclaration => walk.bind_all(kind, rows::enum_row(kind)),
+            AstType::TSEnumMember => walk.bind_member(kind),
+            AstType::TSNamespaceDeclaration => walk.bind_namespace(kind),
+            AstType::TSTypeParameter => walk.bind_type_parameter(kind),
+            AstType::TSMappedType => walk.bind_at(kind, Role::Key, rows::type_parameter_row()),
+            _ => Ok(()),
+        }
+    }
+}
+
+#[tactic(auto, using(crate::proofs::Waiting::going))]
+impl<'a> Walk<'a> {
+    /// Declares all that the node binds, in the current scope.
+    fn bind_all(&mut self, node: AstKind<'a>, row: Row) -> Result<(), AllocError>
+        ensures { OnOk result (Goes self.old self.new) }
+    {
+        self.declared
+            .declare_names(node, node, self.current_scope, row, false)
+    }
+
+    /// Declares the names under one role of the node, in the current scope.
+    fn bind_at(&mut self, node: AstKind<'a>, role: Role, row: Row) -> Result<(), AllocError>
+        ensures { OnOk result (Goes self.old self.new) }
+    {
+        self.declared
+            .declare_under(node, role, self.current_scope, row)
+    }
+
+    /// A declarator: a `var` goes out to the nearest function, the other kinds stay.
+    fn bind_variables(&mut self, declarator: AstKind<'a>) -> Result<(), AllocError>
+        ensures { OnOk result (Goes self.old self.new) }
+    {
+        let is_pure = rows::is_pure_declarator(declarator);
+        match self.parent() {
+            Some(declaration) if rows::is_var_declaration(declaration) => {
+                self.bind_var(declarator, rows::var_row(declaration), is_pure)
+            }
+            Some(declaration) => self.declared.declare_names(
+                declarator,
+                declarator,
+                self.current_scope,
+                rows::lexical_row(declaration),
+                is_pure,
+            ),
+            None => Ok(()),
+        }
+    }
+
+    /// The variables of a `var` declarator.
+    fn bind_var(
+        &mut self,
+        declarator: AstKind<'a>,
+        row: Row,
+        is_pure: bool,
+    ) -> Result<(), AllocError>
+        ensures { OnOk result (Goes self.old self.new) }
+    {
+        let route = Route::outward(
+            self.alloc,
+            self.declared.scoping(),
+            self.current_scope,
+            ScopeFlags::Var,
+        )?;
+        self.declared.hoist_names(declarator, &route, row, is_pure)
+    }
+
+    /// A function: a plain one in a block of sloppy JavaScript may move out of its block.
+    fn bind_function(&mut self, function: AstKind<'a>) -> Result<(), AllocError>
+        ensures { OnOk result (Goes self.old self.new) }
+    {
+        let row = rows::function_row(
+            function,
+            self.parent(),
+            self.source_type.is_typescript(),
+            self.is_strict(),
+        );
+        let is_pure = function.has_mark(Mark::Pure);
+        if self.is_block_function(function) {
+            self.declared
+                .declare_block_functions(function, self.current_scope, row, is_pure)
+        } else {
+            self.declared
+                .declare_names(function, function, self.current_scope, row, is_pure)
+        }
+    }
+
+    /// Whether a function is a plain one in a block of sloppy JavaScript (ECMAScript, Annex B.3.2).
+    fn is_block_function(&self, function: AstKind<'a>) -> bool {
+        let flags = self.declared.scoping().scope_flags(self.current_scope);
+        rows::is_statement(function)
+            && !rows::is_special(function)
+            && !self.source_type.is_typescript()
+            && !flags.is_strict_mode()
+            && !flags.is_var()
+    }
+
+    /// A parameter of a list.
+    fn bind_parameter(&mut self, parameter: AstKind<'a>) -> Result<(), AllocError>
+        ensures { OnOk result (Goes self.old self.new) }
+    {
+        match self.parent() {
+            Some(list) => self.bind_all(parameter, rows::parameter_row(list, self.is_strict())),
+            None => Ok(()),
+        }
+    }
+
+    /// A rest element directly in a list of parameters.
+    fn bind_rest(&mut self, rest: AstKind<'a>) -> Result<(), AllocError>
+        ensures { OnOk result (Goes self.old self.new) }
+    {
+        match self.parent() {
+            Some(list) if list.ty() == AstType::FormalParameters => {
+                self.bind_all(rest, rows::rest_row())
+            }
+            _ => Ok(()),
+        }
+    }
+
+    /// What a catch clause catches.
+    fn bind_caught(&mut self, parameter: AstKind<'a>) -> Result<(), AllocError>
+        ensures { OnOk result (Goes self.old self.new) }
+    {
+        self.declared
+            .declare_catch_names(parameter, self.current_scope)
+    }
+
+    /// An imported name.
+    fn bind_import(&mut self, specifier: AstKind<'a>) -> Result<(), AllocError>
+        ensures { OnOk result (Goes self.old self.new) }
+    {
+        let row = rows::import_row(specifier, self.parent());
+        self.bind_at(specifier, Role::Local, row)
+    }
+
+    /// A member of an enum.
+    fn bind_member(&mut self, member: AstKind<'a>) -> Result<(), AllocError>
+        ensures { OnOk result (Goes self.old self.new) }
+    {
+        self.declared.declare_member(member, self.current_scope)
+    }
+
+    /// A namespace: one that is nothing but types is no value.
+    fn bind_namespace(&mut self, namespace: AstKind<'a>) -> Result<(), AllocError>
+        ensures { OnOk result (Goes self.old self.new) }
+    {
+        let path = self.path.as_slice();
+        let state = instance_state(self.alloc, namespace, path, self.node_count)?;
+        self.bind_all(namespace, rows::namespace_row(namespace, state))
+    }
+
+    /// A type parameter. What `infer` declares goes out to the conditional type.
+    fn bind_type_parameter(&mut self, parameter: AstKind<'a>) -> Result<(), AllocError>
+        ensures { OnOk result (Goes self.old self.new) }
+    {
+        match self.parent() {
+            Some(parent) if parent.ty() == AstType::TSInferType => {
+                let route = Route::outward(
+                    self.alloc,
+                    self.declared.scoping(),
+                    self.current_scope,
+                    ScopeFlags::TsConditional,
+                )?;
+                self.declared.declare_under(
+                    parameter,
+                    Role::Name,
+                    route.target,
+                    rows::type_parameter_row(),
+                )
+            }
+            _ => self.bind_at(parameter, Role::Name, rows::type_parameter_row()),
+        }
+    }
+}

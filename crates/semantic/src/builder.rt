@@ -1,0 +1,43 @@
+//! The builder, which analyses a program.
+
+use crate::semantic::{Semantic, SemanticBuilderReturn};
+use crate::walk::Walk;
+use semantic_syntax::Steps;
+use semantic_tree::{Program, Role};
+use std::alloc::{AllocError, Global};
+
+/// The settings of an analysis. There are none yet: early errors, the node store and the table of classes are not
+/// there.
+#[derive(Clone, Copy, PartialEq, Eq, Debug, Default)]
+pub struct SemanticBuilder {}
+
+impl SemanticBuilder {
+    /// All settings off.
+    pub fn new() -> SemanticBuilder {
+        SemanticBuilder {}
+    }
+
+    /// Analyses a program. The only error is want of memory.
+    pub fn build<'a>(
+        self,
+        alloc: Global,
+        program: &'a Program,
+    ) -> Result<SemanticBuilderReturn<'a>, AllocError> {
+        let mut steps = Steps::new(());
+        self.build_counted(alloc, program, &mut steps)
+    }
+
+    /// Analyses a program, and counts how often a scope is asked for a name by a look-up. The only error is want of
+    /// memory.
+    pub fn build_counted<'a, L>(
+        self,
+        alloc: Global,
+        program: &'a Program,
+        steps: &mut Steps<L>,
+    ) -> Result<SemanticBuilderReturn<'a>, AllocError> {
+        let mut walk = Walk::new(alloc, program)?;
+        walk.visit(program.root(), Role::Root, steps)?;
+        walk.end(steps)?;
+        Ok(walk.into_return(program))
+    }
+}

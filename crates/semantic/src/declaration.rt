@@ -1,0 +1,63 @@
+//! One name that a node declares.
+
+use semantic_syntax::{NodeId, Span, SymbolFlags};
+use semantic_tree::AstKind;
+
+/// What a binder row gives to each of its names.
+#[derive(Clone, Copy, PartialEq, Eq, Debug)]
+pub struct Row {
+    /// What the symbol is.
+    pub flags: SymbolFlags,
+    /// What an earlier symbol of the name may not be.
+    pub excluded: SymbolFlags,
+}
+
+/// A name that a node declares.
+#[derive(Clone, Copy)]
+pub struct Declaration<'a> {
+    /// The declaring node.
+    pub node: NodeId,
+    /// The node of the name.
+    pub identifier: NodeId,
+    pub name: &'a str,
+    pub span: Span,
+    pub row: Row,
+    /// Whether a function without side effects is declared.
+    pub is_pure: bool,
+}
+
+impl<'a> Declaration<'a> {
+    /// The declaration of a binding identifier by a node.
+    pub fn new(
+        node: AstKind<'_>,
+        identifier: AstKind<'a>,
+        row: Row,
+        is_pure: bool,
+    ) -> Declaration<'a> {
+        Declaration {
+            node: node.node_id(),
+            identifier: identifier.node_id(),
+            name: identifier.text().as_str(),
+            span: identifier.span(),
+            row,
+            is_pure,
+        }
+    }
+
+    /// The declaration of an enum member, whose name is the text of a node in its id.
+    pub fn of_member(
+        member: AstKind<'_>,
+        id: AstKind<'_>,
+        named: AstKind<'a>,
+        row: Row,
+    ) -> Declaration<'a> {
+        Declaration {
+            node: member.node_id(),
+            identifier: member.node_id(),
+            name: named.text().as_str(),
+            span: id.span(),
+            row,
+            is_pure: false,
+        }
+    }
+}

@@ -1,0 +1,32 @@
+//! The semantic analysis of a program: scopes, symbols, bindings and references.
+#![tactic(auto)]
+
+pub mod ambient;
+pub mod binder;
+pub mod builder;
+pub mod coverage;
+pub mod cursor;
+pub mod declaration;
+pub mod declared;
+pub mod hoist;
+pub mod inside;
+pub mod instance_state;
+pub mod names;
+pub mod namesakes;
+pub mod questions;
+pub mod remembered;
+pub mod route;
+pub mod rows;
+pub mod scope_kind;
+pub mod scopes;
+pub mod semantic;
+pub mod settle;
+pub mod visit;
+pub mod walk;
+
+pub use binder::Binder;
+pub use builder::SemanticBuilder;
+pub use coverage::covered;
+pub use instance_state::{ModuleInstanceState, module_instance_state};
+pub use semantic::{Semantic, SemanticBuilderReturn};
+pub use walk::Walk;

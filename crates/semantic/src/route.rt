@@ -1,0 +1,59 @@
+//! A way outward through scopes.
+
+ghost use Rattle.std.specs.Prelude.{◌<◌, length, IfOk, IfSome};
+ghost use Rattle.semantic.specs.Growth.{IsRoute};
+
+use scoping::Scoping;
+use semantic_syntax::{ScopeFlags, ScopeId};
+use std::alloc::{AllocError, Global};
+
+/// The scopes that are passed, from inner to outer, and the one where the way ends.
+#[derive(Drop)]
+pub struct Route {
+    pub passed: Vec<ScopeId>,
+    pub target: ScopeId,
+}
+
+/// The scope around the scope.
+fn parent(scoping: &Scoping, scope: ScopeId) -> Option<ScopeId>
+    requires { scope < length scoping.now.scopes }
+    ensures { IfSome result (λ s. s < length scoping.now.scopes) }
+{
+    scoping.attest();
+    scoping.scope_parent_id(scope)
+}
+
+#[tactic(auto, using(crate::proofs::Growing::growing))]
+impl Route {
+    /// Outward to the first scope, the one where it begins included, with one of the flags. Where there is none,
+    /// the way ends where it begins.
+    pub fn outward(
+        alloc: Global,
+        scoping: &Scoping,
+        from: ScopeId,
+        flags: ScopeFlags,
+    ) -> Result<Route, AllocError>
+        requires { from < length scoping.now.scopes }
+        ensures { IfOk result (λ route. IsRoute (length scoping.now.scopes) route) }
+    {
+        let mut passed = Vec::new(alloc);
+        let mut scope = from;
+        for _ in 0..scoping.scopes_len() {
+            if scoping.scope_flags(scope).intersects(flags) {
+                return Ok(Route {
+                    passed,
+                    target: scope,
+                });
+            }
+            passed.push(scope)?;
+            match parent(scoping, scope) {
+                Some(around) => scope = around,
+                None => break,
+            }
+        }
+        Ok(Route {
+            passed: Vec::new(alloc),
+            target: from,
+        })
+    }
+}
