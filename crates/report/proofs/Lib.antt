@@ -1,0 +1,7 @@
+pub mod NamesLeft
+pub mod Items
+pub mod Quoting
+pub mod Utf8
+pub mod NamesOnce
+pub mod Meanings
+pub mod NamesFound

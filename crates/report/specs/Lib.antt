@@ -1,0 +1,12 @@
+pub mod Pieces
+pub mod TableLines
+pub mod FreeNames
+pub mod DiagnosticLine
+pub mod Report
+pub mod Requests
+pub mod Codes
+pub mod Calls
+pub mod Telling
+pub mod Reads
+pub mod Found
+pub mod Meaning

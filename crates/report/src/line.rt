@@ -1,0 +1,149 @@
+// A line of a report that is being made.
+ghost use Rattle.std.specs.Prelude.{ℕ, ◌≡◌, ◌++◌, [], OnOk, decimal, true};
+ghost use Rattle.std.specs.List.{list_all};
+ghost use Rattle.report_ends.specs.Streams.{Writes};
+ghost use Rattle.report.specs.Pieces.{quoted, is_plain, number_or_dash, behind_space, span_text};
+
+use itoa::Buffer;
+use report_ends::{ReportError, Sink, write_whole};
+use semantic_syntax::Span;
+use serde_json::Value;
+use std::alloc::{AllocError, Global};
+use std::marker::Model;
+
+/// A line that is being made. Contracts see its bytes. One line is made after the other in it, so that its room is used
+/// again. After want of memory it has a prefix of what was to be added.
+#[derive(Drop)]
+pub struct Line {
+    alloc: Global,
+    text: String,
+}
+
+impl Model for Line {
+    ghost use Rattle.std.specs.Prelude.{List, ℕ, string_bytes};
+
+    ghost Value = { List ℕ };
+
+    ghost view = { λ line. string_bytes line.text };
+}
+
+// Whether a text stands in a JSON string as it is.
+fn is_plain(text: &str) -> bool
+    ensures { result ≡ list_all is_plain text.now }
+{
+    text.as_bytes()
+        .iter()
+        .all(|byte| 32 <= *byte && *byte != b'"' && *byte != b'\\')
+}
+
+impl Line {
+    /// An empty line.
+    pub fn new(alloc: Global) -> Line
+        ensures { result ≡ [] }
+    {
+        Line {
+            alloc,
+            text: String::new(alloc),
+        }
+    }
+
+    /// Begins the next line.
+    pub fn begin(&mut self)
+        ensures { self.new ≡ [] }
+    {
+        self.text.clear();
+    }
+
+    /// Adds a text as it is.
+    pub fn push(&mut self, text: &str) -> Result<(), AllocError>
+        ensures { OnOk result (self.new ≡ self.old ++ text.now) }
+    {
+        self.text.push_str(text)
+    }
+
+    /// Adds a number.
+    pub fn push_number(&mut self, number: usize) -> Result<(), AllocError>
+        ensures { OnOk result (self.new ≡ self.old ++ decimal number) }
+    {
+        let mut buffer = Buffer::new();
+        self.text.push_str(buffer.format(number))
+    }
+
+    /// Adds a label and a number.
+    pub fn push_labelled(&mut self, label: &str, number: usize) -> Result<(), AllocError>
+        ensures { OnOk result (self.new ≡ self.old ++ (label.now ++ decimal number)) }
+    {
+        self.push(label)?;
+        self.push_number(number)
+    }
+
+    /// Adds a label and a number, or a dash for none.
+    pub fn push_number_or_dash(
+        &mut self,
+        label: &str,
+        number: Option<usize>,
+    ) -> Result<(), AllocError>
+        ensures { OnOk result (self.new ≡ self.old ++ (label.now ++ number_or_dash number)) }
+    {
+        self.push(label)?;
+        match number {
+            None => self.push("-"),
+            Some(number) => self.push_number(number),
+        }
+    }
+
+    /// Adds a space and a number.
+    pub fn push_behind_space(&mut self, number: usize) -> Result<(), AllocError>
+        ensures { OnOk result (self.new ≡ self.old ++ behind_space number) }
+    {
+        self.push_labelled(" ", number)
+    }
+
+    /// Adds both ends of a span behind a label.
+    pub fn push_span(&mut self, label: &str, span: Span) -> Result<(), AllocError>
+        ensures { OnOk result (self.new ≡ self.old ++ (label.now ++ span_text span)) }
+    {
+        self.push_labelled(label, span.start as usize)?;
+        self.push_labelled("-", span.end as usize)
+    }
+
+    /// Adds a label, and a text as a compact JSON string.
+    pub fn push_quoted(&mut self, label: &str, text: &str) -> Result<(), AllocError>
+        ensures { OnOk result (self.new ≡ self.old ++ (label.now ++ quoted text.now)) }
+    {
+        self.push(label)?;
+        if is_plain(text) {
+            self.push_plain(text)
+        } else {
+            self.push_escaped(text)
+        }
+    }
+
+    // Adds a text without anything to escape as a JSON string.
+    #[tactic(auto, using(crate::proofs::Quoting::quoted_plain))]
+    fn push_plain(&mut self, text: &str) -> Result<(), AllocError>
+        requires { list_all is_plain text.now ≡ true }
+        ensures { OnOk result (self.new ≡ self.old ++ quoted text.now) }
+    {
+        self.push("\"")?;
+        self.push(text)?;
+        self.push("\"")?;
+        Ok(())
+    }
+
+    // Adds a text as a compact JSON string.
+    #[tactic(auto, unfolding(crate::specs::Pieces::quoted))]
+    fn push_escaped(&mut self, text: &str) -> Result<(), AllocError>
+        ensures { OnOk result (self.new ≡ self.old ++ quoted text.now) }
+    {
+        let value = Value::String(String::from_str(self.alloc, text)?);
+        self.push(&value.to_string(self.alloc)?)
+    }
+
+    /// Offers the line to a sink.
+    pub fn offer<K: Sink>(&self, out: &mut K) -> Result<(), ReportError>
+        ensures { Writes K.held K.faults out.old out.new self.now result }
+    {
+        write_whole(self.text.as_bytes(), out)
+    }
+}

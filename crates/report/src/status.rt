@@ -1,0 +1,33 @@
+// How the program ends.
+ghost use Rattle.std.specs.Prelude.{◌≡◌};
+ghost use Rattle.report.specs.Codes.{code_of};
+
+/// How the program ends.
+#[derive(Clone, Copy, Debug, PartialEq, Eq)]
+pub enum ReportStatus {
+    /// The report is written, and there are no diagnostics.
+    Clean,
+    /// The report is written, and there are diagnostics.
+    Diagnosed,
+    /// A word isn't known, or a number is missing or not well written.
+    Usage,
+    /// The input is no program.
+    Tree,
+    /// The input is too long.
+    TooLong,
+    /// A call on the source failed.
+    Read,
+    /// A call on the sink failed.
+    Write,
+    /// Memory is wanting.
+    Memory,
+}
+
+impl ReportStatus {
+    /// The exit status, from 0 to 7.
+    pub fn code(self) -> u8
+        ensures { result ≡ code_of self }
+    {
+        self as u8
+    }
+}

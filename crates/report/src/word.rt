@@ -1,0 +1,65 @@
+// The words of the command line.
+ghost use Rattle.std.specs.Prelude.{◌≡◌};
+ghost use Rattle.report.specs.Requests.{word_text, is_on, takes_number, word_of};
+
+/// A word of the command line.
+#[derive(Clone, Copy, Debug, PartialEq, Eq)]
+pub enum Word {
+    Check,
+    Nodes,
+    Classes,
+    Stats,
+    Make,
+}
+
+const ALL: [Word; 5] = [
+    Word::Check,
+    Word::Nodes,
+    Word::Classes,
+    Word::Stats,
+    Word::Make,
+];
+
+impl Word {
+    /// How it is written.
+    pub fn text(self) -> &'static str
+        ensures { result.now ≡ word_text self }
+    {
+        match self {
+            Word::Check => "--check",
+            Word::Nodes => "--nodes",
+            Word::Classes => "--classes",
+            Word::Stats => "--stats",
+            Word::Make => "--make",
+        }
+    }
+
+    /// Whether it is taken yet. A word that isn't is refused like an unknown one.
+    pub fn is_on(self) -> bool
+        ensures { result ≡ is_on self }
+    {
+        match self {
+            Word::Check => false,
+            Word::Nodes => false,
+            Word::Classes => false,
+            Word::Stats => false,
+            Word::Make => false,
+        }
+    }
+
+    /// Whether a number follows it.
+    pub fn takes_number(self) -> bool
+        ensures { result ≡ takes_number self }
+    {
+        matches!(self, Word::Make)
+    }
+
+    /// The word that is so written, if there is one and it is taken yet.
+    pub fn of(text: &str) -> Option<Word>
+        ensures { result ≡ word_of text.now }
+    {
+        ALL.iter()
+            .copied()
+            .find(|word| word.is_on() && word.text() == text)
+    }
+}

@@ -1,0 +1,102 @@
+-- A text that is written in several calls.
+use Rattle.std.proofs.Common.{◌≡◌, ℕ, ◌+◌, ◌<◌, ◌≤◌, List, [], ◌++◌, length, get_or, drop, Option, Result, Ok, Err, subst, sym, refl, ap, ◌∙◌, arith, drop-cons, add-one, append-nil, flat_map}
+use Rattle.std.specs.Result.{IsErrAnd}
+use Rattle.report_ends.specs.Causes.{Rose}
+use Rattle.report_ends.specs.declared.error.ReportError.{ReportError}
+use Rattle.report_ends.specs.declared.error.ReportError.TheVariants.{Read, Write, TooLong, Memory, Tree}
+use Rattle.report_ends.specs.Streams.{WriteCause, Writes, PartWritten, numbered_text}
+use Rattle.report_ends.proofs.Growth.{wrote_nothing, wrote_then, wrote_prefix, wrote_whole}
+
+later_cause : (before mid now : ℕ) (error : ReportError) → before ≤ mid → WriteCause (Rose mid now) error → WriteCause (Rose before now) error
+later_cause before mid now Read le cause = cause
+later_cause before mid now Write le cause = omega arith
+later_cause before mid now TooLong le cause = cause
+later_cause before mid now Memory le cause = cause
+later_cause before mid now (Tree e) le cause = cause
+
+module _ {K : Type 0} (held : K → Option (List ℕ)) (faults : K → ℕ) where
+  -- nothing yet
+  pub writing_begins : (a : K) (text : List ℕ) → PartWritten held faults a a text text
+  writing_begins a text = record { written = wrote_nothing (held a) text; later = omega arith }
+
+  -- a call wrote the next line
+  pub writing_goes_on : (a b c : K) (line rest old_rest text : List ℕ) (u : Unit) → PartWritten held faults a b old_rest text → Writes held faults b c line (Ok u) → line ++ rest ≡ old_rest → PartWritten held faults a c rest text
+  writing_goes_on a b c line rest old_rest text u before call split = record {
+    written = wrote_then (held a) (held b) (held c) line rest old_rest text before.written call.whole split;
+    later = omega (arith, before.later, call.later);
+  }
+
+  -- a call failed at the next line
+  pub writing_fails : (a b c : K) (line rest old_rest text : List ℕ) (error : ReportError) (result : Result Unit ReportError) → PartWritten held faults a b old_rest text → Writes held faults b c line (Err error) → line ++ rest ≡ old_rest
+      → IsErrAnd result (λ told. told ≡ error) → Writes held faults a c text result
+  writing_fails a b c line rest old_rest text error (Err told) before call split same = record {
+    whole = tt;
+    part = wrote_prefix (held a) (held b) (held c) line rest old_rest text before.written call.part split;
+    cause = subst (WriteCause (Rose (faults a) (faults c))) (sym same) (later_cause (faults a) (faults b) (faults c) error before.later call.cause);
+    later = omega (arith, before.later, call.later);
+  }
+  writing_fails a b c line rest old_rest text error (Ok u) before call split same = absurd same
+
+  -- memory was wanting between two lines
+  pub writing_lacks_memory : (a b : K) (rest text : List ℕ) (result : Result Unit ReportError) → PartWritten held faults a b rest text → IsErrAnd result (λ told. told ≡ Memory) → Writes held faults a b text result
+  writing_lacks_memory a b rest text (Err told) before same = record {
+    whole = tt;
+    part = (rest, before.written);
+    cause = subst (WriteCause (Rose (faults a) (faults b))) (sym same) tt;
+    later = before.later;
+  }
+  writing_lacks_memory a b rest text (Ok u) before same = absurd same
+
+  -- the rest is empty
+  pub writing_ends : (a b : K) (text : List ℕ) (u : Unit) → PartWritten held faults a b [] text → Writes held faults a b text (Ok u)
+  writing_ends a b text u before = record { whole = wrote_whole (held a) (held b) text before.written; part = tt; cause = tt; later = before.later }
+
+  -- the last of several texts
+  pub writes_last : (a b c : K) (line text : List ℕ) (result : Result Unit ReportError) → PartWritten held faults a b line text → Writes held faults b c line result → Writes held faults a c text result
+  writes_last a b c line text (Ok u) before call = writing_ends a c text u (writing_goes_on a b c line [] line text u before call (append-nil line))
+  writes_last a b c line text (Err error) before call = writing_fails a b c line [] line text error (Err error) before call (append-nil line) refl
+
+  -- memory was wanting before the first line
+  pub lacks_memory_at_once : (a : K) (text : List ℕ) (result : Result Unit ReportError) → IsErrAnd result (λ told. told ≡ Memory) → Writes held faults a a text result
+  lacks_memory_at_once a text result same = writing_lacks_memory a a text text result (writing_begins a text) same
+
+  -- two texts, one after the other
+  pub writes_then : (a b c : K) (first second text : List ℕ) (u : Unit) (result : Result Unit ReportError) → Writes held faults a b first (Ok u) → Writes held faults b c second result → first ++ second ≡ text → Writes held faults a c text result
+  writes_then a b c first second text u result before call split =
+      writes_last a b c second text result (writing_goes_on a a b first second text text u (writing_begins a text) before split) call
+
+  -- the first of two texts failed
+  pub writes_not_then : (a b : K) (first second text : List ℕ) (error : ReportError) (result : Result Unit ReportError) → Writes held faults a b first (Err error) → IsErrAnd result (λ told. told ≡ error) → first ++ second ≡ text → Writes held faults a b text result
+  writes_not_then a b first second text error result call same split =
+      writing_fails a a b first second text text error result (writing_begins a text) call split same
+
+-- the text from the item at i on
+pub numbered_text-drop : {X : Type 0} (line : ℕ → X → List ℕ) (i : ℕ) (xs : List X) (x : X) → i < length xs → x ≡ get_or xs i x → line i x ++ numbered_text line (i + 1) (drop (i + 1) xs) ≡ numbered_text line i (drop i xs)
+numbered_text-drop line i xs x inside is =
+    ap (λ y. line i y ++ numbered_text line (i + 1) (drop (i + 1) xs)) is ∙ sym (ap (numbered_text line i) (drop-cons xs i x inside) ∙ rw (add-one) refl)
+
+pub flat_map-drop : {X : Type 0} (line : X → List ℕ) (i : ℕ) (xs : List X) (x : X) → i < length xs → x ≡ get_or xs i x → line x ++ flat_map line (drop (i + 1) xs) ≡ flat_map line (drop i xs)
+flat_map-drop line i xs x inside is =
+    ap (λ y. line y ++ flat_map line (drop (i + 1) xs)) is ∙ sym (ap (flat_map line) (drop-cons xs i x inside) ∙ rw (add-one) refl)
+
+module _ {K X : Type 0} (held : K → Option (List ℕ)) (faults : K → ℕ) where
+  -- the lines of one item more of a loop
+  pub numbered_goes_on : (line : ℕ → X → List ℕ) (i : ℕ) (xs : List X) (x : X) (a b c : K) (text : List ℕ) (u : Unit) → PartWritten held faults a b (numbered_text line i (drop i xs)) text → i < length xs → x ≡ get_or xs i x
+      → Writes held faults b c (line i x) (Ok u) → PartWritten held faults a c (numbered_text line (i + 1) (drop (i + 1) xs)) text
+  numbered_goes_on line i xs x a b c text u before inside is call =
+      writing_goes_on held faults a b c (line i x) (numbered_text line (i + 1) (drop (i + 1) xs)) (numbered_text line i (drop i xs)) text u before call (numbered_text-drop line i xs x inside is)
+
+  pub numbered_fails : (line : ℕ → X → List ℕ) (i : ℕ) (xs : List X) (x : X) (a b c : K) (text : List ℕ) (error : ReportError) (result : Result Unit ReportError) → PartWritten held faults a b (numbered_text line i (drop i xs)) text
+      → i < length xs → x ≡ get_or xs i x → Writes held faults b c (line i x) (Err error) → IsErrAnd result (λ told. told ≡ error) → Writes held faults a c text result
+  numbered_fails line i xs x a b c text error result before inside is call same =
+      writing_fails held faults a b c (line i x) (numbered_text line (i + 1) (drop (i + 1) xs)) (numbered_text line i (drop i xs)) text error result before call (numbered_text-drop line i xs x inside is) same
+
+  pub flat_map_goes_on : (line : X → List ℕ) (i : ℕ) (xs : List X) (x : X) (a b c : K) (text : List ℕ) (u : Unit) → PartWritten held faults a b (flat_map line (drop i xs)) text → i < length xs → x ≡ get_or xs i x
+      → Writes held faults b c (line x) (Ok u) → PartWritten held faults a c (flat_map line (drop (i + 1) xs)) text
+  flat_map_goes_on line i xs x a b c text u before inside is call =
+      writing_goes_on held faults a b c (line x) (flat_map line (drop (i + 1) xs)) (flat_map line (drop i xs)) text u before call (flat_map-drop line i xs x inside is)
+
+  pub flat_map_fails : (line : X → List ℕ) (i : ℕ) (xs : List X) (x : X) (a b c : K) (text : List ℕ) (error : ReportError) (result : Result Unit ReportError) → PartWritten held faults a b (flat_map line (drop i xs)) text
+      → i < length xs → x ≡ get_or xs i x → Writes held faults b c (line x) (Err error) → IsErrAnd result (λ told. told ≡ error) → Writes held faults a c text result
+  flat_map_fails line i xs x a b c text error result before inside is call same =
+      writing_fails held faults a b c (line x) (flat_map line (drop (i + 1) xs)) (flat_map line (drop i xs)) text error result before call (flat_map-drop line i xs x inside is) same

@@ -1,0 +1,13 @@
+use Rattle.std.proofs.Common.{length, drop, ◌-◌, ◌≤◌}
+use Rattle.report_ends.specs.Streams.{HasWritten}
+use Rattle.report_ends.proofs.streams.write_whole.Given as goal
+
+abbrev pub invariant-loop-taken : goal.invariant-loop-taken
+invariant-loop-taken g l = let held = g.K.Sink.held in let faults = g.K.Sink.faults in record {
+  fits : l.taken ≤ length l.piece;
+  written : HasWritten (held l.fn.out) (held l.out) (drop l.taken l.piece) l.piece;
+  faults : faults l.fn.out ≤ faults l.out;
+}
+
+abbrev pub decreases-loop-taken : goal.decreases-loop-taken
+decreases-loop-taken g l = length l.piece - l.taken
