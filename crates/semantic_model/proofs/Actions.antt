@@ -31,7 +31,7 @@ all_passed (c ∷ cs) ns = (contains_first c.number (map (λ s. s.number) cs ++ 
 pub passed_on_path : (d : Declaration) → AllIn (path d) d.passed
 passed_on_path d = all_passed d.passed (d.target.number ∷ body_list d.target.body)
 
-unless_some : (st : State) (o : Option ℕ) (s : ℕ) → unless_expression st o ≡ Some s → o ≡ Some s
+pub unless_some : (st : State) (o : Option ℕ) (s : ℕ) → unless_expression st o ≡ Some s → o ≡ Some s
 unless_some st None s h = h
 unless_some st (Some r) s h = grind arith
 

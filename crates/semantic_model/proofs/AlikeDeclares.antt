@@ -84,7 +84,7 @@ module _ (f : Name → Name) (keeps : Keeps f) where
       (rows_changed f keeps p.node p.node.text g (class_row p p.chain) false (ids p.node) (ids node) (names_changed f role.Id p.node node w.node.children)) refl
 
   -- the same place with its own text, where that is no name
-  own_text : (p : Place) (u : Name) (g : Forest) (path : List Node) (P : Name → Type 0) → Facts f p u g path → u ≡ p.node.text → (Facts f p p.node.text g path → P p.node.text) → P u
+  pub own_text : (p : Place) (u : Name) (g : Forest) (path : List Node) (P : Name → Type 0) → Facts f p u g path → u ≡ p.node.text → (Facts f p p.node.text g path → P p.node.text) → P u
   own_text p u g path P w e h = subst P (sym e) (h (subst (λ t. Facts f p t g path) e w))
 
   pub declared_same : (k : AstType) (p : Place) (u : Name) (g : Forest) (path : List Node) → p.node.kind ≡ k → Facts f p u g path → declared_by k (re p u g path) ≡ ren f keeps (declared_by k p)

@@ -47,4 +47,14 @@ pub mod AlikeNames
 pub mod AlikeNamespace
 pub mod AlikeBinder
 pub mod AlikeDeclares
+pub mod AlikeEvents
+pub mod AlikeFold
+pub mod AlikeTies
+pub mod AlikeStates
+pub mod AlikeNodes
+pub mod Nearest
+pub mod Leads
+pub mod Owners
+pub mod Kept
+pub mod Owned
 pub mod Fresh

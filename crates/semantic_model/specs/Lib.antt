@@ -20,6 +20,7 @@ pub mod Tie
 pub mod FreeNames
 pub mod TablesOf
 pub mod NodeTable
+pub mod NamespaceStates
 pub mod Outward
 pub mod Entries
 pub mod Fits

@@ -1,9 +1,10 @@
 -- What holds of tables right after an analysis.
-use Rattle.std.specs.Prelude.{◌≡◌, ◌<◌, ℕ, ◌+◌, List, [], ◌∷◌, Option, Some, None, cond, length, map, slice_get}
+use Rattle.std.specs.Prelude.{◌≡◌, ◌<◌, ◌≤◌, ℕ, ◌+◌, List, [], ◌∷◌, Option, Some, None, cond, length, map, slice_get}
 use Rattle.semantic_syntax.specs.declared.references.Reference.{Reference}
 use Rattle.semantic_syntax.specs.declared.references.Redeclaration.{Redeclaration}
-use Rattle.semantic_syntax.specs.Tables.{Tables, Symbol}
-use Rattle.semantic_model.specs.Entries.{times, times_in_all, or_empty}
+use Rattle.semantic_syntax.specs.Tables.{Name, Tables, Symbol}
+use Rattle.semantic_model.specs.Entries.{times, times_in_all, or_empty, Among}
+use Rattle.semantic_model.specs.Outward.{list_at}
 use Rattle.semantic_model.specs.TablesOf.{is_symbol}
 
 -- a reference is in the uses of a symbol exactly if that is its symbol, and there once
@@ -13,6 +14,18 @@ UsesAreTies t = (n s : ℕ) (e : Reference) → slice_get t.references n ≡ Som
 -- each reference stands in exactly one use list or exactly one free list, once
 abbrev pub StandsInOneList : Tables → Type 0
 StandsInOneList t = (n : ℕ) → n < length t.references → times_in_all n t.uses + times_in_all n (map (λ f. f.1) t.free) ≡ 1
+
+-- an entry of scope c is its symbol's: the symbol has the name and the scope
+pub record IsOwned (t : Tables) (c : ℕ) (b : Name × ℕ) : Type 0 where
+  pub symbol : Symbol
+  pub is_there : slice_get t.symbols b.1 ≡ Some symbol
+  pub named : symbol.name ≡ b.0
+  pub stands : symbol.scope ≡ c
+
+-- a name that a scope binds is its symbol's name, and the scope is that symbol's; no symbol is bound twice
+pub record BindingsAreSymbols (t : Tables) : Type 0 where
+  pub owned : (c : ℕ) (b : Name × ℕ) → Among b (list_at t.bindings c) → IsOwned t c b
+  pub once : (s : ℕ) → times_in_all s (map (map (λ b. b.1)) t.bindings) ≤ 1
 
 -- a list of declarations of a symbol: two or more, of which the first is the symbol's own
 abbrev pub BeginsWithOwn : Symbol → List Redeclaration → Type 0

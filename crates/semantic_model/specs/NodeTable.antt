@@ -42,7 +42,7 @@ abbrev pub number_of : List Belongs → ℕ → Option ℕ
 number_of [] node = None
 number_of (b ∷ bs) node = cond (b.node == node) (Some b.number) (number_of bs node)
 
-abbrev numbered_from : ℕ → List ℕ → List Belongs
+abbrev pub numbered_from : ℕ → List ℕ → List Belongs
 numbered_from i [] = []
 numbered_from i (node ∷ more) = record { node = node; number = i } ∷ numbered_from (suc i) more
 

@@ -66,11 +66,11 @@ renamed_event f (declares d) = declares (renamed_declaration f d)
 renamed_event f (takes_over c b) = takes_over c b
 renamed_event f (ends_header c) = ends_header c
 
-abbrev renamed_symbol : (Name → Name) → Symbol → Symbol
+abbrev pub renamed_symbol : (Name → Name) → Symbol → Symbol
 renamed_symbol f y = record y { name = f y.name }
 
 -- a pair whose first is a name
-abbrev renamed_key : {A : Type 0} → (Name → Name) → Name × A → Name × A
+abbrev pub renamed_key : {A : Type 0} → (Name → Name) → Name × A → Name × A
 renamed_key f pair = (f pair.0, pair.1)
 
 abbrev pub renamed_tables : (Name → Name) → Tables → Tables

@@ -84,7 +84,7 @@ with_tie free t = elim (symbol_of t) [ None ↦ add_free free t.reference.name t
 abbrev pub free_of : List Tie → FreeLists
 free_of ts = fold with_tie [] ts
 
-abbrev any_pure : List Made → ℕ → Bool
+abbrev pub any_pure : List Made → ℕ → Bool
 any_pure [] s = false
 any_pure (m ∷ ms) s = (m.declaration.is_pure && m.symbol == s) || any_pure ms s
 

@@ -17,8 +17,9 @@ ghost use Rattle.semantic_model.specs.Reference.{references};
 ghost use Rattle.semantic_model.specs.TablesOf.{scopes, tables_of};
 ghost use Rattle.semantic_model.specs.NodeTable.{node_tables};
 ghost use Rattle.semantic_model.specs.Fits.{Fits};
-ghost use Rattle.semantic_model.specs.Swap.{IsSwappable, swap, swapped_tree, renamed_occurrence};
-ghost use Rattle.semantic_model.specs.Moment.{UsesAreTies, StandsInOneList, ListsBeginWithOwn};
+ghost use Rattle.semantic_model.specs.NamespaceStates.{namespace_states};
+ghost use Rattle.semantic_model.specs.Swap.{IsSwappable, swap, swapped_tree, swapped_tables, renamed_occurrence};
+ghost use Rattle.semantic_model.specs.Moment.{UsesAreTies, StandsInOneList, BindingsAreSymbols, ListsBeginWithOwn};
 
 /// Running the steps of one list and then those of another is running both.
 pub fn steps_compose()
@@ -59,6 +60,11 @@ pub fn references_stand_in_one_list()
     ensures { (p : Tree) → first_fault p ≡ None → StandsInOneList (tables_of p) }
 {}
 
+/// A name that a scope binds is its symbol's name, and the scope is that symbol's. No symbol is bound twice.
+pub fn bindings_are_symbols()
+    ensures { (p : Tree) → first_fault p ≡ None → BindingsAreSymbols (tables_of p) }
+{}
+
 /// A list of redeclarations is absent, or has two entries or more, of which the first is the symbol's own.
 pub fn redeclarations_begin_with_own()
     ensures { (p : Tree) → ListsBeginWithOwn (tables_of p) }
@@ -73,4 +79,21 @@ pub fn swapped_names_leave_scopes()
 /// With two names swapped, a program has the same references in the same ways and scopes, with swapped names.
 pub fn swapped_names_swap_references()
     ensures { (a b : Name) (p : Tree) → first_fault p ≡ None → references (steps (swapped_tree a b p)) ≡ map (renamed_occurrence (swap a b)) (references (steps p)) }
+{}
+
+/// With two names swapped, neither of them `arguments` or `eval`, a program has namespaces of the same states.
+pub fn swapped_names_leave_namespace_states()
+    ensures { (a b : Name) (p : Tree) → IsSwappable a → IsSwappable b → first_fault p ≡ None → namespace_states (steps (swapped_tree a b p)) ≡ namespace_states (steps p) }
+{}
+
+/// With two names swapped, neither of them `arguments` or `eval`, the same scopes, symbols and references belong to the
+/// nodes of a program.
+pub fn swapped_names_leave_node_tables()
+    ensures { (a b : Name) (p : Tree) → IsSwappable a → IsSwappable b → first_fault p ≡ None → node_tables (steps (swapped_tree a b p)) ≡ node_tables (steps p) }
+{}
+
+/// Names are only compared: with two names swapped, neither of them `arguments` or `eval`, a program has the same
+/// tables, with the names of symbols, bindings and free references swapped.
+pub fn swapped_names_swap_tables()
+    ensures { (a b : Name) (p : Tree) → IsSwappable a → IsSwappable b → first_fault p ≡ None → tables_of (swapped_tree a b p) ≡ swapped_tables a b (tables_of p) }
 {}
