@@ -1,11 +1,14 @@
 -- Trees that differ in names alone: each name is changed by one map.
-use Rattle.std.proofs.Common.{◌≡◌, ℕ, List, [], ◌∷◌, ◌++◌, cond, Bool, true, false, ◌||◌, inl, inr, ◌⊎◌, refl, sym, ap, subst, ◌∙◌, map, if◌then◌else◌}
+use Rattle.std.proofs.Common.{◌≡◌, ℕ, List, [], ◌∷◌, ◌++◌, cond, Bool, true, false, ◌&&◌, ◌||◌, inl, inr, ◌⊎◌, refl, sym, ap, subst, ◌∙◌, map, if◌then◌else◌}
 use Rattle.std.proofs.lemmas.Bool.{cases_Bool}
 use Rattle.std.specs.Prelude.{flat_map, filter}
 use Rattle.semantic_syntax.specs.declared.spans.Span.{Span}
 use Rattle.semantic_syntax.specs.Tables.{Name}
 use Rattle.semantic_tree.specs.Forest.{Forest, nothing, tree}
+use Rattle.semantic_tree.specs.Renamed.{names_member, setting_below, renamed_text, renamed}
 use Rattle.semantic_tree.specs.declared.node.Node.{Node}
+use Rattle.semantic_tree.specs.declared.swap.Setting.{Setting}
+use Rattle.semantic_tree.specs.declared.swap.Setting.TheVariants.{InMember, InMemberName, Elsewhere}
 use Rattle.semantic_kinds.specs.Kinds.{same_kind}
 use Rattle.semantic_kinds.specs.Roles.{same_role}
 use Rattle.semantic_kinds.specs.Classes.{holds_kind}
@@ -16,16 +19,15 @@ use Rattle.semantic_kinds.specs.declared.role.Role.{Role}
 use Rattle.semantic_kinds.specs.declared.role.Role.TheVariants as role
 use Rattle.semantic_model.specs.Nodes.{is, children_of}
 use Rattle.semantic_model.specs.Binder.{member_names}
-use Rattle.semantic_model.specs.Swap.{Setting, in_member, in_member_name, elsewhere, names_member, is_named, setting_below, renamed}
-use Rattle.semantic_model.proofs.Clauses.{kind_is}
+use Rattle.semantic_model.proofs.Clauses.{kind_is, both_hold}
 
 -- the text is a name of the program
 abbrev pub is_name : AstType → Bool
-is_name k = holds_kind (kind.BindingIdentifier ∷ kind.IdentifierReference ∷ []) k
+is_name k = same_kind k kind.BindingIdentifier || same_kind k kind.IdentifierReference
 
 -- the text names an enum member, in some places
 abbrev pub may_name : AstType → Bool
-may_name k = holds_kind (kind.IdentifierName ∷ kind.StringLiteral ∷ kind.TemplateElement ∷ []) k
+may_name k = same_kind k kind.IdentifierName || same_kind k kind.StringLiteral || same_kind k kind.TemplateElement
 
 -- what the ids of an enum member name, each with its span
 abbrev pub labels_in : Node → List (Name × Span)
@@ -33,9 +35,6 @@ labels_in id = map (λ name. (name.text, id.span)) (member_names id)
 
 abbrev pub labels : Forest → List (Name × Span)
 labels below = flat_map labels_in (children_of role.Id below)
-
-named_piece : (k : AstType) → (holds_kind (kind.BindingIdentifier ∷ kind.IdentifierReference ∷ []) k || true) ≡ true
-named_piece k = elim (holds_kind (kind.BindingIdentifier ∷ kind.IdentifierReference ∷ []) k) as (λ b. (b || true) ≡ true) [ true ↦ refl | false ↦ refl ]
 
 pub map_append : {A B : Type 0} → (g : A → B) (xs ys : List A) → map g (xs ++ ys) ≡ map g xs ++ map g ys
 map_append g [] ys = refl
@@ -60,68 +59,133 @@ module _ (f : Name → Name) where
 
   -- what may be renamed under a member may name it
   member_may : (setting : Setting) (r : Role) (k : AstType) → may_name k ≡ false → names_member setting r k ≡ false
-  member_may in_member r k h = go (cases_Bool (same_kind kind.IdentifierName k)) (cases_Bool (same_kind kind.StringLiteral k)) h
+  member_may InMember r k h = go (same_role r role.Id) (same_kind k kind.IdentifierName) (same_kind k kind.StringLiteral) (same_kind k kind.TemplateElement) h
     where
-      go : (same_kind kind.IdentifierName k ≡ true) ⊎ (same_kind kind.IdentifierName k ≡ false) → (same_kind kind.StringLiteral k ≡ true) ⊎ (same_kind kind.StringLiteral k ≡ false) → may_name k ≡ false → names_member in_member r k ≡ false
-      go (inl a) b i = let q : true ≡ false = rw a at i in absurd cc
-      go (inr a) (inl b) i = let q : true ≡ false = rw (a, b) at i in absurd cc
-      go (inr a) (inr b) i = rw (a, b) refl
-  member_may in_member_name r k h = go (cases_Bool (same_kind k kind.TemplateElement))
+      go : (w x y z : Bool) → (x || y || z) ≡ false → (w && (x || y)) ≡ false
+      go true false false z e = refl
+      go true true y z e = absurd cc
+      go true false true z e = absurd cc
+      go false x y z e = refl
+  member_may InMemberName r k h = go (same_role r role.Quasis) (same_kind k kind.IdentifierName) (same_kind k kind.StringLiteral) (same_kind k kind.TemplateElement) h
     where
-      go : (same_kind k kind.TemplateElement ≡ true) ⊎ (same_kind k kind.TemplateElement ≡ false) → names_member in_member_name r k ≡ false
-      go (inl a) = let q : true ≡ false = subst (λ j. may_name j ≡ false) (kind_is k kind.TemplateElement a) h in absurd cc
-      go (inr a) = rw a refl
-  member_may elsewhere r k h = refl
+      go : (w x y z : Bool) → (x || y || z) ≡ false → (w && z) ≡ false
+      go true x y false e = refl
+      go true true y true e = absurd cc
+      go true false true true e = absurd cc
+      go true false false true e = absurd cc
+      go false x y z e = refl
+  member_may Elsewhere r k h = refl
 
-  text_renamed : (setting : Setting) (r : Role) (k : AstType) (t : Name) → TextFor k t (cond (is_named setting r k) (f t) t)
+  -- the text of a node by the tests of its kind
+  text_by : Name → Bool → Bool → Bool → Name
+  text_by t x y z = if x || y || z then f t else t
+
+  pub text_renamed : (setting : Setting) (r : Role) (k : AstType) (t : Name) → TextFor k t (renamed_text f setting r k t)
+  unfolding text_by
   text_renamed setting r k t = record {
-    named = λ h. rw h refl;
-    plain = λ h i. rw (h, member_may setting r k i) refl;
+    named = λ h. named (same_kind k kind.BindingIdentifier) (same_kind k kind.IdentifierReference) (names_member setting r k) h;
+    plain = λ h i. plain (same_kind k kind.BindingIdentifier) (same_kind k kind.IdentifierReference) (names_member setting r k) h (member_may setting r k i);
   }
+    where
+      named : (x y z : Bool) → (x || y) ≡ true → text_by t x y z ≡ f t
+      named true y z e = refl
+      named false true z e = refl
+      named false false z e = absurd cc
+
+      plain : (x y z : Bool) → (x || y) ≡ false → z ≡ false → text_by t x y z ≡ t
+      plain true y z e i = absurd cc
+      plain false true z e i = absurd cc
+      plain false false true e i = absurd cc
+      plain false false false e i = refl
+
+  member_text : (setting : Setting) (r : Role) (k : AstType) (t : Name) → names_member setting r k ≡ true → renamed_text f setting r k t ≡ f t
+  unfolding text_by
+  member_text setting r k t h = go (same_kind k kind.BindingIdentifier) (same_kind k kind.IdentifierReference) (names_member setting r k) h
+    where
+      go : (x y z : Bool) → z ≡ true → text_by t x y z ≡ f t
+      go true y z e = refl
+      go false true z e = refl
+      go false false true e = refl
+      go false false false e = absurd cc
 
   -- the pieces of a template that names a member
-  pieces : (span : Span) (b : Forest) → map (λ name. (name.text, span)) (filter (is kind.TemplateElement) (children_of role.Quasis (renamed f in_member_name b))) ≡ map changed (map (λ name. (name.text, span)) (filter (is kind.TemplateElement) (children_of role.Quasis b)))
+  abbrev pieces_in : Forest → List Node
+  pieces_in b = filter (is kind.TemplateElement) (children_of role.Quasis b)
+
+  abbrev labelled : Span → List Node → List (Name × Span)
+  labelled span names = map (λ name. (name.text, span)) names
+
+  pieces : (span : Span) (b : Forest) → labelled span (pieces_in (renamed f InMemberName b)) ≡ map changed (labelled span (pieces_in b))
   pieces span nothing = refl
-  pieces span (tree r k s text marks below id after) = go (cases_Bool (same_role r role.Quasis)) (cases_Bool (same_kind k kind.TemplateElement)) (pieces span after)
+  pieces span (tree r k s text marks below id after) = go (same_role r role.Quasis) refl (pieces span after)
     where
-      go : (same_role r role.Quasis ≡ true) ⊎ (same_role r role.Quasis ≡ false) → (same_kind k kind.TemplateElement ≡ true) ⊎ (same_kind k kind.TemplateElement ≡ false)
-          → map (λ name. (name.text, span)) (filter (is kind.TemplateElement) (children_of role.Quasis (renamed f in_member_name after))) ≡ map changed (map (λ name. (name.text, span)) (filter (is kind.TemplateElement) (children_of role.Quasis after)))
-          → map (λ name. (name.text, span)) (filter (is kind.TemplateElement) (children_of role.Quasis (renamed f in_member_name (tree r k s text marks below id after)))) ≡ map changed (map (λ name. (name.text, span)) (filter (is kind.TemplateElement) (children_of role.Quasis (tree r k s text marks below id after))))
-      go (inr a) b h = rw a h
-      go (inl a) (inr b) h = rw (a, b) h
-      go (inl a) (inl b) h = rw (a, b) (λ i. (ap (λ n. cond n (f text) text) (named_piece k) i, span) ∷ h i)
+      old : Node
+      old = record { kind = k; span = s; text = text; marks = marks; children = below; node_id = id }
+
+      new : Node
+      new = record old { text = renamed_text f InMemberName r k text; children = renamed f (setting_below InMemberName r k) below }
+
+      piece : (y : Bool) → (y ≡ true → new.text ≡ f text) → labelled span (pieces_in (renamed f InMemberName after)) ≡ map changed (labelled span (pieces_in after)) → labelled span (cond y (new ∷ pieces_in (renamed f InMemberName after)) (pieces_in (renamed f InMemberName after))) ≡ map changed (labelled span (cond y (old ∷ pieces_in after) (pieces_in after)))
+      piece true e h = λ i. (e refl i, span) ∷ h i
+      piece false e h = h
+
+      go : (x : Bool) → same_role r role.Quasis ≡ x → labelled span (pieces_in (renamed f InMemberName after)) ≡ map changed (labelled span (pieces_in after)) → labelled span (filter (is kind.TemplateElement) (if x then new ∷ children_of role.Quasis (renamed f InMemberName after) else children_of role.Quasis (renamed f InMemberName after))) ≡ map changed (labelled span (filter (is kind.TemplateElement) (if x then old ∷ children_of role.Quasis after else children_of role.Quasis after)))
+      go true q h = piece (same_kind k kind.TemplateElement) (λ e. member_text InMemberName r k text (both_hold (same_role r role.Quasis) (same_kind k kind.TemplateElement) q e)) h
+      go false q h = h
+
+  -- a word or a text
+  is_word : (k : AstType) → holds_kind (kind.IdentifierName ∷ kind.StringLiteral ∷ []) k ≡ true → (same_kind k kind.IdentifierName || same_kind k kind.StringLiteral) ≡ true
+  is_word k h = go (cases_Bool (same_kind kind.IdentifierName k)) (cases_Bool (same_kind kind.StringLiteral k))
+    where
+      go : (same_kind kind.IdentifierName k ≡ true) ⊎ (same_kind kind.IdentifierName k ≡ false) → (same_kind kind.StringLiteral k ≡ true) ⊎ (same_kind kind.StringLiteral k ≡ false) → (same_kind k kind.IdentifierName || same_kind k kind.StringLiteral) ≡ true
+      go (inl a) b = subst (λ j. (same_kind j kind.IdentifierName || same_kind j kind.StringLiteral) ≡ true) (kind_is kind.IdentifierName k a) refl
+      go (inr a) (inl b) = subst (λ j. (same_kind j kind.IdentifierName || same_kind j kind.StringLiteral) ≡ true) (kind_is kind.StringLiteral k b) refl
+      go (inr a) (inr b) = let q : false ≡ true = rw (a, b) at h in absurd cc
+
+  below_template : (r : Role) (k : AstType) → same_role r role.Id ≡ true → same_kind k kind.TemplateLiteral ≡ true → InMemberName ≡ setting_below InMember r k
+  below_template r k e h = rw (kind_is k kind.TemplateLiteral h, e) refl
 
   -- an id that is a word or a text, a template, or something else
-  label_changed : (r : Role) (k : AstType) (s : Span) (text : Name) (marks : Marks) (b : Forest) (id : ℕ) → same_role r role.Id ≡ true → labels_in (record { kind = k; span = s; text = cond (is_named in_member r k) (f text) text; marks = marks; children = renamed f (setting_below in_member r k) b; node_id = id }) ≡ map changed (labels_in (record { kind = k; span = s; text = text; marks = marks; children = b; node_id = id }))
-  label_changed r k s text marks b id e = go (cases_Bool (holds_kind (kind.IdentifierName ∷ kind.StringLiteral ∷ []) k)) (cases_Bool (same_kind k kind.TemplateLiteral))
+  label_changed : (r : Role) (k : AstType) (s : Span) (text : Name) (marks : Marks) (b : Forest) (id : ℕ) → same_role r role.Id ≡ true → labels_in (record { kind = k; span = s; text = renamed_text f InMember r k text; marks = marks; children = renamed f (setting_below InMember r k) b; node_id = id }) ≡ map changed (labels_in (record { kind = k; span = s; text = text; marks = marks; children = b; node_id = id }))
+  label_changed r k s text marks b id e =
+      go (holds_kind (kind.IdentifierName ∷ kind.StringLiteral ∷ []) k) (same_kind k kind.TemplateLiteral)
+      (λ h. member_text InMember r k text (both_hold (same_role r role.Id) (same_kind k kind.IdentifierName || same_kind k kind.StringLiteral) e (is_word k h)))
+      (λ h. subst (λ w. labelled s (pieces_in (renamed f w b)) ≡ map changed (labelled s (pieces_in b))) (below_template r k e h) (pieces s b))
     where
-      go : (holds_kind (kind.IdentifierName ∷ kind.StringLiteral ∷ []) k ≡ true) ⊎ (holds_kind (kind.IdentifierName ∷ kind.StringLiteral ∷ []) k ≡ false) → (same_kind k kind.TemplateLiteral ≡ true) ⊎ (same_kind k kind.TemplateLiteral ≡ false) → labels_in (record { kind = k; span = s; text = cond (is_named in_member r k) (f text) text; marks = marks; children = renamed f (setting_below in_member r k) b; node_id = id }) ≡ map changed (labels_in (record { kind = k; span = s; text = text; marks = marks; children = b; node_id = id }))
-      go (inl a) w = rw (a, e) (λ i. (ap (λ n. cond n (f text) text) (named_piece k) i, s) ∷ [])
-      go (inr a) (inl w) = rw (a, kind_is k kind.TemplateLiteral w, e) (pieces s b)
-      go (inr a) (inr w) = rw (a, w) refl
-
-  labels_changed : (below : Forest) → labels (renamed f in_member below) ≡ map changed (labels below)
-  labels_changed nothing = refl
-  labels_changed (tree r k s text marks b id after) = go (same_role r role.Id) (label_changed r k s text marks b id) (labels_changed after)
-    where
-      new : Node
-      new = record { kind = k; span = s; text = cond (is_named in_member r k) (f text) text; marks = marks; children = renamed f (setting_below in_member r k) b; node_id = id }
-
       old : Node
       old = record { kind = k; span = s; text = text; marks = marks; children = b; node_id = id }
 
-      go : (x : Bool) → (x ≡ true → labels_in new ≡ map changed (labels_in old)) → labels (renamed f in_member after) ≡ map changed (labels after) → flat_map labels_in (if x then new ∷ children_of role.Id (renamed f in_member after) else children_of role.Id (renamed f in_member after)) ≡ map changed (flat_map labels_in (if x then old ∷ children_of role.Id after else children_of role.Id after))
+      new : Node
+      new = record old { text = renamed_text f InMember r k text; children = renamed f (setting_below InMember r k) b }
+
+      go : (x y : Bool) → (x ≡ true → new.text ≡ f text) → (y ≡ true → labelled s (pieces_in new.children) ≡ map changed (labelled s (pieces_in b))) → labelled s (cond x (new ∷ []) (cond y (pieces_in new.children) [])) ≡ map changed (labelled s (cond x (old ∷ []) (cond y (pieces_in b) [])))
+      go true y h i = λ j. (h refl j, s) ∷ []
+      go false true h i = i refl
+      go false false h i = refl
+
+  labels_changed : (below : Forest) → labels (renamed f InMember below) ≡ map changed (labels below)
+  labels_changed nothing = refl
+  labels_changed (tree r k s text marks b id after) = go (same_role r role.Id) (label_changed r k s text marks b id) (labels_changed after)
+    where
+      old : Node
+      old = record { kind = k; span = s; text = text; marks = marks; children = b; node_id = id }
+
+      new : Node
+      new = record old { text = renamed_text f InMember r k text; children = renamed f (setting_below InMember r k) b }
+
+      go : (x : Bool) → (x ≡ true → labels_in new ≡ map changed (labels_in old)) → labels (renamed f InMember after) ≡ map changed (labels after) → flat_map labels_in (if x then new ∷ children_of role.Id (renamed f InMember after) else children_of role.Id (renamed f InMember after)) ≡ map changed (flat_map labels_in (if x then old ∷ children_of role.Id after else children_of role.Id after))
       go false e h = h
-      go true e h = ap (λ ls. ls ++ labels (renamed f in_member after)) (e refl) ∙ ap (λ ls. map changed (labels_in old) ++ ls) h ∙ sym (map_append changed (labels_in old) (labels after))
+      go true e h = ap (λ ls. ls ++ labels (renamed f InMember after)) (e refl) ∙ ap (λ ls. map changed (labels_in old) ++ ls) h ∙ sym (map_append changed (labels_in old) (labels after))
+
+  pub members_renamed : (setting : Setting) (r : Role) (k : AstType) (below : Forest) → MembersFor k below (renamed f (setting_below setting r k) below)
+  members_renamed setting r k below h = subst (λ w. labels (renamed f w below) ≡ map changed (labels below)) (member_setting h) (labels_changed below)
+    where
+      member_setting : same_kind k kind.TSEnumMember ≡ true → InMember ≡ setting_below setting r k
+      member_setting e = rw e refl
 
   -- a renamed forest differs in names alone
   pub alike_renamed : (setting : Setting) (g : Forest) → Alike g (renamed f setting g)
   alike_renamed setting nothing = no_trees
   alike_renamed setting (tree r k s text marks below id after) =
-      trees_alike r k s text (cond (is_named setting r k) (f text) text) marks below (renamed f (setting_below setting r k) below) id after (renamed f setting after)
-      (text_renamed setting r k text)
-      (λ h. subst (λ w. labels (renamed f w below) ≡ map changed (labels below)) (member_setting h) (labels_changed below))
-      (alike_renamed (setting_below setting r k) below) (alike_renamed setting after)
-    where
-      member_setting : same_kind k kind.TSEnumMember ≡ true → in_member ≡ setting_below setting r k
-      member_setting h = rw h refl
+      trees_alike r k s text (renamed_text f setting r k text) marks below (renamed f (setting_below setting r k) below) id after (renamed f setting after)
+      (text_renamed setting r k text) (members_renamed setting r k below) (alike_renamed (setting_below setting r k) below) (alike_renamed setting after)

@@ -16,13 +16,16 @@ use Rattle.semantic_model.specs.Names.{bound_names}
 use Rattle.semantic_model.specs.Place.{Place, OpenScope, is_strict, parent_holds}
 use Rattle.semantic_model.specs.Declaration.{plain, hoisted, moved, caught, Declaration, here, outward_to, outward_past}
 use Rattle.semantic_model.specs.Binder.{Row, declare, declare_here, marked_ambient, is_var, is_pure_function, is_pure_declarator, variable_row, variables_under, is_statement, function_flags, is_block_function, function_row, own_function_row, parameter_excluded, parameters_under, catch_names}
-use Rattle.semantic_model.specs.Swap.{renamed_declaration}
 use Rattle.semantic_model.proofs.Clauses.{kind_is}
 use Rattle.semantic_model.proofs.Alike.{is_name}
 use Rattle.semantic_model.proofs.AlikeCursor.{with_text, SameNode}
 use Rattle.semantic_model.proofs.AlikeScopes.{re, AlikePath, first_same, word_same}
 use Rattle.semantic_model.proofs.AlikeProgram.{Keeps}
 use Rattle.semantic_model.proofs.AlikeNames.{Changed, bound_changed, simple_same}
+
+-- a declaration whose name is changed
+abbrev pub renamed_declaration : (Name → Name) → Declaration → Declaration
+renamed_declaration f d = record d { name = f d.name }
 
 module _ (f : Name → Name) (keeps : Keeps f) where
   -- declarations with changed names

@@ -16,7 +16,6 @@ use Rattle.semantic_model.specs.Namespace.{InstanceState, non_instantiated, cons
 use Rattle.semantic_model.specs.Place.{Place, parent_holds}
 use Rattle.semantic_model.specs.Declaration.{plain, here, outward_to}
 use Rattle.semantic_model.specs.Binder.{Row, declare, declare_here, ids, marked_ambient, is_conditional, is_statement, function_row, class_row, import_flags, imports, enums, member_names, named_member, member_named, members, namespace_row, type_parameter_route, type_parameter_row, declared_by}
-use Rattle.semantic_model.specs.Swap.{renamed_declaration}
 use Rattle.semantic_model.proofs.Alike.{labels_in, labels, changed, map_append}
 use Rattle.semantic_model.proofs.AlikeCursor.{with_text}
 use Rattle.semantic_model.proofs.AlikeScopes.{re}
@@ -24,7 +23,7 @@ use Rattle.semantic_model.proofs.AlikeSteps.{Facts}
 use Rattle.semantic_model.proofs.AlikeProgram.{Keeps}
 use Rattle.semantic_model.proofs.AlikeNames.{bound_changed, names_changed, children_same}
 use Rattle.semantic_model.proofs.AlikeNamespace.{state_same}
-use Rattle.semantic_model.proofs.AlikeBinder.{ren, rows_changed, here_changed, cond_changed, parent_kind, parent_typed, variables_same, function_same, parameters_same, catches_same}
+use Rattle.semantic_model.proofs.AlikeBinder.{renamed_declaration, ren, rows_changed, here_changed, cond_changed, parent_kind, parent_typed, variables_same, function_same, parameters_same, catches_same}
 
 -- a member with a label as its name
 abbrev of_label : Node → Name × Span → Node

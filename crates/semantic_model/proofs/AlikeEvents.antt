@@ -15,16 +15,22 @@ use Rattle.semantic_model.specs.Place.{Place, OpenScope, innermost, outside}
 use Rattle.semantic_model.specs.Step.{Step, entering, opening, header_ending, closing, leaving, steps}
 use Rattle.semantic_model.specs.Declaration.{How, plain, hoisted, moved, caught, Declaration, here}
 use Rattle.semantic_model.specs.Binder.{declare, ids, is_statement, own_function_row, class_row, type_parameter_row, declared_on_entering, declared_inside, declared_on_opening}
-use Rattle.semantic_model.specs.Event.{takes_over, declares, written_declarations, any_bars, is_barred, staying, placed_by, is_catch_body, taken_over, declares_all, events_of, events}
-use Rattle.semantic_model.specs.Swap.{renamed_program, renamed_declaration, renamed_event}
+use Rattle.semantic_model.specs.Event.{Event, ends_header, takes_over, declares, written_declarations, any_bars, is_barred, staying, placed_by, is_catch_body, taken_over, declares_all, events_of, events}
+use Rattle.semantic_tree.specs.Renamed.{renamed_tree}
 use Rattle.semantic_model.proofs.Alike.{map_append}
 use Rattle.semantic_model.proofs.AlikeCursor.{with_text}
 use Rattle.semantic_model.proofs.AlikeScopes.{re}
 use Rattle.semantic_model.proofs.AlikeSteps.{SamePlace, AlikeStep, AlikeSteps, Facts}
 use Rattle.semantic_model.proofs.AlikeProgram.{Keeps, program_steps}
 use Rattle.semantic_model.proofs.AlikeNames.{names_changed}
-use Rattle.semantic_model.proofs.AlikeBinder.{ren, rows_changed, cond_changed, append_changed, parent_kind, own_same}
+use Rattle.semantic_model.proofs.AlikeBinder.{renamed_declaration, ren, rows_changed, cond_changed, append_changed, parent_kind, own_same}
 use Rattle.semantic_model.proofs.AlikeDeclares.{own_text, declared_same}
+
+-- an event with a changed name
+abbrev pub renamed_event : (Name → Name) → Event → Event
+renamed_event f (declares d) = declares (renamed_declaration f d)
+renamed_event f (takes_over c b) = takes_over c b
+renamed_event f (ends_header c) = ends_header c
 
 module _ (f : Name → Name) (keeps : Keeps f) where
   -- what is declared inside
@@ -120,8 +126,8 @@ module _ (f : Name → Name) (keeps : Keeps f) where
   of_steps ds (x ∷ xs) (y ∷ ys) h = (λ i. of_step ds x y h.0 i ++ of_steps ds xs ys h.1 i) ∙ sym (map_append (renamed_event f) (events_of ds x) (flat_map (events_of ds) xs))
 
   -- a program with changed names has the same events, with changed names
-  pub events_renamed : (p : Tree) → p.root.kind ≡ kind.Program → events (steps (renamed_program f p)) ≡ map (renamed_event f) (events (steps p))
-  events_renamed p e =
-      let alike : AlikeSteps f (steps p) (steps (renamed_program f p)) = program_steps f p e in
-      ap (λ ds. flat_map (events_of ds) (steps (renamed_program f p))) (written_same (steps p) (steps (renamed_program f p)) alike)
-      ∙ of_steps (written_declarations (steps p)) (steps p) (steps (renamed_program f p)) alike
+  pub events_renamed : (p : Tree) → events (steps (renamed_tree f p)) ≡ map (renamed_event f) (events (steps p))
+  events_renamed p =
+      let alike : AlikeSteps f (steps p) (steps (renamed_tree f p)) = program_steps f p in
+      ap (λ ds. flat_map (events_of ds) (steps (renamed_tree f p))) (written_same (steps p) (steps (renamed_tree f p)) alike)
+      ∙ of_steps (written_declarations (steps p)) (steps p) (steps (renamed_tree f p)) alike

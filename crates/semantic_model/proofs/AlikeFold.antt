@@ -12,9 +12,11 @@ use Rattle.semantic_model.specs.Binding.{Binding, is_of, get, put, remove, move,
 use Rattle.semantic_model.specs.Event.{Event, declares, takes_over, ends_header}
 use Rattle.semantic_model.specs.Fold.{Conflict, Made, State, update, flags_or_none, flags_of, or_else, unless_expression, found, with_entry, redeclared, united, in_scope, new_symbol, gets, make, conflict_with, against, declare_in, chosen}
 use Rattle.semantic_model.specs.Hoist.{Hit, counts, hit, asked, against_all, remember, remembering, move_symbol, hoist_by, hoist, move_out, declare_by, rescoped, act, run}
-use Rattle.semantic_model.specs.Swap.{renamed_declaration, renamed_event, renamed_symbol, renamed_key}
+use Rattle.semantic_model.specs.Swap.{renamed_symbol, renamed_key}
 use Rattle.semantic_model.proofs.Alike.{map_append}
 use Rattle.semantic_model.proofs.AlikeProgram.{Keeps}
+use Rattle.semantic_model.proofs.AlikeBinder.{renamed_declaration}
+use Rattle.semantic_model.proofs.AlikeEvents.{renamed_event}
 
 abbrev renamed_binding : (Name → Name) → Binding → Binding
 renamed_binding f b = record b { name = f b.name }

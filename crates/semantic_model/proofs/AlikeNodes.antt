@@ -2,14 +2,14 @@
 use Rattle.std.proofs.Common.{◌≡◌, List, [], ◌∷◌, refl, ap, ◌∙◌, map}
 use Rattle.semantic_syntax.specs.Tables.{Name}
 use Rattle.semantic_tree.specs.Tree.{Tree}
-use Rattle.semantic_kinds.specs.declared.kind.AstType.TheVariants as kind
 use Rattle.semantic_model.specs.Step.{steps}
 use Rattle.semantic_model.specs.Reference.{Occurrence, references}
 use Rattle.semantic_model.specs.Event.{events}
 use Rattle.semantic_model.specs.Fold.{Made, start}
 use Rattle.semantic_model.specs.Hoist.{run}
 use Rattle.semantic_model.specs.NodeTable.{belonging, symbols_of, node_tables, numbered_from}
-use Rattle.semantic_model.specs.Swap.{renamed_program, renamed_occurrence}
+use Rattle.semantic_tree.specs.Renamed.{renamed_tree}
+use Rattle.semantic_model.specs.Swap.{renamed_occurrence}
 use Rattle.semantic_model.proofs.AlikeProgram.{Keeps, scopes_renamed, references_renamed}
 use Rattle.semantic_model.proofs.AlikeEvents.{events_renamed}
 use Rattle.semantic_model.proofs.AlikeFold.{renamed_made, run_same}
@@ -23,9 +23,9 @@ module _ (f : Name → Name) where
   nodes_same [] = refl
   nodes_same (r ∷ rs) = λ i. r.node ∷ nodes_same rs i
 
-  pub node_tables_renamed : Keeps f → (p : Tree) → p.root.kind ≡ kind.Program → node_tables (steps (renamed_program f p)) ≡ node_tables (steps p)
-  node_tables_renamed keeps p e = λ i. record {
-    scopes = numbered_from 0 (map (λ s. s.node) (scopes_renamed f keeps p e i));
-    symbols = (ap (λ es. symbols_of (run start es)) (events_renamed f keeps p e) ∙ ap symbols_of (run_same f keeps start (events (steps p))) ∙ belonging_same (run start (events (steps p))).made) i;
-    references = numbered_from 0 ((ap (map (λ r. r.node)) (references_renamed f p e) ∙ nodes_same (references (steps p))) i);
+  pub node_tables_renamed : Keeps f → (p : Tree) → node_tables (steps (renamed_tree f p)) ≡ node_tables (steps p)
+  node_tables_renamed keeps p = λ i. record {
+    scopes = numbered_from 0 (map (λ s. s.node) (scopes_renamed f keeps p i));
+    symbols = (ap (λ es. symbols_of (run start es)) (events_renamed f keeps p) ∙ ap symbols_of (run_same f keeps start (events (steps p))) ∙ belonging_same (run start (events (steps p))).made) i;
+    references = numbered_from 0 ((ap (map (λ r. r.node)) (references_renamed f p) ∙ nodes_same (references (steps p))) i);
   }

@@ -5,6 +5,8 @@ use Rattle.std.specs.List.{cons_option}
 use Rattle.std.proofs.lemmas.Bool.{cases_Bool}
 use Rattle.semantic_syntax.specs.Tables.{Name}
 use Rattle.semantic_tree.specs.Tree.{Tree}
+use Rattle.semantic_tree.specs.Renamed.{swap, setting_below, renamed_text, renamed, renamed_tree}
+use Rattle.semantic_tree.specs.declared.swap.Setting.TheVariants.{Elsewhere}
 use Rattle.semantic_tree.specs.Forest.{Forest}
 use Rattle.semantic_tree.specs.declared.node.Node.{Node}
 use Rattle.semantic_kinds.specs.declared.kind.AstType.TheVariants as kind
@@ -17,10 +19,10 @@ use Rattle.semantic_model.specs.Cursor.{on_entering}
 use Rattle.semantic_model.specs.Step.{Step, entering, opening, header_ending, closing, leaving, steps_below, steps, root_place}
 use Rattle.semantic_model.specs.Reference.{Occurrence, reference_at, entered_reference, references}
 use Rattle.semantic_model.specs.TablesOf.{is_direct_eval, numbers, eval_in, evals, opened_entry, scopes}
-use Rattle.semantic_model.specs.Swap.{swap, elsewhere, renamed, renamed_program, renamed_occurrence}
+use Rattle.semantic_model.specs.Swap.{renamed_occurrence}
 use Rattle.semantic_model.proofs.Clauses.{kind_is}
 use Rattle.semantic_model.proofs.Under.{name_tells}
-use Rattle.semantic_model.proofs.Alike.{Alike, alike_renamed, is_name}
+use Rattle.semantic_model.proofs.Alike.{Alike, text_renamed, members_renamed, alike_renamed, is_name}
 use Rattle.semantic_model.proofs.AlikeCursor.{with_text, SameNode, SameInner, inner_same}
 use Rattle.semantic_model.proofs.AlikeScopes.{re, first_same}
 use Rattle.semantic_model.proofs.AlikeSteps.{SamePlace, AlikeSteps, Facts, steps_same}
@@ -49,16 +51,16 @@ module _ (f : Name → Name) where
   append_same (x ∷ xs) [] us vs h i = absurd h
   append_same (x ∷ xs) (y ∷ ys) us vs h i = (h.0, append_same xs ys us vs h.1 i)
 
-  pub program_steps : (p : Tree) → p.root.kind ≡ kind.Program → AlikeSteps f (steps p) (steps (renamed_program f p))
-  program_steps p e =
+  pub program_steps : (p : Tree) → AlikeSteps f (steps p) (steps (renamed_tree f p))
+  program_steps p =
       let root : Place = root_place p in
-      let g : Forest = renamed f elsewhere p.root.children in
-      let alike : Alike f p.root.children g = alike_renamed f elsewhere p.root.children in
-      let same : SameNode f p.root p.root.text g = record { text = record { named = λ h. (let q : true ≡ false = sym h ∙ subst (λ k. is_name k ≡ false) (sym e) refl in absurd cc); plain = λ h i. refl }; children = alike } in
-      let facts : Facts f root p.root.text g [] = record { node = same; above = tt; members = λ h. (let q : kind.Program ≡ kind.TSEnumMember = sym e ∙ kind_is p.root.kind kind.TSEnumMember h in absurd cc) } in
-      let place : SamePlace f root (root_place (renamed_program f p)) = record { u = p.root.text; g = g; path = []; is = refl; node = same; above = facts.above; members = facts.members } in
+      let u : Name = renamed_text f Elsewhere role.Root p.root.kind p.root.text in
+      let g : Forest = renamed f (setting_below Elsewhere role.Root p.root.kind) p.root.children in
+      let alike : Alike f p.root.children g = alike_renamed f (setting_below Elsewhere role.Root p.root.kind) p.root.children in
+      let facts : Facts f root u g [] = record { node = record { text = text_renamed f Elsewhere role.Root p.root.kind p.root.text; children = alike }; above = tt; members = members_renamed f Elsewhere role.Root p.root.kind p.root.children } in
+      let place : SamePlace f root (root_place (renamed_tree f p)) = record { u = u; g = g; path = []; is = refl; node = facts.node; above = facts.above; members = facts.members } in
       let n : ℕ = on_entering p.root.kind 0 in
-      (place, append_same (steps_below root None 0 n p.root.children) (steps_below (root_place (renamed_program f p)) None 0 n g) (leaving root ∷ []) (leaving (root_place (renamed_program f p)) ∷ []) (steps_same f root p.root.text g [] None 0 n p.root.children g facts alike) (place, tt))
+      (place, append_same (steps_below root None 0 n p.root.children) (steps_below (root_place (renamed_tree f p)) None 0 n g) (leaving root ∷ []) (leaving (root_place (renamed_tree f p)) ∷ []) (steps_same f root u g [] None 0 n p.root.children g facts alike) (place, tt))
 
   abbrev option_renamed : Option Occurrence → Option Occurrence
   option_renamed None = None
@@ -132,10 +134,10 @@ module _ (f : Name → Name) where
     opened_same calls (leaving p ∷ xs) (leaving q ∷ ys) h = opened_same calls xs ys h.1
     opened_same calls _ _ h = absurd h.0
 
-    pub scopes_renamed : (p : Tree) → p.root.kind ≡ kind.Program → scopes (steps (renamed_program f p)) ≡ scopes (steps p)
-    scopes_renamed p e =
-        let alike : AlikeSteps f (steps p) (steps (renamed_program f p)) = program_steps p e in
-        ap (λ calls. filter_map (opened_entry calls) (steps (renamed_program f p))) (evals_same (steps p) (steps (renamed_program f p)) alike) ∙ opened_same (evals (steps p)) (steps p) (steps (renamed_program f p)) alike
+    pub scopes_renamed : (p : Tree) → scopes (steps (renamed_tree f p)) ≡ scopes (steps p)
+    scopes_renamed p =
+        let alike : AlikeSteps f (steps p) (steps (renamed_tree f p)) = program_steps p in
+        ap (λ calls. filter_map (opened_entry calls) (steps (renamed_tree f p))) (evals_same (steps p) (steps (renamed_tree f p)) alike) ∙ opened_same (evals (steps p)) (steps p) (steps (renamed_tree f p)) alike
 
-  pub references_renamed : (p : Tree) → p.root.kind ≡ kind.Program → references (steps (renamed_program f p)) ≡ map (renamed_occurrence f) (references (steps p))
-  references_renamed p e = references_same (steps p) (steps (renamed_program f p)) (program_steps p e)
+  pub references_renamed : (p : Tree) → references (steps (renamed_tree f p)) ≡ map (renamed_occurrence f) (references (steps p))
+  references_renamed p = references_same (steps p) (steps (renamed_tree f p)) (program_steps p)

@@ -8,7 +8,7 @@ use Rattle.semantic_model.specs.Nodes.{is}
 use Rattle.semantic_model.specs.Place.{Place}
 use Rattle.semantic_model.specs.Step.{Step, entering, opening, header_ending, closing, leaving, steps}
 use Rattle.semantic_model.specs.NamespaceStates.{state_at, namespace_states}
-use Rattle.semantic_model.specs.Swap.{renamed_program}
+use Rattle.semantic_tree.specs.Renamed.{renamed_tree}
 use Rattle.semantic_model.proofs.AlikeSteps.{SamePlace, AlikeSteps}
 use Rattle.semantic_model.proofs.AlikeProgram.{Keeps, program_steps}
 use Rattle.semantic_model.proofs.AlikeNamespace.{state_same}
@@ -28,5 +28,5 @@ module _ (f : Name → Name) (keeps : Keeps f) where
   all_same (leaving p ∷ xs) (leaving q ∷ ys) h = all_same xs ys h.1
   all_same _ _ h = absurd h.0
 
-  pub states_renamed : (p : Tree) → p.root.kind ≡ kind.Program → namespace_states (steps (renamed_program f p)) ≡ namespace_states (steps p)
-  states_renamed p e = all_same (steps p) (steps (renamed_program f p)) (program_steps f p e)
+  pub states_renamed : (p : Tree) → namespace_states (steps (renamed_tree f p)) ≡ namespace_states (steps p)
+  states_renamed p = all_same (steps p) (steps (renamed_tree f p)) (program_steps f p)

@@ -5,7 +5,6 @@ use Rattle.std.specs.List.{range_with_len}
 use Rattle.std.proofs.lemmas.List.{length-map}
 use Rattle.semantic_syntax.specs.Tables.{Name, Scope, FreeLists}
 use Rattle.semantic_tree.specs.Tree.{Tree}
-use Rattle.semantic_kinds.specs.declared.kind.AstType.TheVariants as kind
 use Rattle.semantic_model.specs.Place.{OpenScope}
 use Rattle.semantic_model.specs.Step.{steps}
 use Rattle.semantic_model.specs.Reference.{Occurrence, references}
@@ -17,10 +16,11 @@ use Rattle.semantic_model.specs.Lookup.{Seen, Asked, tied_by, lookup}
 use Rattle.semantic_model.specs.FreeNames.{add_free}
 use Rattle.semantic_model.specs.Tie.{is_end_of, until_end_of, view, view_by, seen_as, answer, Tie, ties, symbol_of, moment, is_at, is_last, settled_at, in_order}
 use Rattle.semantic_model.specs.TablesOf.{scopes, entry_of, is_symbol, uses_of, with_tie, any_pure, tables_from, tables_of}
-use Rattle.semantic_model.specs.Swap.{renamed_program, renamed_occurrence, renamed_event, renamed_key, renamed_symbol, renamed_tables}
+use Rattle.semantic_tree.specs.Renamed.{renamed_tree}
+use Rattle.semantic_model.specs.Swap.{renamed_occurrence, renamed_key, renamed_symbol, renamed_tables}
 use Rattle.semantic_model.proofs.Alike.{map_append}
 use Rattle.semantic_model.proofs.AlikeProgram.{Keeps, scopes_renamed, references_renamed}
-use Rattle.semantic_model.proofs.AlikeEvents.{events_renamed}
+use Rattle.semantic_model.proofs.AlikeEvents.{renamed_event, events_renamed}
 use Rattle.semantic_model.proofs.AlikeFold.{renamed_made, renamed_bindings, renamed_state, get_same, bound_by_same, flags_same, run_same}
 
 module _ (f : Name → Name) (keeps : Keeps f) where
@@ -188,7 +188,7 @@ module _ (f : Name → Name) (keeps : Keeps f) where
       ∙ tables_same opened st ts (in_order es ts)
 
   -- the tables of a program with changed names
-  pub tables_renamed : (p : Tree) → p.root.kind ≡ kind.Program → tables_of (renamed_program f p) ≡ renamed_tables f (tables_of p)
-  tables_renamed p e =
-      by_parts (scopes (steps p)) (scopes (steps (renamed_program f p))) (events (steps p)) (events (steps (renamed_program f p))) (references (steps p)) (references (steps (renamed_program f p)))
-      (scopes_renamed f keeps p e) (events_renamed f keeps p e) (references_renamed f p e)
+  pub tables_renamed : (p : Tree) → tables_of (renamed_tree f p) ≡ renamed_tables f (tables_of p)
+  tables_renamed p =
+      by_parts (scopes (steps p)) (scopes (steps (renamed_tree f p))) (events (steps p)) (events (steps (renamed_tree f p))) (references (steps p)) (references (steps (renamed_tree f p)))
+      (scopes_renamed f keeps p) (events_renamed f keeps p) (references_renamed f p)

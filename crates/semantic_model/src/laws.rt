@@ -4,6 +4,7 @@ ghost use Rattle.semantic_syntax.specs.Tables.{Name};
 ghost use Rattle.semantic_kinds.specs.declared.role.Role.{Role};
 ghost use Rattle.semantic_tree.specs.Children.{forest_of};
 ghost use Rattle.semantic_tree.specs.Faults.{first_fault};
+ghost use Rattle.semantic_tree.specs.Renamed.{swap, swapped_tree};
 ghost use Rattle.semantic_tree.specs.Tree.{Tree};
 ghost use Rattle.semantic_tree.specs.declared.node.Node.{Node};
 ghost use Rattle.semantic_model.specs.Place.{Place, OpenScope};
@@ -18,7 +19,7 @@ ghost use Rattle.semantic_model.specs.TablesOf.{scopes, tables_of};
 ghost use Rattle.semantic_model.specs.NodeTable.{node_tables};
 ghost use Rattle.semantic_model.specs.Fits.{Fits};
 ghost use Rattle.semantic_model.specs.NamespaceStates.{namespace_states};
-ghost use Rattle.semantic_model.specs.Swap.{IsSwappable, swap, swapped_tree, swapped_tables, renamed_occurrence};
+ghost use Rattle.semantic_model.specs.Swap.{IsSwappable, swapped_tables, renamed_occurrence};
 ghost use Rattle.semantic_model.specs.Moment.{UsesAreTies, StandsInOneList, BindingsAreSymbols, ListsBeginWithOwn};
 
 /// Running the steps of one list and then those of another is running both.
@@ -73,27 +74,27 @@ pub fn redeclarations_begin_with_own()
 /// Names are only compared where scopes are opened: with two names swapped, neither of them `arguments` or `eval`, a
 /// program has the same scopes.
 pub fn swapped_names_leave_scopes()
-    ensures { (a b : Name) (p : Tree) → IsSwappable a → IsSwappable b → first_fault p ≡ None → scopes (steps (swapped_tree a b p)) ≡ scopes (steps p) }
+    ensures { (a b : Name) (p : Tree) → IsSwappable a → IsSwappable b → scopes (steps (swapped_tree a b p)) ≡ scopes (steps p) }
 {}
 
 /// With two names swapped, a program has the same references in the same ways and scopes, with swapped names.
 pub fn swapped_names_swap_references()
-    ensures { (a b : Name) (p : Tree) → first_fault p ≡ None → references (steps (swapped_tree a b p)) ≡ map (renamed_occurrence (swap a b)) (references (steps p)) }
+    ensures { (a b : Name) (p : Tree) → references (steps (swapped_tree a b p)) ≡ map (renamed_occurrence (swap a b)) (references (steps p)) }
 {}
 
 /// With two names swapped, neither of them `arguments` or `eval`, a program has namespaces of the same states.
 pub fn swapped_names_leave_namespace_states()
-    ensures { (a b : Name) (p : Tree) → IsSwappable a → IsSwappable b → first_fault p ≡ None → namespace_states (steps (swapped_tree a b p)) ≡ namespace_states (steps p) }
+    ensures { (a b : Name) (p : Tree) → IsSwappable a → IsSwappable b → namespace_states (steps (swapped_tree a b p)) ≡ namespace_states (steps p) }
 {}
 
 /// With two names swapped, neither of them `arguments` or `eval`, the same scopes, symbols and references belong to the
 /// nodes of a program.
 pub fn swapped_names_leave_node_tables()
-    ensures { (a b : Name) (p : Tree) → IsSwappable a → IsSwappable b → first_fault p ≡ None → node_tables (steps (swapped_tree a b p)) ≡ node_tables (steps p) }
+    ensures { (a b : Name) (p : Tree) → IsSwappable a → IsSwappable b → node_tables (steps (swapped_tree a b p)) ≡ node_tables (steps p) }
 {}
 
 /// Names are only compared: with two names swapped, neither of them `arguments` or `eval`, a program has the same
 /// tables, with the names of symbols, bindings and free references swapped.
 pub fn swapped_names_swap_tables()
-    ensures { (a b : Name) (p : Tree) → IsSwappable a → IsSwappable b → first_fault p ≡ None → tables_of (swapped_tree a b p) ≡ swapped_tables a b (tables_of p) }
+    ensures { (a b : Name) (p : Tree) → IsSwappable a → IsSwappable b → tables_of (swapped_tree a b p) ≡ swapped_tables a b (tables_of p) }
 {}
