@@ -6,6 +6,8 @@ pub mod outcomes;
 pub mod pending;
 pub mod resolve;
 pub mod rules;
+#[cfg(test)]
+mod tests;
 
 pub use outcomes::{Outcome, Outcomes};
 pub use pending::{UnresolvedReference, UnresolvedReferences};

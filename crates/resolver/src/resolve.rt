@@ -66,7 +66,7 @@ fn resolve_last<L, B: BindingSource<L>>(
 /// that waits in the scope or below is looked up as far as the scope; if nothing is found it waits in the scope's
 /// parent. Another one waits on as it was.
 ///
-/// A step is taken for each scope that is asked. After want of memory as many steps may have been taken.
+/// A step is taken for each scope that is asked. After want of memory at most as many steps have been taken.
 pub fn resolve_header<L, B: BindingSource<L>>(
     alloc: Global,
     pending: &UnresolvedReferences<'_>,
@@ -80,6 +80,7 @@ pub fn resolve_header<L, B: BindingSource<L>>(
     requires references { All (λ u. u.reference_id < (B.meaning source.now).references) (drop start pending.now) }
     ensures outcomes { IfOk result (λ v. v ≡ map (header_outcome (B.meaning source.now) scope) (drop start pending.now)) }
     ensures cost { OnOk result (steps.new ≡ raised steps.old (sum_by (header_asks (B.meaning source.now) scope) (drop start pending.now))) }
+    ensures risen { steps.old ≤ steps.new }
     ensures given_up { OnErr result (steps.new ≤ raised steps.old (sum_by (header_asks (B.meaning source.now) scope) (drop start pending.now))) }
 {
     let mut outcomes = Outcomes::new(alloc);
@@ -93,7 +94,7 @@ pub fn resolve_header<L, B: BindingSource<L>>(
 /// The outcomes, in the end, of all references that wait: each is looked up as far as the first scope outward
 /// that has no parent, and is free if nothing is found. None is pending.
 ///
-/// A step is taken for each scope that is asked. After want of memory as many steps may have been taken.
+/// A step is taken for each scope that is asked. After want of memory at most as many steps have been taken.
 pub fn resolve_all<L, B: BindingSource<L>>(
     alloc: Global,
     pending: &UnresolvedReferences<'_>,
@@ -105,6 +106,7 @@ pub fn resolve_all<L, B: BindingSource<L>>(
     ensures outcomes { IfOk result (λ v. v ≡ map (last_outcome (B.meaning source.now)) pending.now) }
     ensures settled { IfOk result (All (λ o. IsTrue (is_settled o))) }
     ensures cost { OnOk result (steps.new ≡ raised steps.old (sum_by (last_asks (B.meaning source.now)) pending.now)) }
+    ensures risen { steps.old ≤ steps.new }
     ensures given_up { OnErr result (steps.new ≤ raised steps.old (sum_by (last_asks (B.meaning source.now)) pending.now)) }
 {
     let mut outcomes = Outcomes::new(alloc);
