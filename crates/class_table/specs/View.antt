@@ -1,0 +1,13 @@
+-- The lists of the fields.
+use Rattle.std.specs.Prelude.{map}
+use Rattle.class_table.specs.declared.table.ClassTable.TheInside.{Inside}
+use Rattle.class_table.specs.Seen.{element_seen, use_seen}
+use Rattle.class_table.specs.Lists.{ClassLists}
+
+abbrev pub lists_of : Inside → ClassLists
+lists_of a = record {
+  parents = a.parent_ids.entries;
+  nodes = a.declarations.items;
+  elements = map (λ v. map element_seen v.items) a.elements.items;
+  uses = map (λ v. map use_seen v.items) a.private_identifier_references.items;
+}

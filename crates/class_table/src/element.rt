@@ -1,0 +1,60 @@
+//! The elements of classes.
+ghost use Rattle.std.specs.Prelude.{◌≡◌};
+ghost use Rattle.std.specs.Str.{chars};
+ghost use Rattle.semantic_tree.specs.NameView.{name_shown};
+ghost use Rattle.semantic_model.specs.Element.{is_named, stands_alone};
+ghost use Rattle.class_table.specs.Seen.{element_seen};
+
+use semantic_syntax::{ElementKind, Ident, Span};
+use semantic_tree::StaticPropertyName;
+
+/// An element of a class: a method, a property or an accessor.
+#[derive(Drop)]
+pub struct Element<'a> {
+    /// The name of its key.
+    pub name: StaticPropertyName<'a>,
+    /// Where its key stands in the source, in bytes.
+    pub span: Span,
+    /// Whether its key is a private identifier.
+    pub is_private: bool,
+    /// Whether it is marked `static`.
+    pub is_static: bool,
+    pub kind: ElementKind,
+}
+
+impl<'a> Element<'a> {
+    /// An element of these parts.
+    pub fn new(
+        name: StaticPropertyName<'a>,
+        span: Span,
+        is_static: bool,
+        is_private: bool,
+        kind: ElementKind,
+    ) -> Element<'a>
+        ensures { element_seen result ≡ record { name = name_shown name.entry; span = span; is_static = is_static; is_private = is_private; kind = kind } }
+    {
+        Element {
+            name,
+            span,
+            is_private,
+            is_static,
+            kind,
+        }
+    }
+
+    /// Whether it has the name, as a private or as a public one.
+    #[tactic(auto, using(crate::proofs::SameTexts::texts))]
+    pub(crate) fn is_named(&self, name: Ident<'_>, is_private: bool) -> bool
+        ensures { result ≡ is_named (chars name.entry.text.now) is_private (element_seen self.now) }
+    {
+        self.name.as_str() == name.as_str() && self.is_private == is_private
+    }
+
+    /// Whether its name means it alone: an accessor or a property has no second half.
+    pub(crate) fn stands_alone(&self) -> bool
+        ensures { result ≡ stands_alone (element_seen self.now) }
+    {
+        self.kind
+            .intersects(ElementKind::Accessor.union(ElementKind::Property))
+    }
+}

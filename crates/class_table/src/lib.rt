@@ -1,0 +1,12 @@
+//! The classes of a program, with their elements and the uses of private names in them.
+#![tactic(auto)]
+
+pub mod element;
+pub mod element_ids;
+pub mod private_name;
+pub mod table;
+
+pub use element::Element;
+pub use element_ids::ElementIds;
+pub use private_name::PrivateIdentifierReference;
+pub use table::ClassTable;
