@@ -1,11 +1,16 @@
 //! The table of classes.
-ghost use Rattle.std.specs.Prelude.{◌≡◌, ◌∷◌, [], ◌++◌, ◌<◌, length, map, slice_index, IfOk, OnOk, OnErr, IfSome, None, Some};
+ghost use Rattle.std.specs.Prelude.{◌≡◌, ◌∷◌, [], ◌++◌, ◌<◌, ◌≤◌, true, length, map, slice_index, IfOk, OnOk, OnErr, IfSome, option_map, vec_len, vec_capacity};
+ghost use Rattle.std.specs.List.{AllByRecursion, list_any};
+ghost use Rattle.std.specs.Option.{option_to_list};
+ghost use Rattle.std.specs.Str.{chars};
+ghost use Rattle.semantic_model.specs.Element.{is_named, element_ids};
 ghost use Rattle.class_table.specs.Seen.{element_seen, use_seen};
-ghost use Rattle.class_table.specs.Lists.{no_classes, with_class, with_element, with_use, elements_in};
+ghost use Rattle.class_table.specs.Lists.{IsInside, no_classes, with_class, with_element, with_use, elements_in};
 
 use crate::element::Element;
+use crate::element_ids::ElementIds;
 use crate::private_name::PrivateIdentifierReference;
-use semantic_syntax::{ClassId, NodeId};
+use semantic_syntax::{ClassId, ElementId, Ident, NodeId};
 use std::alloc::{AllocError, Global};
 use std::collections::BTreeMap;
 use std::marker::Model;
@@ -66,8 +71,151 @@ impl<'a> ClassTable<'a> {
     /// The elements of a class itself, in order.
     pub fn elements_of(&self, c: ClassId) -> &[Element<'a>]
         requires { c < length self.now.nodes }
-        ensures { map element_seen result.now ≡ elements_in self.now c }
+        ensures elements { map element_seen result.now ≡ elements_in self.now c }
+        ensures numbered { length result.now ≤ u32.MAX }
     {
         self.elements[c.index()].as_slice()
     }
+
+    /// The elements of the class that the name means, as a private or as a public one: the first match alone where it
+    /// is an accessor or a property, else the matches up to and including the first accessor or property, at most two.
+    pub fn get_element_ids(
+        &self,
+        alloc: Global,
+        c: ClassId,
+        name: Ident<'_>,
+        is_private: bool,
+    ) -> Result<ElementIds, AllocError>
+        requires { c < length self.now.nodes }
+        ensures { IfOk result (λ ids. ids ≡ element_ids (elements_in self.now c) (chars name.entry.text.now) is_private) }
+    {
+        ids_of_name(alloc, self.elements_of(c), name, is_private)
+    }
+
+    /// Whether the class itself has a private element of the name.
+    pub fn has_private_definition(&self, c: ClassId, name: Ident<'_>) -> bool
+        requires { c < length self.now.nodes }
+        ensures { result ≡ list_any (is_named (chars name.entry.text.now) true) (elements_in self.now c) }
+    {
+        for element in self.elements_of(c) {
+            if element.is_named(name, true) {
+                return true;
+            }
+        }
+        false
+    }
+
+    /// Adds a class with this node, inside another one or inside none, without elements and uses. After want of
+    /// memory the table is as before.
+    pub fn declare_class(
+        &mut self,
+        parent: Option<ClassId>,
+        node: NodeId,
+    ) -> Result<ClassId, AllocError>
+        requires room { length self.old.nodes < u32.MAX }
+        requires parent { IfSome parent (λ p. p < length self.old.nodes) }
+        ensures id { IfOk result (λ id. id ≡ length self.old.nodes) }
+        ensures ok { OnOk result (self.new ≡ with_class self.old parent node []) }
+        ensures err { OnErr result (self.new ≡ self.old) }
+    {
+        let alloc = *self.declarations.allocator();
+        self.declare_with_elements(parent, node, Vec::new(alloc))
+    }
+
+    /// Adds a class as `declare_class` does, with its elements.
+    pub(crate) fn declare_with_elements(
+        &mut self,
+        parent: Option<ClassId>,
+        node: NodeId,
+        elements: Vec<Element<'a>>,
+    ) -> Result<ClassId, AllocError>
+        requires room { length self.old.nodes < u32.MAX }
+        requires parent { IfSome parent (λ p. p < length self.old.nodes) }
+        requires elements { length elements.items ≤ u32.MAX }
+        ensures id { IfOk result (λ id. id ≡ length self.old.nodes) }
+        ensures ok { OnOk result (self.new ≡ with_class self.old parent node (map element_seen elements.entry.items)) }
+        ensures err { OnErr result (self.new ≡ self.old) }
+    {
+        let alloc = *self.declarations.allocator();
+        let id = ClassId::new(self.declarations.len() as u32);
+        self.declarations.reserve(1)?;
+        self.elements.reserve(1)?;
+        self.private_identifier_references.reserve(1)?;
+        put_inside(&mut self.parent_ids, id, parent)?;
+        push_in_room(&mut self.declarations, node);
+        push_in_room(&mut self.elements, elements);
+        push_in_room(&mut self.private_identifier_references, Vec::new(alloc));
+        Ok(id)
+    }
+
+    /// Adds an element to a class, as its last. After want of memory the table is as before.
+    pub fn add_element(&mut self, c: ClassId, element: Element<'a>) -> Result<(), AllocError>
+        requires class { c < length self.old.nodes }
+        requires room { length (elements_in self.old c) < u32.MAX }
+        ensures ok { OnOk result (self.new ≡ with_element self.old c (element_seen element.entry)) }
+        ensures err { OnErr result (self.new ≡ self.old) }
+    {
+        self.elements[c.index()].push(element)?;
+        Ok(())
+    }
+
+    /// Adds a use of a private name to a class, as its last. After want of memory the table is as before.
+    pub fn add_private_identifier_reference(
+        &mut self,
+        c: ClassId,
+        reference: PrivateIdentifierReference<'a>,
+    ) -> Result<(), AllocError>
+        requires { c < length self.old.nodes }
+        ensures ok { OnOk result (self.new ≡ with_use self.old c (use_seen reference.entry)) }
+        ensures err { OnErr result (self.new ≡ self.old) }
+    {
+        self.private_identifier_references[c.index()].push(reference)?;
+        Ok(())
+    }
+}
+
+/// Notes the class around a new one, if there is one.
+fn put_inside(
+    parents: &mut BTreeMap<ClassId, ClassId>,
+    class: ClassId,
+    parent: Option<ClassId>,
+) -> Result<(), AllocError>
+    requires { AllByRecursion (IsInside class) parents.old.entries }
+    ensures ok { OnOk result (parents.new.entries ≡ parents.old.entries ++ option_to_list (option_map (λ p. (class, p)) parent)) }
+    ensures err { OnErr result (parents.new.entries ≡ parents.old.entries) }
+{
+    if let Some(parent) = parent {
+        parents.insert(class, parent)?;
+    }
+    Ok(())
+}
+
+/// Adds a value to a list that has room for it.
+fn push_in_room<T: Drop>(list: &mut Vec<T>, value: T)
+    requires { vec_len list.old < vec_capacity list.old }
+    ensures { list.new.items ≡ list.old.items ++ value ∷ [] }
+{
+    let _ = list.push(value);
+}
+
+/// The elements that the name means, by one pass.
+fn ids_of_name(
+    alloc: Global,
+    elements: &[Element<'_>],
+    name: Ident<'_>,
+    is_private: bool,
+) -> Result<ElementIds, AllocError>
+    requires { length elements.now ≤ u32.MAX }
+    ensures { IfOk result (λ ids. ids ≡ element_ids (map element_seen elements.now) (chars name.entry.text.now) is_private) }
+{
+    let mut ids = ElementIds::new(alloc);
+    for (number, element) in elements.iter().enumerate() {
+        if element.is_named(name, is_private) {
+            ids.push(ElementId::new(number as u32))?;
+            if ids.len() == 2 || element.stands_alone() {
+                return Ok(ids);
+            }
+        }
+    }
+    Ok(ids)
 }

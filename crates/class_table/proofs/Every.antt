@@ -1,0 +1,28 @@
+-- What holds of each element of a list.
+use Rattle.std.proofs.Common.{◌≡◌, ℕ, ◌<◌, zero, suc, List, [], ◌∷◌, ◌++◌, length, get_or, Result, Ok, Err, OnErr, arith}
+use Rattle.std.specs.List.{AllByRecursion}
+use Rattle.std.proofs.Math.ListN.{set}
+
+module _ {X : Type 0} (P : X → Type 0) where
+  pub every-push : (x : X) (xs : List X) → AllByRecursion P xs → P x → AllByRecursion P (xs ++ x ∷ [])
+  every-push x [] h p = (p, tt)
+  every-push x (y ∷ xs) h p = (h.0, every-push x xs h.1 p)
+
+  pub every-set : (x : X) (xs : List X) (i : ℕ) → AllByRecursion P xs → P x → AllByRecursion P (set xs i x)
+  every-set x [] i h p = tt
+  every-set x (y ∷ xs) zero h p = (p, h.1)
+  every-set x (y ∷ xs) (suc i) h p = (h.0, every-set x xs i h.1 p)
+
+  pub every-at : (d : X) (xs : List X) (i : ℕ) → AllByRecursion P xs → i < length xs → P (get_or xs i d)
+  every-at d [] i h within = absurd (omega arith)
+  every-at d (y ∷ xs) zero h within = h.0
+  every-at d (y ∷ xs) (suc i) h within = every-at d xs i h.1 (omega arith)
+
+pub every-more : {X : Type 0} (P Q : X → Type 0) → ((x : X) → P x → Q x) → (xs : List X) → AllByRecursion P xs → AllByRecursion Q xs
+every-more P Q more [] h = tt
+every-more P Q more (x ∷ xs) h = (more x h.0, every-more P Q more xs h.1)
+
+-- what holds in any case holds on an error
+pub on_err : {T E : Type 0} {P : Type 0} (r : Result T E) → P → OnErr r P
+on_err (Ok x) p = tt
+on_err (Err e) p = p
