@@ -1,12 +1,17 @@
 //! The classes of a program, with their elements and the uses of private names in them.
 #![tactic(auto)]
 
+pub mod ancestors;
 pub mod element;
 pub mod element_ids;
+pub mod iterators;
+mod making;
 pub mod private_name;
 pub mod table;
 
+pub use ancestors::ClassAncestors;
 pub use element::Element;
 pub use element_ids::ElementIds;
+pub use iterators::{ClassesEnumerated, PrivateUses};
 pub use private_name::PrivateIdentifierReference;
 pub use table::ClassTable;

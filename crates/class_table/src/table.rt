@@ -1,14 +1,17 @@
 //! The table of classes.
 ghost use Rattle.std.specs.Prelude.{◌≡◌, ◌∷◌, [], ◌++◌, ◌<◌, ◌≤◌, true, length, map, slice_index, IfOk, OnOk, OnErr, IfSome, option_map, vec_len, vec_capacity};
-ghost use Rattle.std.specs.List.{AllByRecursion, list_any};
+ghost use Rattle.std.specs.List.{AllByRecursion, list_any, enumerate_from};
 ghost use Rattle.std.specs.Option.{option_to_list};
 ghost use Rattle.std.specs.Str.{chars};
 ghost use Rattle.semantic_model.specs.Element.{is_named, element_ids};
 ghost use Rattle.class_table.specs.Seen.{element_seen, use_seen};
-ghost use Rattle.class_table.specs.Lists.{IsInside, no_classes, with_class, with_element, with_use, elements_in};
+ghost use Rattle.class_table.specs.Lists.{IsInside, no_classes, with_class, with_element, with_use, elements_in, uses_in};
+ghost use Rattle.class_table.specs.Outward.{outward};
 
+use crate::ancestors::ClassAncestors;
 use crate::element::Element;
 use crate::element_ids::ElementIds;
+use crate::iterators::{ClassesEnumerated, PrivateUses};
 use crate::private_name::PrivateIdentifierReference;
 use semantic_syntax::{ClassId, ElementId, Ident, NodeId};
 use std::alloc::{AllocError, Global};
@@ -75,6 +78,28 @@ impl<'a> ClassTable<'a> {
         ensures numbered { length result.now ≤ u32.MAX }
     {
         self.elements[c.index()].as_slice()
+    }
+
+    /// A class and those around it, inner first.
+    pub fn ancestors(&self, c: ClassId) -> ClassAncestors<'_>
+        ensures { result ≡ outward self.now.parents c }
+    {
+        ClassAncestors::new(&self.parent_ids, c)
+    }
+
+    /// The classes, each with its node.
+    pub fn iter_enumerated(&self) -> ClassesEnumerated<'_>
+        ensures { result ≡ enumerate_from 0 self.now.nodes }
+    {
+        ClassesEnumerated::new(self.declarations.as_slice())
+    }
+
+    /// The uses of private names in a class, in order.
+    pub fn iter_private_identifiers(&self, c: ClassId) -> PrivateUses<'_>
+        requires { c < length self.now.nodes }
+        ensures { result ≡ uses_in self.now c }
+    {
+        PrivateUses::new(self.private_identifier_references[c.index()].as_slice())
     }
 
     /// The elements of the class that the name means, as a private or as a public one: the first match alone where it
