@@ -2,3 +2,4 @@ pub mod Seen
 pub mod Lists
 pub mod View
 pub mod Outward
+pub mod Building

@@ -2,6 +2,7 @@
 #![tactic(auto)]
 
 pub mod ancestors;
+pub mod builder;
 pub mod element;
 pub mod element_ids;
 pub mod iterators;
@@ -10,6 +11,7 @@ pub mod private_name;
 pub mod table;
 
 pub use ancestors::ClassAncestors;
+pub use builder::ClassTableBuilder;
 pub use element::Element;
 pub use element_ids::ElementIds;
 pub use iterators::{ClassesEnumerated, PrivateUses};

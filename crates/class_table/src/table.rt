@@ -6,9 +6,9 @@ ghost use Rattle.std.specs.Str.{chars};
 ghost use Rattle.semantic_model.specs.Element.{is_named, element_ids};
 ghost use Rattle.class_table.specs.Seen.{element_seen, use_seen};
 ghost use Rattle.class_table.specs.Lists.{IsInside, no_classes, with_class, with_element, with_use, elements_in, uses_in};
-ghost use Rattle.class_table.specs.Outward.{outward};
+ghost use Rattle.class_table.specs.Outward.{parent_in, outward};
 
-use crate::ancestors::ClassAncestors;
+use crate::ancestors::{ClassAncestors, parent_of};
 use crate::element::Element;
 use crate::element_ids::ElementIds;
 use crate::iterators::{ClassesEnumerated, PrivateUses};
@@ -80,6 +80,19 @@ impl<'a> ClassTable<'a> {
         self.elements[c.index()].as_slice()
     }
 
+    /// Where the classes are kept.
+    pub(crate) fn allocator(&self) -> Global {
+        *self.declarations.allocator()
+    }
+
+    /// The class around a class, if it stands inside one.
+    pub(crate) fn parent_of(&self, c: ClassId) -> Option<ClassId>
+        ensures parent { result ≡ parent_in self.now.parents c }
+        ensures before { IfSome result (λ p. p < c) }
+    {
+        parent_of(&self.parent_ids, c)
+    }
+
     /// A class and those around it, inner first.
     pub fn ancestors(&self, c: ClassId) -> ClassAncestors<'_>
         ensures { result ≡ outward self.now.parents c }
@@ -143,7 +156,7 @@ impl<'a> ClassTable<'a> {
         ensures ok { OnOk result (self.new ≡ with_class self.old parent node []) }
         ensures err { OnErr result (self.new ≡ self.old) }
     {
-        let alloc = *self.declarations.allocator();
+        let alloc = self.allocator();
         self.declare_with_elements(parent, node, Vec::new(alloc))
     }
 
@@ -161,7 +174,7 @@ impl<'a> ClassTable<'a> {
         ensures ok { OnOk result (self.new ≡ with_class self.old parent node (map element_seen elements.entry.items)) }
         ensures err { OnErr result (self.new ≡ self.old) }
     {
-        let alloc = *self.declarations.allocator();
+        let alloc = self.allocator();
         let id = ClassId::new(self.declarations.len() as u32);
         self.declarations.reserve(1)?;
         self.elements.reserve(1)?;
