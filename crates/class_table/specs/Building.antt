@@ -1,5 +1,5 @@
 -- The classes as a walk makes them, and the one in whose body it is.
-use Rattle.std.specs.Prelude.{ℕ, ◌<◌, List, [], ◌∷◌, Bool, true, ◌&&◌, cond, Option, Some, None, IfSome, length}
+use Rattle.std.specs.Prelude.{ℕ, ◌<◌, true, ◌&&◌, cond, Option, Some, None, IfSome, length}
 use Rattle.std.specs.Option.{option_map_or}
 use Rattle.semantic_kinds.specs.declared.kind.AstType.{AstType}
 use Rattle.semantic_tree.specs.declared.node.Node.{Node}

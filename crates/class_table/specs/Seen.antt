@@ -1,5 +1,4 @@
 -- What contracts see of an element and of a use.
-use Rattle.std.specs.Prelude.{List, map}
 use Rattle.std.specs.Borrow.{Bor}
 use Rattle.std.specs.Str.{chars}
 use Rattle.semantic_tree.specs.NameView.{name_shown}

@@ -1,7 +1,7 @@
-use Rattle.std.proofs.Common.{◌≡◌, sym, ap, ◌∙◌, length, ◌<◌, subst}
+use Rattle.std.proofs.Common.{ap, length, ◌<◌}
 use Rattle.class_table.specs.Seen.{element_seen}
 use Rattle.class_table.specs.View.{lists_of}
-use Rattle.class_table.specs.Lists.{with_element, elements_in, IsClassLists}
+use Rattle.class_table.specs.Lists.{with_element}
 use Rattle.class_table.proofs.Every.{on_err}
 use Rattle.class_table.proofs.Pushed.{pushed, kept}
 use Rattle.class_table.proofs.Sound.{sound_with_element, within_elements}

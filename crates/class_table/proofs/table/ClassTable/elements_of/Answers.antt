@@ -1,4 +1,4 @@
-use Rattle.std.proofs.Common.{length, ◌<◌, ap, ◌∙◌, sym, arith}
+use Rattle.std.proofs.Common.{length, ◌<◌, ap, ◌∙◌, sym}
 use Rattle.std.proofs.lemmas.List.{length-map}
 use Rattle.class_table.specs.Seen.{element_seen}
 use Rattle.class_table.specs.View.{lists_of}
