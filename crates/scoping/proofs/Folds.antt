@@ -1,8 +1,8 @@
 -- Symbols, as several of them change.
-use Rattle.std.proofs.Common.{◌≡◌, ℕ, ◌<◌, List, [], ◌∷◌, length, get_or, map, fold, refl, sym, ap, ◌∙◌}
+use Rattle.std.proofs.Common.{◌≡◌, ℕ, ◌<◌, List, [], ◌∷◌, length, get_or, map, fold, refl, ap, ◌∙◌}
 use Rattle.std.specs.List.{AllByRecursion}
 use Rattle.std.proofs.lemmas.List.{length-set, get_or_default}
-use Rattle.semantic_syntax.specs.Tables.{Name, Symbol}
+use Rattle.semantic_syntax.specs.Tables.{Name}
 use Rattle.scoping.specs.Names.{name_at}
 use Rattle.scoping.specs.Row.{Row, symbol_of_row, no_row, row_named, row_moved}
 use Rattle.scoping.specs.Writing.{with_name, with_home}

@@ -3,7 +3,7 @@ use Rattle.std.proofs.Common.{◌≡◌, ℕ, ◌<◌, zero, suc, true, List, []
 use Rattle.std.proofs.lemmas.List.{length-map}
 use Rattle.semantic_syntax.specs.Tables.{Scope}
 use Rattle.scoping.specs.Source.{ends_within}
-use Rattle.scoping.specs.Reading.{no_scope, parent_of, IsForest}
+use Rattle.scoping.specs.Reading.{parent_of, IsForest}
 
 abbrev pub parents : List Scope → List (Option ℕ)
 parents xs = map (λ (x : Scope). x.parent) xs

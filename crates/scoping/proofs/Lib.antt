@@ -18,3 +18,7 @@ pub mod Walks
 pub mod TakeOver
 pub mod Reparent
 pub mod Redeclared
+pub mod Sweeps
+pub mod Keeping
+pub mod Typeless
+pub mod Clones

@@ -1,5 +1,5 @@
 -- Bindings that move and are renamed.
-use Rattle.std.proofs.Common.{◌≡◌, ℕ, ◌<◌, ◌==◌, nat_eq, Bool, true, false, cond, if◌then◌else◌, List, [], ◌∷◌, Option, None, Some, length, get_or, map, fold, refl, sym, ap, ◌∙◌}
+use Rattle.std.proofs.Common.{◌≡◌, ℕ, ◌<◌, ◌==◌, nat_eq, Bool, true, false, cond, if◌then◌else◌, List, [], ◌∷◌, Option, None, Some, length, get_or, map, refl, sym, ap, ◌∙◌}
 use Rattle.std.specs.List.{AllByRecursion}
 use Rattle.std.specs.Option.{option_map_or}
 use Rattle.std.specs.Map.{lookup}
@@ -8,7 +8,7 @@ use Rattle.std.proofs.Math.ListN.{set}
 use Rattle.std.proofs.lemmas.List.{length-set, get_or-set_same, set-set}
 use Rattle.std.proofs.lemmas.Bool.{eqb-true, eqb-false, false_from_ne_true}
 use Rattle.indexmap.specs.IndexMap.{insert_entry, shift_remove_entry}
-use Rattle.semantic_syntax.specs.Tables.{Name, Tables, Bindings}
+use Rattle.semantic_syntax.specs.Tables.{Name, Tables}
 use Rattle.scoping.specs.Flat.{Numbered, put, cut, moved_number}
 use Rattle.scoping.specs.Names.{named, IsUnknown, IsNumberOf}
 use Rattle.scoping.specs.View.{IsBoundWithin}

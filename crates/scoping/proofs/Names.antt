@@ -1,6 +1,6 @@
 -- The numbers of names.
-use Rattle.std.proofs.Common.{◌≡◌, ℕ, ◌<◌, ◌≤◌, ◌+◌, ◌==◌, Bool, true, false, not, cond, nat_lt, nat_eq, List, [], ◌∷◌, ◌++◌, Option, None, Some, MatchOption, String, length, get_or, map, refl, sym, ap, subst, ◌∙◌, arith, position, length-append, zero, suc, ⊎_elim, if◌then◌else◌}
-use Rattle.std.specs.List.{IsDistinct, position_or_len, list_any, prefix_len}
+use Rattle.std.proofs.Common.{◌≡◌, ℕ, ◌<◌, ◌≤◌, ◌==◌, Bool, true, false, not, cond, nat_lt, List, [], ◌∷◌, ◌++◌, None, Some, MatchOption, String, length, get_or, map, refl, sym, ap, subst, ◌∙◌, arith, position, length-append, suc, ⊎_elim, if◌then◌else◌}
+use Rattle.std.specs.List.{IsDistinct, position_or_len, list_any}
 use Rattle.std.specs.Str.{bytes_eq}
 use Rattle.std.proofs.lemmas.List.Sums.{fails_before_first, prefix_len_stops}
 use Rattle.std.proofs.lemmas.List.{length-map, get_or-map, map-append}
@@ -9,14 +9,11 @@ use Rattle.std.proofs.lemmas.Slice.Eq.{bytes_eq-Decides}
 use Rattle.std.proofs.Math.ListN.{get_or-append}
 use Rattle.std.proofs.Math.Seq.{get_or-append_seam}
 use Rattle.std.proofs.lemmas.Bool.{cases_lt, ltb-true, ltb-false, eqb-true, eqb-false, eq-eqb, false_from_ne_true}
-use Rattle.std.proofs.lemmas.Bool.Decides.{nat_tests, eqb_tells}
-use Rattle.std.proofs.lemmas.Grind.{common_steps}
 use Rattle.indexmap.specs.IndexSet.{insert_key}
 use Rattle.std.specs.String.{string_bytes}
 use Rattle.std.specs.Str.{chars, IsUtf8, encode_utf8_all}
 use Rattle.std.proofs.lemmas.Str.{encodes-chars, IsUtf8-string_bytes}
 use Rattle.std.proofs.lemmas.Bool.Decides.{same_from_decides}
-use Rattle.std.proofs.Common.{Decides}
 use Rattle.semantic_syntax.specs.Tables.{Name}
 use Rattle.scoping.specs.Names.{name_at, IsUnknown, IsNumberOf, IsInterned}
 

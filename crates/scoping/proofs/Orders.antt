@@ -1,12 +1,11 @@
 -- The numbers that each scope binds, beside the entries.
-use Rattle.std.proofs.Common.{◌≡◌, ℕ, ◌<◌, ◌==◌, nat_eq, Bool, true, false, cond, if◌then◌else◌, List, [], ◌∷◌, ◌++◌, Option, None, Some, length, get_or, map, ◌&&◌, is_some, not, refl, sym, ap, subst, ◌∙◌}
+use Rattle.std.proofs.Common.{◌≡◌, ℕ, ◌<◌, ◌==◌, nat_eq, Bool, true, false, cond, if◌then◌else◌, List, [], ◌∷◌, ◌++◌, Option, None, Some, length, get_or, map, is_some, not, refl, sym, ap, subst, ◌∙◌}
 use Rattle.std.specs.Map.{lookup, keys_of}
 use Rattle.std.specs.Global.{Vec}
 use Rattle.std.proofs.Math.ListN.{set}
 use Rattle.std.proofs.lemmas.List.{map-set, get_or-map, set-get_or}
 use Rattle.indexmap.specs.IndexMap.{insert_entry, shift_remove_entry}
 use Rattle.std.specs.Set.{remove_key}
-use Rattle.std.proofs.lemmas.List.{length-map, length-set}
 use Rattle.indexmap.proofs.CallerLemmas.{keys-shift_remove_entry}
 use Rattle.scoping.specs.Flat.{Entries, Numbered, key_eq, bindings_in, bindings_by_scope, AreOfScopes}
 use Rattle.scoping.proofs.Flat.{lookup-bindings_in, bindings_by_scope-at, bindings_by_scope-insert, bindings_by_scope-remove, length-bindings_by_scope, AreOfScopes-insert, AreOfScopes-remove}

@@ -1,5 +1,5 @@
 -- The declarations of a symbol, as one is dropped.
-use Rattle.std.proofs.Common.{◌≡◌, ℕ, List, [], ◌∷◌, Option, None, Some, refl}
+use Rattle.std.proofs.Common.{◌≡◌, List, [], ◌∷◌, Option, None, Some, refl}
 use Rattle.semantic_syntax.specs.declared.spans.Span.{Span}
 use Rattle.semantic_syntax.specs.declared.references.Redeclaration.{Redeclaration}
 use Rattle.semantic_syntax.specs.Tables.{Name}

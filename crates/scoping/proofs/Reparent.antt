@@ -1,14 +1,14 @@
 -- A scope that gets another parent.
-use Rattle.std.proofs.Common.{◌≡◌, ℕ, ◌<◌, ◌≤◌, ◌+◌, ◌||◌, nat_eq, Bool, true, false, List, [], ◌∷◌, Option, None, Some, IfSome, length, get_or, refl, sym, ap, subst, ◌∙◌, arith, zero, suc}
+use Rattle.std.proofs.Common.{◌≡◌, ℕ, ◌<◌, ◌≤◌, ◌+◌, ◌||◌, nat_eq, Bool, true, false, List, [], Option, None, Some, IfSome, length, get_or, refl, sym, ap, subst, arith, zero, suc}
 use Rattle.std.specs.List.{list_any}
 use Rattle.std.specs.Option.{option_map_or}
 use Rattle.std.proofs.Math.ListN.{set}
 use Rattle.std.proofs.lemmas.List.{length-set, get_or-set_same, get_or-set_other}
-use Rattle.std.proofs.lemmas.Bool.{eqb-true, eqb-false, eq-eqb}
+use Rattle.std.proofs.lemmas.Bool.{eqb-true, eqb-false}
 use Rattle.semantic_syntax.specs.Tables.{Scope}
 use Rattle.scoping.specs.Source.{chain_within, ends_within}
 use Rattle.scoping.specs.Reading.{no_scope, parent_of, chain, IsForest}
-use Rattle.scoping.proofs.Walks.{ends_within-le, ends_in_time, never, one}
+use Rattle.scoping.proofs.Walks.{ends_within-le, ends_in_time, one}
 
 -- walks under other parents for one scope
 module _ (f g : ℕ → Option ℕ) (s : ℕ) (others : (k : ℕ) → nat_eq s k ≡ false → g k ≡ f k) where

@@ -1,5 +1,5 @@
 -- What the tables show, as their parts change.
-use Rattle.std.proofs.Common.{◌≡◌, ℕ, ◌<◌, ◌≤◌, ◌+◌, nat_eq, Bool, true, false, cond, unwrap_or, List, [], ◌∷◌, ◌++◌, Option, None, Some, IfSome, length, get_or, map, refl, sym, ap, subst, ◌∙◌, arith, length-append}
+use Rattle.std.proofs.Common.{◌≡◌, ℕ, ◌<◌, ◌≤◌, nat_eq, Bool, true, false, cond, unwrap_or, List, [], ◌∷◌, ◌++◌, None, Some, IfSome, length, get_or, map, refl, sym, ap, subst, ◌∙◌, arith, length-append}
 use Rattle.std.specs.List.{AllByRecursion}
 use Rattle.std.specs.Global.{Vec}
 use Rattle.std.specs.Map.{lookup}
@@ -18,7 +18,7 @@ use Rattle.scoping.specs.Reading.{no_symbol, no_scope}
 use Rattle.scoping.proofs.Forests.{parents}
 use Rattle.scoping.specs.View.{IsBoundWithin, IsListedWithin, IsSound, tables, scope_of_row}
 use Rattle.scoping.proofs.Every.{every-more, every-at, every-or, every-set, every-push, every-insert, every-remove}
-use Rattle.scoping.proofs.Named.{AreKnown, named-grown, lookup-unknown, remove-unknown, lookup-named, insert-named, remove-named}
+use Rattle.scoping.proofs.Named.{AreKnown, named-grown, lookup-unknown, lookup-named, insert-named, remove-named}
 
 -- tables that have equal parts
 pub tables_eq : (t u : Tables) → t.scopes ≡ u.scopes → t.bindings ≡ u.bindings → t.symbols ≡ u.symbols → t.references ≡ u.references → t.uses ≡ u.uses → t.free ≡ u.free → t.pure_symbols ≡ u.pure_symbols → t ≡ u

@@ -1,12 +1,12 @@
 -- Walks outward that end: they repeat no scope, so they are no longer than there are scopes.
-use Rattle.std.proofs.Common.{◌≡◌, ℕ, ◌<◌, ◌≤◌, ◌+◌, ◌||◌, nat_eq, Bool, true, false, List, [], ◌∷◌, Option, None, Some, IfSome, length, refl, sym, ap, subst, ◌∙◌, arith, zero, suc}
+use Rattle.std.proofs.Common.{◌≡◌, ℕ, ◌<◌, ◌≤◌, ◌||◌, nat_eq, Bool, true, false, List, [], ◌∷◌, Option, None, Some, IfSome, length, refl, sym, ap, subst, ◌∙◌, arith, zero, suc}
 use Rattle.std.specs.List.{list_any, IsDistinct, AllByRecursion}
 use Rattle.std.specs.Option.{option_map_or}
 use Rattle.std.proofs.lemmas.Bool.{eqb-true, eqb-false, false_from_ne_true}
 use Rattle.std.proofs.lemmas.Map.Keys.{IsDistinct-cons}
 use Rattle.std.proofs.lemmas.Map.Steps.{length-le_from_distinct_below}
 use Rattle.scoping.specs.Source.{chain_within, ends_within}
-use Rattle.scoping.proofs.Parents.{ends_within-more, chain_within-more, step_within, end_within}
+use Rattle.scoping.proofs.Parents.{ends_within-more, step_within, end_within}
 
 nothing : IsDistinct nat_eq []
 unfolding IsDistinct

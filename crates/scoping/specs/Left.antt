@@ -1,6 +1,6 @@
 -- What iterators have left.
 use Rattle.std.specs.Prelude.{◌≡◌, ℕ, ◌+◌, ◌<◌, List, [], ◌++◌, length, map, drop, slice_index_or, nat_eq, IsSome, IfSome}
-use Rattle.std.specs.List.{AllByRecursion, range_with_len}
+use Rattle.std.specs.List.{AllByRecursion}
 use Rattle.std.specs.Option.{option_to_list, option_map_or}
 use Rattle.std.specs.Map.{lookup, values_of}
 use Rattle.std.specs.Slice.Iter.{iter_rest}

@@ -12,3 +12,4 @@ pub mod RowLending
 pub mod Numbering
 pub mod Left
 pub mod Redeclared
+pub mod Kept

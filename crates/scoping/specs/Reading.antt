@@ -5,7 +5,7 @@ use Rattle.std.specs.Str.{bytes_eq}
 use Rattle.std.specs.Map.{lookup}
 use Rattle.semantic_syntax.specs.declared.references.Reference.{Reference}
 use Rattle.semantic_syntax.specs.declared.references.Redeclaration.{Redeclaration}
-use Rattle.semantic_syntax.specs.Tables.{Name, Scope, Symbol, Bindings, FreeLists, Tables}
+use Rattle.semantic_syntax.specs.Tables.{Name, Scope, Symbol, Bindings, Tables}
 use Rattle.scoping.specs.Source.{chain_within, ends_within}
 
 -- what stands past the end of a list

@@ -1,5 +1,5 @@
 -- The declarations of a symbol, as one is dropped.
-use Rattle.std.specs.Prelude.{ℕ, ◌==◌, ◌&&◌, Bool, not, List, [], ◌∷◌, Option, None, Some, filter, fold}
+use Rattle.std.specs.Prelude.{◌==◌, ◌&&◌, Bool, not, List, [], ◌∷◌, Option, None, Some, filter, fold}
 use Rattle.std.specs.Int.RustNames.{bit_or}
 use Rattle.semantic_syntax.specs.declared.spans.Span.{Span}
 use Rattle.semantic_syntax.specs.declared.symbol_flags.SymbolFlags.{SymbolFlags}

@@ -1,6 +1,5 @@
 -- A symbol with the number of its name.
-use Rattle.std.specs.Prelude.{ℕ, List, [], ◌∷◌, Option, Some, None, slice_set, slice_index_or}
-use Rattle.std.specs.Option.{unwrap_or}
+use Rattle.std.specs.Prelude.{ℕ, List, Option, None, slice_set, slice_index_or}
 use Rattle.semantic_syntax.specs.declared.spans.Span.{Span}
 use Rattle.semantic_syntax.specs.declared.symbol_flags.SymbolFlags.{SymbolFlags}
 use Rattle.semantic_syntax.specs.declared.references.Redeclaration.{Redeclaration}

@@ -1,5 +1,5 @@
 -- What the tables tell a look-up.
-use Rattle.std.specs.Prelude.{ℕ, length}
+use Rattle.std.specs.Prelude.{length}
 use Rattle.std.specs.Str.{bytes_eq}
 use Rattle.std.specs.Map.{lookup}
 use Rattle.semantic_syntax.specs.Tables.{Tables}

@@ -1,8 +1,7 @@
 -- The tables of the fields, and what is true of the fields.
 use Rattle.std.specs.Prelude.{◌≡◌, ℕ, ◌<◌, List, length, map}
 use Rattle.std.specs.List.{AllByRecursion}
-use Rattle.std.specs.BTreeSet.{keys}
-use Rattle.semantic_syntax.specs.Tables.{Name, Scope, Tables}
+use Rattle.semantic_syntax.specs.Tables.{Scope, Tables}
 use Rattle.scoping.specs.declared.scoping.ScopeRow.{ScopeRow}
 use Rattle.scoping.specs.declared.scoping.Scoping.TheInside.{Inside}
 use Rattle.scoping.specs.Names.{named}

@@ -1,11 +1,14 @@
 //! What each scope binds, by the numbers of names.
-ghost use Rattle.std.specs.Prelude.{◌≡◌, ◌==◌, ◌+◌, ◌<◌, ◌≤◌, fold, [], ◌∷◌, ◌++◌, length, nat_eq, false, None, slice_index_or, slice_set, OnOk, OnErr};
+ghost use Rattle.std.specs.Prelude.{◌≡◌, ◌==◌, ◌+◌, ◌<◌, ◌≤◌, fold, map, [], ◌∷◌, ◌++◌, length, nat_eq, false, None, slice_index_or, slice_set, OnOk, OnErr};
 ghost use Rattle.std.specs.Map.{lookup, keys_of};
 ghost use Rattle.std.specs.List.{IsDistinct};
 ghost use Rattle.indexmap.specs.IndexMap.{insert_entry, shift_remove_entry, spare};
 ghost use Rattle.scoping.specs.Flat.{put, cut, moved_number, rekeyed};
+ghost use Rattle.scoping.specs.Kept.{rows_without_types, bound_of, AreBoundOf};
 
+use crate::kept::stays;
 use crate::places::place_of_number;
+use crate::symbol_row::SymbolRow;
 use indexmap::IndexMap;
 use semantic_syntax::{ScopeId, SymbolId};
 use std::alloc::{AllocError, Global};
@@ -62,6 +65,30 @@ fn rekey_all(
 {
     for number in numbers {
         rekey(entries, from, to, *number);
+    }
+}
+
+/// Drops the numbers that the scope does not bind.
+fn retain_bound(
+    order: &mut Vec<usize>,
+    entries: &IndexMap<(ScopeId, usize), SymbolId>,
+    scope: ScopeId,
+)
+    ensures { order.new.items ≡ bound_of entries.now.entries scope order.old.items }
+{
+    order.retain(|number| entries.contains_key(&(scope, *number)));
+}
+
+/// Drops from the list of each scope the numbers that it does not bind.
+fn retain_bound_in_each(
+    orders: &mut Vec<Vec<usize>>,
+    entries: &IndexMap<(ScopeId, usize), SymbolId>,
+)
+    requires { length orders.old.items < 4294967296 }
+    ensures { AreBoundOf entries.now.entries (map (λ v. v.items) orders.old.items) (map (λ v. v.items) orders.new.items) }
+{
+    for scope in 0..orders.len() {
+        retain_bound(&mut orders[scope], entries, ScopeId::new(scope as u32));
     }
 }
 
@@ -189,6 +216,16 @@ impl BindingTable {
         Ok(())
     }
 
+    /// Unbinds the symbols that go with the types. The others keep their order.
+    pub fn retain_values(&mut self, rows: &[SymbolRow])
+        requires { length self.old < 4294967296 }
+        ensures { self.new ≡ map (rows_without_types rows.now) self.old }
+    {
+        let _count = self.entries.len();
+        self.entries.retain(|_, symbol| stays(rows, *symbol));
+        retain_bound_in_each(&mut self.orders, &self.entries);
+    }
+
     /// Makes room for more scopes and bindings.
     pub fn reserve(&mut self, scopes: usize, bindings: usize) -> Result<(), AllocError>
         ensures { self.new ≡ self.old }
@@ -196,5 +233,17 @@ impl BindingTable {
         self.orders.reserve(scopes)?;
         self.entries.reserve(bindings)?;
         Ok(())
+    }
+}
+
+impl Clone for BindingTable {
+    ghost is_clone = { λ t u. u ≡ t };
+
+    fn clone(&self) -> Result<BindingTable, AllocError> {
+        Ok(BindingTable {
+            alloc: self.alloc,
+            entries: self.entries.clone()?,
+            orders: self.orders.clone()?,
+        })
     }
 }

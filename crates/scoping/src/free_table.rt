@@ -2,10 +2,13 @@
 ghost use Rattle.std.specs.Prelude.{◌≡◌, ◌++◌, [], ◌∷◌, nat_eq, unwrap_or, option_map, map, length, OnOk, OnErr};
 ghost use Rattle.std.specs.Map.{lookup};
 ghost use Rattle.indexmap.specs.IndexMap.{insert_entry};
+ghost use Rattle.scoping.specs.Kept.{delisted, lists_without_types};
 
+use crate::kept::retain_values;
+use crate::places::take_out;
 use indexmap::IndexMap;
 use indexmap::map::Iter;
-use semantic_syntax::ReferenceId;
+use semantic_syntax::{Reference, ReferenceId};
 use std::alloc::{AllocError, Global};
 use std::marker::Model;
 
@@ -50,6 +53,30 @@ impl FreeTable {
         Ok(())
     }
 
+    /// Takes the reference out of the list of the number. The last one takes its place, and an empty list goes.
+    pub fn remove(&mut self, number: usize, reference: ReferenceId)
+        ensures { self.new ≡ delisted (nat_eq number) reference self.old }
+    {
+        let list = match self.lists.get_mut(&number) {
+            Some(list) => list,
+            None => return,
+        };
+        take_out(list, reference);
+        if list.is_empty() {
+            let _list = self.lists.shift_remove(&number);
+        }
+    }
+
+    /// Drops the references of types alone, and then the empty lists.
+    pub fn retain_values(&mut self, references: &[Reference])
+        ensures { self.new ≡ lists_without_types references.now self.old }
+    {
+        self.lists.retain(|_, list| {
+            retain_values(list, references);
+            !list.is_empty()
+        });
+    }
+
     /// The list of the number, if any.
     pub fn get(&self, number: usize) -> Option<&[ReferenceId]>
         ensures { option_map (λ list. list.now) result ≡ lookup (nat_eq number) self.now }
@@ -70,5 +97,16 @@ impl FreeTable {
         ensures { result ≡ length self.now }
     {
         self.lists.len()
+    }
+}
+
+impl Clone for FreeTable {
+    ghost is_clone = { λ t u. u ≡ t };
+
+    fn clone(&self) -> Result<FreeTable, AllocError> {
+        Ok(FreeTable {
+            alloc: self.alloc,
+            lists: self.lists.clone()?,
+        })
     }
 }

@@ -4,6 +4,7 @@
 pub mod binding_table;
 pub mod bindings;
 pub mod free_table;
+pub mod kept;
 pub mod name_table;
 pub mod node_tables;
 pub mod places;

@@ -82,3 +82,14 @@ impl NameTable {
         Ok(())
     }
 }
+
+impl Clone for NameTable {
+    ghost is_clone = { λ t u. u ≡ t };
+
+    fn clone(&self) -> Result<NameTable, AllocError> {
+        Ok(NameTable {
+            alloc: self.alloc,
+            texts: self.texts.clone()?,
+        })
+    }
+}

@@ -5,6 +5,7 @@ ghost use Rattle.std.specs.Ordering.{nat_cmp};
 ghost use Rattle.std.specs.Prelude.{OnOk, OnErr};
 
 mod bound;
+mod clones;
 mod deletions;
 mod free;
 mod loans;

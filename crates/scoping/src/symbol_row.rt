@@ -191,3 +191,18 @@ impl SymbolRow {
         self.redeclarations = None;
     }
 }
+
+impl Clone for SymbolRow {
+    ghost is_clone = { λ x y. y ≡ x };
+
+    fn clone(&self) -> Result<SymbolRow, AllocError> {
+        Ok(SymbolRow {
+            name: self.name,
+            span: self.span,
+            flags: self.flags,
+            scope: self.scope,
+            node: self.node,
+            redeclarations: self.redeclarations.clone()?,
+        })
+    }
+}

@@ -1,12 +1,16 @@
-//! References that are taken out of lists.
-ghost use Rattle.std.specs.Prelude.{◌≡◌, ◌<◌, length, IfSome};
+//! References and bindings that are dropped.
+ghost use Rattle.std.specs.Prelude.{◌≡◌, ◌<◌, length, map, IfSome};
+ghost use Rattle.std.specs.Str.{bytes_eq};
 ghost use Rattle.std.specs.Option.{option_map_or};
 ghost use Rattle.scoping.specs.Reading.{reference_of};
 ghost use Rattle.scoping.specs.Writing.{without_use};
+ghost use Rattle.scoping.specs.Names.{name_of};
+ghost use Rattle.scoping.specs.Kept.{without_marked, without_typescript, delisted};
 
 use super::Scoping;
+use crate::kept::{retain_unmarked_in_each, retain_values_in_each};
 use crate::places::take_out;
-use semantic_syntax::{ReferenceId, SymbolId};
+use semantic_syntax::{Ident, ReferenceId, SymbolId};
 
 impl Scoping {
     /// Takes the reference out of the symbol's uses. The last use takes its place.
@@ -26,5 +30,33 @@ impl Scoping {
         if let Some(symbol) = self.references[reference.index()].symbol_id {
             self.delete_resolved_reference(symbol, reference);
         }
+    }
+
+    /// Takes the reference out of the free list of the name. The last one takes its place, and an empty list goes.
+    pub fn delete_root_unresolved_reference(&mut self, name: Ident<'_>, reference: ReferenceId)
+        ensures { self.new ≡ record self.old { free = delisted (bytes_eq (name_of name.entry)) reference self.old.free } }
+    {
+        if let Some(number) = self.names.find(name) {
+            self.free.remove(number, reference);
+        }
+    }
+
+    /// Drops the marked references from the uses of each symbol. Those past the end of the marks stay. What stays
+    /// keeps its order.
+    pub fn retain_resolved_references_excluding(&mut self, excluded: &[bool])
+        ensures { self.new ≡ record self.old { uses = map (without_marked excluded.now) self.old.uses } }
+    {
+        retain_unmarked_in_each(&mut self.uses, excluded);
+    }
+
+    /// Drops what stands for types alone: from uses and free lists each reference that is used as a type and not by
+    /// value, or for the type of a value; then the empty free lists; and the bindings of type aliases, interfaces,
+    /// type parameters and members of enums. What stays keeps its order.
+    pub fn delete_typescript_bindings(&mut self)
+        ensures { self.new ≡ without_typescript self.old }
+    {
+        self.bindings.retain_values(&self.symbols);
+        retain_values_in_each(&mut self.uses, &self.references);
+        self.free.retain_values(&self.references);
     }
 }

@@ -2,11 +2,12 @@
 ghost use Rattle.std.specs.Prelude.{◌≡◌, ◌<◌, ◌++◌, [], ◌∷◌, length, map, option_map, is_some, ◌==◌, IfOk, OnOk, OnErr, IfSome};
 ghost use Rattle.std.specs.Str.{chars};
 ghost use Rattle.scoping.specs.Reading.{symbol_of, reference_of, uses_of};
+ghost use Rattle.scoping.specs.Kept.{is_mutated};
 ghost use Rattle.scoping.specs.Writing.{with_uses};
 
 use super::Scoping;
 use crate::reference_iterators::{ReferencesIter, UseLists};
-use semantic_syntax::{Reference, ReferenceId, SymbolId};
+use semantic_syntax::{Reference, ReferenceId, SymbolFlags, SymbolId};
 use std::alloc::AllocError;
 
 impl Scoping {
@@ -106,5 +107,24 @@ impl Scoping {
         ensures { result ≡ (length (uses_of self.now symbol) == 0) }
     {
         self.uses[symbol.index()].is_empty()
+    }
+
+    /// Whether the symbol is not a constant, and a use of it writes.
+    pub fn symbol_is_mutated(&self, symbol: SymbolId) -> bool
+        requires { symbol < length self.now.symbols }
+        ensures { result ≡ is_mutated self.now symbol }
+    {
+        if self
+            .symbol_flags(symbol)
+            .contains(SymbolFlags::ConstVariable)
+        {
+            return false;
+        }
+        for reference in self.get_resolved_references(symbol) {
+            if reference.is_write() {
+                return true;
+            }
+        }
+        false
     }
 }

@@ -1,4 +1,4 @@
-use Rattle.std.proofs.Common.{sym, ◌∙◌, ap, length}
+use Rattle.std.proofs.Common.{sym, ◌∙◌}
 use Rattle.scoping.proofs.Flat.{lookup-bindings_in, bindings_by_scope-at, length-bindings_by_scope}
 use Rattle.scoping.proofs.binding_table.BindingTable.get.Goals as goal
 

@@ -1,8 +1,8 @@
-use Rattle.std.proofs.Common.{◌++◌, ◌∷◌, [], length, map, get_or, ap, sym, ◌∙◌, refl}
+use Rattle.std.proofs.Common.{◌++◌, ◌∷◌, [], ap, sym, ◌∙◌}
 use Rattle.std.proofs.lemmas.List.{length-set}
 use Rattle.scoping.proofs.Flat.{length-bindings_by_scope}
-use Rattle.scoping.proofs.Rows.{rows, rows_kept, rows_changed}
-use Rattle.scoping.proofs.Orders.{kept_view, kept_scopes, kept_orders, inserted_view, inserted_scopes, inserted_orders_bound, inserted_orders_new, told_none, told_some}
+use Rattle.scoping.proofs.Rows.{rows_kept, rows_changed}
+use Rattle.scoping.proofs.Orders.{kept_scopes, kept_orders, inserted_view, inserted_scopes, inserted_orders_bound, inserted_orders_new, told_none, told_some}
 use Rattle.scoping.proofs.binding_table.BindingTable.insert.Goals.{then-is_none+in_ok-push, else-is_none}
 use Rattle.scoping.proofs.binding_table.BindingTable.insert.Goals as goal
 

@@ -1,9 +1,9 @@
-use Rattle.std.proofs.Common.{sym, ◌∙◌, ap, length, get_or, []}
+use Rattle.std.proofs.Common.{sym, ◌∙◌, ap, get_or, []}
 use Rattle.std.specs.Map.{keys_of}
 use Rattle.std.proofs.lemmas.List.{get_or-map}
 use Rattle.scoping.proofs.Flat.{bindings_by_scope-at, length-bindings_by_scope}
 use Rattle.scoping.proofs.Orders.{distinct_in}
-use Rattle.scoping.proofs.Rows.{rows, row_at}
+use Rattle.scoping.proofs.Rows.{row_at}
 use Rattle.scoping.proofs.binding_table.BindingTable.numbers.Goals as goal
 
 pub returns-clause-value : goal.returns-clause-value

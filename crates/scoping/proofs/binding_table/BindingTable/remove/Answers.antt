@@ -1,4 +1,4 @@
-use Rattle.std.proofs.Common.{nat_eq, position, length, ap, sym, ◌∙◌}
+use Rattle.std.proofs.Common.{nat_eq, position, ap, sym, ◌∙◌}
 use Rattle.std.specs.Set.{remove_key}
 use Rattle.std.proofs.lemmas.List.{length-set}
 use Rattle.scoping.proofs.Flat.{length-bindings_by_scope}

@@ -1,5 +1,3 @@
-use Rattle.std.proofs.Common.{sym, ap, ◌∙◌}
-use Rattle.scoping.specs.Flat.{cut}
 use Rattle.scoping.proofs.Moves.{rename_commutes}
 use Rattle.scoping.proofs.binding_table.BindingTable.rename.Goals as goal
 

@@ -1,10 +1,10 @@
-use Rattle.std.proofs.Common.{◌≡◌, [], length, map, get_or, fold, refl, sym, ap, ◌∙◌}
+use Rattle.std.proofs.Common.{◌≡◌, [], length, map, get_or, fold, sym, ap, ◌∙◌}
 use Rattle.std.specs.Map.{keys_of}
 use Rattle.std.proofs.Math.ListN.{set}
 use Rattle.std.proofs.lemmas.List.{length-set, map-set, get_or-map}
 use Rattle.scoping.specs.Flat.{bindings_by_scope, bindings_in, rekeyed}
 use Rattle.scoping.proofs.Flat.{length-bindings_by_scope, bindings_by_scope-at}
-use Rattle.scoping.proofs.Rows.{rows, row_at}
+use Rattle.scoping.proofs.Rows.{row_at}
 use Rattle.scoping.proofs.TakeOver.{taken_entries, taken_view, scopes_all}
 use Rattle.scoping.proofs.binding_table.BindingTable.take_over.Goals as goal
 

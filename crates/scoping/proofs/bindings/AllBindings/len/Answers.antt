@@ -1,4 +1,4 @@
-use Rattle.std.proofs.Common.{sym, length, drop, map, arith, length-drop}
+use Rattle.std.proofs.Common.{drop, map, arith, length-drop}
 use Rattle.std.proofs.lemmas.List.{length-map}
 use Rattle.scoping.specs.Names.{named}
 use Rattle.scoping.proofs.Picked.{length-numbered_from}

@@ -1,4 +1,4 @@
-use Rattle.std.proofs.Common.{sym, ap, ◌∙◌}
+use Rattle.std.proofs.Common.{ap, ◌∙◌}
 use Rattle.scoping.specs.Names.{named}
 use Rattle.scoping.specs.Flat.{picked}
 use Rattle.scoping.proofs.Picked.{picked-all, bound_keys, known_keys}

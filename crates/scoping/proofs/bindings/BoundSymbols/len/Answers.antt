@@ -1,4 +1,4 @@
-use Rattle.std.proofs.Common.{[], sym, length, get_or, arith}
+use Rattle.std.proofs.Common.{[], get_or, arith}
 use Rattle.std.specs.Slice.Iter.{iter_rest}
 use Rattle.std.proofs.lemmas.List.{length-map}
 use Rattle.scoping.specs.Flat.{picked}

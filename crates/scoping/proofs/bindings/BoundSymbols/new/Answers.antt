@@ -1,4 +1,4 @@
-use Rattle.std.proofs.Common.{sym, ap, ◌∙◌}
+use Rattle.std.proofs.Common.{ap, ◌∙◌}
 use Rattle.std.specs.Map.{values_of}
 use Rattle.scoping.specs.Flat.{picked}
 use Rattle.scoping.proofs.Picked.{picked-all, bound_keys}

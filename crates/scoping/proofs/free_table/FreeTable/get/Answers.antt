@@ -1,4 +1,4 @@
-use Rattle.std.proofs.Common.{sym, ap, ◌∙◌, nat_eq, Some, None, option_map}
+use Rattle.std.proofs.Common.{ap, nat_eq, Some, option_map}
 use Rattle.scoping.proofs.Entries.{lookup-by_value}
 use Rattle.scoping.proofs.free_table.FreeTable.get.Goals as goal
 

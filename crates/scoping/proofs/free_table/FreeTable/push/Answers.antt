@@ -1,6 +1,4 @@
-use Rattle.std.proofs.Common.{◌≡◌, ◌++◌, ◌∷◌, [], nat_eq, unwrap_or, sym, ◌∙◌, ap, refl}
-use Rattle.std.specs.Global.{Vec}
-use Rattle.std.specs.Map.{lookup}
+use Rattle.std.proofs.Common.{◌++◌, ◌∷◌, [], nat_eq, sym, ◌∙◌, ap}
 use Rattle.indexmap.specs.IndexMap.{insert_entry}
 use Rattle.scoping.proofs.Results.{on_err}
 use Rattle.scoping.proofs.Entries.{by_value, lookup-by_value, insert-by_value, set_value-kept, set_value-inserts}

@@ -1,4 +1,3 @@
-use Rattle.std.proofs.Common.{sym}
 use Rattle.scoping.proofs.Names.{find_text}
 use Rattle.scoping.proofs.name_table.NameTable.find.Goals as goal
 

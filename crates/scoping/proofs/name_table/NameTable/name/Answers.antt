@@ -1,4 +1,4 @@
-use Rattle.std.proofs.Common.{◌∙◌, ap, arith, length, get_or, subst, sym}
+use Rattle.std.proofs.Common.{◌∙◌}
 use Rattle.std.proofs.lemmas.List.{length-map}
 use Rattle.scoping.proofs.Names.{text_bytes}
 use Rattle.scoping.proofs.name_table.NameTable.name.Goals as goal

@@ -1,6 +1,6 @@
-use Rattle.std.proofs.Common.{◌<◌, IfSome, refl, sym, ap, ◌∙◌, length, map, arith, []}
+use Rattle.std.proofs.Common.{◌<◌, sym, ap, ◌∙◌, length, map, arith, []}
 use Rattle.std.specs.Option.{option_map_or}
-use Rattle.std.proofs.lemmas.List.{length-map, get_or_read}
+use Rattle.std.proofs.lemmas.List.{length-map}
 use Rattle.scoping.specs.Reading.{chain}
 use Rattle.scoping.specs.View.{scope_of_row}
 use Rattle.scoping.proofs.Parents.{chain-next, parent_of-read}

@@ -1,4 +1,4 @@
-use Rattle.std.proofs.Common.{sym, length, ap}
+use Rattle.std.proofs.Common.{sym}
 use Rattle.std.proofs.lemmas.List.FromFn.{length-range_with_len}
 use Rattle.scoping.proofs.scope_iterators.ScopeIds.len.Goals as goal
 

@@ -1,7 +1,4 @@
-use Rattle.std.proofs.Common.{◌<◌, [], length, get_or, IfSome, map}
 use Rattle.std.proofs.lemmas.List.{length-map}
-use Rattle.scoping.specs.View.{IsBoundWithin, scope_of_row}
-use Rattle.scoping.specs.Row.{symbol_of_row}
 use Rattle.scoping.proofs.Shown.{bound_at, bound_symbol, shown_at, scope_within}
 use Rattle.scoping.proofs.scoping.Scoping.attest.Goals as goal
 

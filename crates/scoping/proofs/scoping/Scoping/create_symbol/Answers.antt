@@ -1,14 +1,10 @@
-use Rattle.std.proofs.Common.{◌≡◌, ◌+◌, ◌++◌, ◌∷◌, [], None, length, map, get_or, refl, sym, ap, ◌∙◌, arith, length-append}
-use Rattle.std.specs.Str.{bytes_eq}
-use Rattle.std.proofs.Math.ListN.{set}
-use Rattle.std.proofs.lemmas.List.{length-set, length-map, map-append}
-use Rattle.indexmap.specs.IndexMap.{insert_entry}
+use Rattle.std.proofs.Common.{◌++◌, ◌∷◌, [], None, length, refl, ap, ◌∙◌, arith, length-append}
+use Rattle.std.proofs.lemmas.List.{length-map, map-append}
 use Rattle.scoping.specs.Names.{name_of}
-use Rattle.scoping.specs.Row.{Row, symbol_of_row}
+use Rattle.scoping.specs.Row.{Row}
 use Rattle.scoping.proofs.Every.{every-push}
-use Rattle.scoping.proofs.Results.{on_err}
 use Rattle.scoping.proofs.Rows.{rows}
-use Rattle.scoping.proofs.Shown.{tables_eq, bound_more, bound_insert, shown_insert, scope_within, symbols_pushed, tables_interned, sound_interned, bindings_interned, symbols_interned, free_interned}
+use Rattle.scoping.proofs.Shown.{tables_eq, bound_more, symbols_pushed, sound_interned, bindings_interned, symbols_interned, free_interned}
 use Rattle.scoping.proofs.scoping.Scoping.create_symbol.Goals as goal
 
 pub invariant_of-self-2 : goal.invariant_of-self-2

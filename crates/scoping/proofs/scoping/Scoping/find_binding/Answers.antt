@@ -1,4 +1,4 @@
-use Rattle.std.proofs.Common.{◌≡◌, ◌<◌, ◌∷◌, [], length, Some, None, refl, ap, sym, ◌∙◌, arith, IfSome}
+use Rattle.std.proofs.Common.{◌≡◌, [], length, Some, None, ap, sym, ◌∙◌, arith}
 use Rattle.scoping.specs.Names.{name_of}
 use Rattle.scoping.specs.Reading.{parent_of, chain, IsForest, first_bound}
 use Rattle.scoping.proofs.Parents.{chain-step, chain-end, chain-begins, parent_of-read}

@@ -1,4 +1,4 @@
-use Rattle.std.proofs.Common.{[], get_or, map, sym, ap, ◌∙◌}
+use Rattle.std.proofs.Common.{[], get_or, sym, ap, ◌∙◌}
 use Rattle.std.specs.Map.{values_of}
 use Rattle.scoping.proofs.Named.{values-named}
 use Rattle.scoping.proofs.Shown.{shown_at, scope_within}

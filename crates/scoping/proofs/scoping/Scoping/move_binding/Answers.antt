@@ -1,4 +1,4 @@
-use Rattle.std.proofs.Common.{refl, sym, ◌∙◌}
+use Rattle.std.proofs.Common.{sym}
 use Rattle.scoping.specs.View.{tables}
 use Rattle.scoping.proofs.Moves.{bound_moved, length_moved, moved_is, moved_unknown}
 use Rattle.scoping.proofs.Shown.{scope_within, sound_bindings}

@@ -1,4 +1,4 @@
-use Rattle.std.proofs.Common.{refl, sym, ap, ◌∙◌, get_or, []}
+use Rattle.std.proofs.Common.{refl, sym, ap, ◌∙◌, []}
 use Rattle.std.proofs.Math.ListN.{set}
 use Rattle.std.proofs.lemmas.List.{length-set, set-get_or}
 use Rattle.std.specs.Str.{bytes_eq}

@@ -1,17 +1,14 @@
-use Rattle.std.proofs.Common.{◌≡◌, ◌==◌, false, true, Some, None, refl, sym, ap, ◌∙◌, length, subst, map, get_or, []}
-use Rattle.std.proofs.lemmas.List.{length-set}
+use Rattle.std.proofs.Common.{◌≡◌, ◌==◌, false, None, sym, ap, ◌∙◌, map, get_or, []}
 use Rattle.std.proofs.lemmas.Bool.{eq-eqb, false_from_ne_true, eqb-true}
 use Rattle.std.specs.Map.{lookup}
 use Rattle.std.specs.Str.{bytes_eq}
-use Rattle.semantic_syntax.specs.Tables.{Tables, Symbol}
-use Rattle.scoping.specs.Names.{named, name_of, name_at, IsNumberOf}
-use Rattle.scoping.specs.Reading.{symbol_of}
-use Rattle.scoping.specs.Row.{symbol_of_row}
+use Rattle.semantic_syntax.specs.Tables.{Tables}
+use Rattle.scoping.specs.Names.{named, name_of}
 use Rattle.scoping.specs.View.{tables}
-use Rattle.scoping.specs.Writing.{with_symbol, renamed}
+use Rattle.scoping.specs.Writing.{renamed}
 use Rattle.scoping.proofs.Results.{on_err}
 use Rattle.scoping.proofs.Moves.{bound_renamed, length_renamed, rename_is, rename_same}
-use Rattle.scoping.proofs.Shown.{tables_eq, scope_within, symbol_within, sound_bindings, sound_rows, sound_interned, tables_interned, named_set, read_named, read_number, symbol_changed, symbol_at, shown_lookup_unknown, bindings_interned}
+use Rattle.scoping.proofs.Shown.{scope_within, symbol_within, sound_bindings, sound_interned, tables_interned, shown_lookup_unknown, bindings_interned}
 use Rattle.scoping.proofs.scoping.Scoping.rename_binding.Goals as goal
 
 pub returns-in-None-clause-ok : goal.returns-in-None-clause-ok

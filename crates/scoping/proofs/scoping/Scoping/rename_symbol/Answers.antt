@@ -1,4 +1,4 @@
-use Rattle.std.proofs.Common.{◌≡◌, ◌==◌, false, true, Some, None, refl, sym, ap, ◌∙◌, length, subst}
+use Rattle.std.proofs.Common.{◌≡◌, ◌==◌, false, refl, sym, ap, ◌∙◌, subst}
 use Rattle.std.proofs.lemmas.List.{length-set, set-get_or}
 use Rattle.std.proofs.lemmas.Bool.{eq-eqb, false_from_ne_true, eqb-true}
 use Rattle.std.proofs.Math.ListN.{set}
@@ -10,7 +10,7 @@ use Rattle.scoping.specs.View.{tables}
 use Rattle.scoping.specs.Writing.{with_symbol, renamed}
 use Rattle.scoping.proofs.Results.{on_err}
 use Rattle.scoping.proofs.Moves.{bound_renamed, length_renamed, rename_is, rename_same}
-use Rattle.scoping.proofs.Shown.{tables_eq, scope_within, symbol_within, sound_bindings, sound_rows, sound_interned, tables_interned, named_set, read_named, read_number, symbol_changed, symbol_at, shown_lookup_unknown}
+use Rattle.scoping.proofs.Shown.{tables_eq, scope_within, symbol_within, sound_bindings, sound_rows, sound_interned, tables_interned, named_set, read_number, symbol_changed}
 use Rattle.scoping.proofs.scoping.Scoping.rename_symbol.Goals as goal
 
 pub returns-then-new_number-old_number-clause-ok : goal.returns-then-new_number-old_number-clause-ok

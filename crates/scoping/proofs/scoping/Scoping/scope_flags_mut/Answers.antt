@@ -1,4 +1,4 @@
-use Rattle.std.proofs.Common.{refl, ap, ◌∙◌, sym, length}
+use Rattle.std.proofs.Common.{refl, ap, ◌∙◌, sym}
 use Rattle.std.proofs.lemmas.List.{length-set}
 use Rattle.semantic_syntax.specs.Tables.{Scope}
 use Rattle.scoping.proofs.Forests.{IsForest-same}

@@ -1,5 +1,5 @@
-use Rattle.std.proofs.Common.{refl, ◌∙◌, sym, length}
-use Rattle.std.proofs.lemmas.List.{length-set, length-map}
+use Rattle.std.proofs.Common.{refl, ◌∙◌, sym}
+use Rattle.std.proofs.lemmas.List.{length-set}
 use Rattle.scoping.proofs.Reparent.{IsForest-reparent}
 use Rattle.scoping.proofs.Shown.{tables_eq, scope_changed, row_within}
 use Rattle.scoping.proofs.scoping.Scoping.set_scope_parent_id.Goals as goal

@@ -1,7 +1,5 @@
-use Rattle.std.proofs.Common.{refl, ap, ◌∙◌, get_or}
-use Rattle.std.proofs.Math.ListN.{set}
+use Rattle.std.proofs.Common.{refl, ap, ◌∙◌}
 use Rattle.scoping.specs.Names.{name_of}
-use Rattle.scoping.specs.Reading.{no_symbol}
 use Rattle.scoping.specs.Row.{symbol_of_row}
 use Rattle.scoping.specs.Writing.{with_name}
 use Rattle.scoping.proofs.Shown.{tables_eq, symbol_changed, symbol_within, bindings_interned, symbols_interned, free_interned}

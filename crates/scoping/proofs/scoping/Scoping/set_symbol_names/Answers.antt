@@ -1,4 +1,4 @@
-use Rattle.std.proofs.Common.{refl, sym, ap, ◌∙◌, length, fold}
+use Rattle.std.proofs.Common.{refl, ap, ◌∙◌, length, fold}
 use Rattle.std.proofs.lemmas.List.{length-map}
 use Rattle.scoping.specs.Names.{name_of}
 use Rattle.scoping.specs.Writing.{with_name}

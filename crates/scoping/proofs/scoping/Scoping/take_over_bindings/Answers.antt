@@ -2,7 +2,7 @@ use Rattle.std.proofs.Common.{◌≡◌, [], length, map, fold, get_or, refl, sy
 use Rattle.std.specs.List.{AllByRecursion}
 use Rattle.std.specs.Map.{values_of}
 use Rattle.std.proofs.Math.ListN.{set}
-use Rattle.std.proofs.lemmas.List.{length-set, map-set, get_or-set_same, length-map, get_or-map}
+use Rattle.std.proofs.lemmas.List.{length-set, map-set, get_or-set_same}
 use Rattle.scoping.specs.Names.{named}
 use Rattle.scoping.specs.Row.{symbol_of_row}
 use Rattle.scoping.specs.View.{IsBoundWithin}

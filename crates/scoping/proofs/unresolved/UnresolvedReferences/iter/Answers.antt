@@ -1,4 +1,4 @@
-use Rattle.std.proofs.Common.{◌<◌, length, sym}
+use Rattle.std.proofs.Common.{length, sym}
 use Rattle.scoping.proofs.Entries.{known-by_value}
 use Rattle.scoping.proofs.unresolved.UnresolvedReferences.iter.Goals as goal
 

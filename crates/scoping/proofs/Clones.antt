@@ -1,0 +1,35 @@
+-- What clones show.
+use Rattle.std.proofs.Common.{◌≡◌, List, [], ◌∷◌, length, map, refl, sym, ap, ◌∙◌}
+use Rattle.std.specs.List.{AllZip}
+use Rattle.std.proofs.lemmas.List.{length-map}
+use Rattle.scoping.specs.declared.scoping.Scoping.TheInside.{Inside}
+use Rattle.scoping.specs.View.{IsSound}
+use Rattle.scoping.proofs.Rows.{rows}
+
+module _ {X : Type 0} (R : X → X → Type 0) where
+  pub clones_shown : {Y : Type 0} (f : X → Y) → ((x y : X) → R x y → f y ≡ f x) → (xs ys : List X) → AllZip R xs ys → map f ys ≡ map f xs
+  clones_shown f same [] [] h = refl
+  clones_shown f same [] (y ∷ ys) h = absurd h
+  clones_shown f same (x ∷ xs) [] h = absurd h
+  clones_shown f same (x ∷ xs) (y ∷ ys) h = λ j. same x y h.0 j ∷ clones_shown f same xs ys h.1 j
+
+  pub clones_same : ((x y : X) → R x y → y ≡ x) → (xs ys : List X) → AllZip R xs ys → ys ≡ xs
+  clones_same same [] [] h = refl
+  clones_same same [] (y ∷ ys) h = absurd h
+  clones_same same (x ∷ xs) [] h = absurd h
+  clones_same same (x ∷ xs) (y ∷ ys) h = λ j. same x y h.0 j ∷ clones_same same xs ys h.1 j
+
+-- fields that are equal are as sound
+pub sound_same : (a b : Inside) → IsSound a → b.names ≡ a.names → b.scopes.items ≡ a.scopes.items → b.bindings ≡ a.bindings → b.symbols.items ≡ a.symbols.items
+    → b.references.items ≡ a.references.items → rows b.uses.items ≡ rows a.uses.items → b.free ≡ a.free → IsSound b
+sound_same a b sound names scopes bindings symbols references uses free = record {
+  counted = rw (bindings, scopes) sound.counted;
+  bound = rw (names, symbols, bindings) sound.bound;
+  named = rw (names, symbols) sound.named;
+  used = sym (length-map b.uses.items (λ v. v.items)) ∙ ap length uses ∙ length-map a.uses.items (λ v. v.items) ∙ sound.used ∙ sym (ap length symbols);
+  uses = rw (uses, references) sound.uses;
+  free = rw (names, references, free) sound.free;
+  forest = rw scopes sound.forest;
+  symbols_fit = rw symbols sound.symbols_fit;
+  scopes_fit = rw scopes sound.scopes_fit;
+}
