@@ -24,6 +24,8 @@ pub enum Check<'a> {
     Shape,
     /// That its span fits this source.
     Spans(&'a str),
+    /// All of these.
+    All(&'a str),
 }
 
 /// Whether a node at a place does not pass a check.
@@ -34,6 +36,11 @@ pub fn breaks(check: Check<'_>, place: Place, node: &Node) -> bool
         Check::Depth => DEPTH_LIMIT < place.depth,
         Check::Shape => !is_well_formed(place, node),
         Check::Spans(source) => !has_good_span(source, node),
+        Check::All(source) => {
+            DEPTH_LIMIT < place.depth
+                || !is_well_formed(place, node)
+                || !has_good_span(source, node)
+        }
     }
 }
 

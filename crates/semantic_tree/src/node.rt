@@ -142,13 +142,17 @@ impl Children {
         self.nodes.as_slice()
     }
 
-    /// Adds a node as the last one, or hands it back for want of memory.
+    /// Adds a node as the last one, or hands it back for want of memory. Most lists are short, so there is
+    /// no room to spare for up to two nodes.
     #[tactic(auto, using(crate::proofs::Forests::forests))]
     fn push(&mut self, role: Role, child: Node) -> Result<(), Node>
         ensures ok { OnOk result (self.new ≡ join self.old (single role child)) }
         ensures err { OnErr result (self.new ≡ self.old) }
         ensures back { IfErr result (λ given. given ≡ child) }
     {
+        if self.nodes.len() < 2 && self.nodes.reserve_exact(1).is_err() {
+            return Err(child);
+        }
         if let Err(refused) = self.nodes.push((role, child)) {
             let (_, given) = refused.value;
             return Err(given);

@@ -1,6 +1,7 @@
 //! A whole program: its source, its comments and its tree.
 
 ghost use Rattle.std.specs.Prelude.{◌≡◌, ◌<◌, ◌≤◌, Some, None, IfOk, IfErr, IsOk, length};
+ghost use Rattle.std.specs.Option.{option_map};
 ghost use Rattle.std.specs.Str.{chars, encode_utf8_all};
 ghost use Rattle.semantic_tree.specs.Children.{node_count, numbered_node};
 ghost use Rattle.semantic_tree.specs.Limits.{room_left, node_limit, comment_limit};
@@ -8,6 +9,8 @@ ghost use Rattle.semantic_tree.specs.Tree.{IsNumbered, numbered_tree};
 ghost use Rattle.semantic_tree.specs.Renamed.{swapped_tree};
 ghost use Rattle.semantic_tree.specs.Shaped.{IsShaped};
 ghost use Rattle.semantic_tree.specs.Faults.{first_fault, first_bad_comment, is_too_large, form_fault};
+ghost use Rattle.semantic_tree.specs.declared.error.TreeError.TheVariants.{Span};
+ghost use Rattle.semantic_tree.specs.declared.error.SpanFault.TheVariants as span;
 
 use crate::comment::Comment;
 use crate::error::{SpanFault, TreeError};
@@ -87,12 +90,26 @@ fn is_too_large(source: &str, comments: &[Comment], root: &Node) -> bool
         || SOURCE_LIMIT < source.len()
 }
 
-/// The first fault of a tree that is not too large.
+/// The fault of the first bad comment.
+fn comment_fault(source: &str, comments: &[Comment]) -> Option<TreeError>
+    requires { length comments.now ≤ comment_limit }
+    ensures { result ≡ option_map (λ i. Span (span.Comment i)) (first_bad_comment source.now 0 0 comments.now) }
+{
+    let place = first_bad_comment(source, comments)?;
+    Some(TreeError::Span(SpanFault::Comment(place)))
+}
+
+/// The first fault of a tree that is not too large. The whole tree is passed once; only a tree with a
+/// fault is passed again, for the fault that comes first.
 fn form_fault(source: &str, comments: &[Comment], root: &Node) -> Option<TreeError>
     requires nodes { node_count root.now ≤ node_limit }
     requires comments { length comments.now ≤ comment_limit }
     ensures { result ≡ form_fault source.now comments.now root.now }
 {
+    match first_breaking(Check::All(source), Place::root(), root) {
+        None => return comment_fault(source, comments),
+        Some(_) => {}
+    }
     if let Some(id) = first_breaking(Check::Depth, Place::root(), root) {
         return Some(TreeError::TooDeep(id));
     }
@@ -102,10 +119,7 @@ fn form_fault(source: &str, comments: &[Comment], root: &Node) -> Option<TreeErr
     if let Some(id) = first_breaking(Check::Spans(source), Place::root(), root) {
         return Some(TreeError::Span(SpanFault::Node(id)));
     }
-    if let Some(i) = first_bad_comment(source, comments) {
-        return Some(TreeError::Span(SpanFault::Comment(i)));
-    }
-    None
+    comment_fault(source, comments)
 }
 
 impl Program {
