@@ -3,3 +3,4 @@ pub mod Lists
 pub mod View
 pub mod Outward
 pub mod Building
+pub mod Room

@@ -1,5 +1,6 @@
 //! The table of classes, as a walk makes it.
-ghost use Rattle.std.specs.Prelude.{◌≡◌, ◌<◌, ◌≤◌, true, false, None, length, IfSome, OnOk, OnErr};
+ghost use Rattle.std.specs.Prelude.{◌≡◌, ◌<◌, ◌≤◌, ◌&&◌, nat_lt, nat_le, true, false, None, length, IfSome, OnOk, OnErr};
+ghost use Rattle.semantic_tree.specs.Nodes.{trees};
 ghost use Rattle.semantic_kinds.specs.declared.kind.AstType.TheVariants.{MethodDefinition, PropertyDefinition, AccessorProperty};
 ghost use Rattle.semantic_model.specs.Element.{elements_of};
 ghost use Rattle.semantic_model.specs.Class.{uses_under};
@@ -48,6 +49,17 @@ impl<'a> ClassTableBuilder<'a> {
         ensures { result ≡ self.entry.classes }
     {
         self.classes
+    }
+
+    /// Whether there are ids for one more class, and for an element of each child of a body.
+    #[tactic(auto, using(crate::specs::Room::elements_fit_trees))]
+    pub fn has_room(&self, body: AstKind<'_>) -> bool
+        ensures answer { result ≡ (nat_lt (length self.now.classes.nodes) u32.MAX && nat_le (length (trees body.entry.node.now.children)) u32.MAX) }
+        ensures class { result ≡ true → length self.now.classes.nodes < u32.MAX }
+        ensures elements { result ≡ true → length (elements_of body.entry.node.now.children) ≤ u32.MAX }
+    {
+        self.classes.len() < u32::MAX as usize
+            && body.node().children.as_slice().len() <= u32::MAX as usize
     }
 
     /// Declares the class of a body, of the node `parent`, inside the current class and with the elements that its
@@ -142,16 +154,18 @@ impl<'a> ClassTableBuilder<'a> {
         ensures err { OnErr result (self.new ≡ self.old) }
         ensures stays { IsCurrent self.new }
     {
-        let Some(c) = self.current_class_id else {
+        let Some(class) = self.current_class_id else {
             return Ok(());
         };
         if !self.enabled || !uses_under(parent.ty()) {
             return Ok(());
         }
         let alloc = self.classes.allocator();
-        let element_ids = self.classes.get_element_ids(alloc, c, ident.text(), true)?;
+        let element_ids = self
+            .classes
+            .get_element_ids(alloc, class, ident.text(), true)?;
         self.classes.add_private_identifier_reference(
-            c,
+            class,
             PrivateIdentifierReference::new(node, ident.text(), ident.span(), element_ids),
         )
     }

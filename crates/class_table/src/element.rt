@@ -43,7 +43,7 @@ impl<'a> Element<'a> {
     }
 
     /// Whether it has the name, as a private or as a public one.
-    #[tactic(auto, using(crate::proofs::SameTexts::texts))]
+    #[tactic(auto, using(semantic_tree::proofs::SameTexts::texts))]
     pub(crate) fn is_named(&self, name: Ident<'_>, is_private: bool) -> bool
         ensures { result ≡ is_named (chars name.entry.text.now) is_private (element_seen self.now) }
     {
