@@ -15,6 +15,7 @@ pub mod Picked
 pub mod Moves
 pub mod Folds
 pub mod Walks
+pub mod Rekeyed
 pub mod TakeOver
 pub mod Reparent
 pub mod Redeclared
@@ -22,3 +23,4 @@ pub mod Sweeps
 pub mod Keeping
 pub mod Typeless
 pub mod Clones
+pub mod Ancestors

@@ -1,8 +1,8 @@
 -- All bindings in one list of entries: from the pair of a scope and a name's number to a symbol.
-use Rattle.std.specs.Prelude.{◌≡◌, ℕ, ◌<◌, List, [], ◌∷◌, length, map, slice_index_or, ◌==◌, ◌&&◌, Bool, if◌then◌else◌, filter_map, option_map, nat_eq, slice_set}
+use Rattle.std.specs.Prelude.{◌≡◌, ℕ, ◌<◌, List, [], ◌∷◌, length, map, slice_index_or, ◌==◌, ◌&&◌, Bool, if◌then◌else◌, filter_map, option_map, nat_eq, None, slice_set}
 use Rattle.std.specs.Option.{option_map_or}
 use Rattle.indexmap.specs.IndexMap.{insert_entry, shift_remove_entry}
-use Rattle.std.specs.List.{range_with_len}
+use Rattle.std.specs.List.{range_with_len, AllByRecursion}
 use Rattle.std.specs.Map.{keys_of, lookup}
 use Rattle.std.specs.Global.{Vec}
 use Rattle.scoping.specs.declared.binding_table.BindingTable.TheInside.{Inside}
@@ -57,6 +57,11 @@ cut bs s n = slice_set bs s (shift_remove_entry (nat_eq n) (slice_index_or bs s 
 abbrev pub moved_number : List Numbered → ℕ → ℕ → ℕ → List Numbered
 moved_number bs from to n = option_map_or (λ y. cut (put bs to n y) from n) (lookup (nat_eq n) (slice_index_or bs from [])) bs
 
--- the entries with the number's entry under another scope, last
+-- the entries with the number's entry under another scope, in its place
 abbrev pub rekeyed : ℕ → ℕ → Entries → ℕ → Entries
-rekeyed from to es n = option_map_or (insert_entry key_eq (shift_remove_entry (key_eq (from, n)) es) (to, n)) (lookup (key_eq (from, n)) es) es
+rekeyed from to [] n = []
+rekeyed from to (e ∷ es) n = if key_eq (from, n) e.0 then ((to, n), e.1) ∷ es else e ∷ rekeyed from to es n
+
+-- the scope binds none of the numbers
+abbrev pub BindsNone : Entries → ℕ → List ℕ → Type 0
+BindsNone es s ns = AllByRecursion (λ n. lookup (key_eq (s, n)) es ≡ None) ns

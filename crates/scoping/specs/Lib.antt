@@ -13,3 +13,4 @@ pub mod Numbering
 pub mod Left
 pub mod Redeclared
 pub mod Kept
+pub mod Ancestry

@@ -3,7 +3,7 @@ ghost use Rattle.std.specs.Prelude.{◌≡◌, ◌==◌, ◌+◌, ◌<◌, ◌�
 ghost use Rattle.std.specs.Map.{lookup, keys_of};
 ghost use Rattle.std.specs.List.{IsDistinct};
 ghost use Rattle.indexmap.specs.IndexMap.{insert_entry, shift_remove_entry, spare};
-ghost use Rattle.scoping.specs.Flat.{put, cut, moved_number, rekeyed};
+ghost use Rattle.scoping.specs.Flat.{key_eq, put, cut, moved_number, rekeyed, BindsNone};
 ghost use Rattle.scoping.specs.Kept.{rows_without_types, bound_of, AreBoundOf};
 
 use crate::kept::stays;
@@ -37,30 +37,39 @@ impl Model for BindingTable {
     ghost invariant = { IsKept };
 }
 
-/// Puts the number's entry under another scope, last. There is room for it.
+/// Puts the number's entry under another scope, which does not bind it, in its place. There is room for it: the new
+/// entry goes last, and then into the place of the old one.
 fn rekey(
     entries: &mut IndexMap<(ScopeId, usize), SymbolId>,
     from: ScopeId,
     to: ScopeId,
     number: usize,
 )
-    requires { 0 < spare entries.old }
+    requires room { 0 < spare entries.old }
+    requires apart { (from == to) ≡ false }
+    requires absent { lookup (key_eq (to, number)) entries.old.entries ≡ None }
     ensures entries { entries.new.entries ≡ rekeyed from to entries.old.entries number }
     ensures room { spare entries.old ≤ spare entries.new + 1 }
 {
-    if let Some(symbol) = entries.shift_remove(&(from, number)) {
-        let _previous = entries.insert((to, number), symbol);
-    }
+    let symbol = match entries.get(&(from, number)) {
+        Some(symbol) => *symbol,
+        None => return,
+    };
+    let _previous = entries.insert((to, number), symbol);
+    let _symbol = entries.swap_remove(&(from, number));
 }
 
-/// Puts the numbers' entries under another scope, last. There is room for them.
+/// Puts the numbers' entries under another scope, which binds none of them, each in its place. There is room for them.
 fn rekey_all(
     entries: &mut IndexMap<(ScopeId, usize), SymbolId>,
     from: ScopeId,
     to: ScopeId,
     numbers: &[usize],
 )
-    requires { length numbers.now ≤ spare entries.old }
+    requires room { length numbers.now ≤ spare entries.old }
+    requires apart { (from == to) ≡ false }
+    requires absent { BindsNone entries.old.entries to numbers.now }
+    requires distinct { IsDistinct nat_eq numbers.now }
     ensures { entries.new.entries ≡ fold (rekeyed from to) entries.old.entries numbers.now }
 {
     for number in numbers {

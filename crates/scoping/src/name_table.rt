@@ -67,7 +67,7 @@ impl NameTable {
     }
 
     /// A number is its name's only one.
-    pub fn attest(&self, number: usize)
+    pub(crate) fn attest(&self, number: usize)
         requires { number < length self.now }
         ensures { IsNumberOf self.now (name_at self.now number) number }
     {

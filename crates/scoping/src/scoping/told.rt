@@ -9,7 +9,7 @@ use semantic_syntax::{
 };
 
 impl Scoping {
-    /// The parents make no cycle, and each parent and each bound symbol exists.
+    /// The parents make no cycle, and each parent and each bound symbol exists. What walks outward rests on this.
     pub fn attest(&self)
         ensures { IsSource (source_of self.now) }
     {
