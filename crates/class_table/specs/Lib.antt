@@ -4,3 +4,5 @@ pub mod View
 pub mod Outward
 pub mod Building
 pub mod Room
+pub mod Told
+pub mod Noted

@@ -6,6 +6,7 @@ pub mod builder;
 pub mod element;
 pub mod element_ids;
 pub mod iterators;
+pub mod laws;
 mod making;
 pub mod private_name;
 pub mod table;

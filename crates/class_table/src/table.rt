@@ -117,6 +117,7 @@ impl<'a> ClassTable<'a> {
 
     /// The elements of the class that the name means, as a private or as a public one: the first match alone where it
     /// is an accessor or a property, else the matches up to and including the first accessor or property, at most two.
+    #[tactic(auto, using(crate::proofs::Matches::ids_within))]
     pub fn get_element_ids(
         &self,
         alloc: Global,
@@ -125,7 +126,8 @@ impl<'a> ClassTable<'a> {
         is_private: bool,
     ) -> Result<ElementIds, AllocError>
         requires { c < length self.now.nodes }
-        ensures { IfOk result (λ ids. ids ≡ element_ids (elements_in self.now c) (chars name.entry.text.now) is_private) }
+        ensures ids { IfOk result (λ ids. ids ≡ element_ids (elements_in self.now c) (chars name.entry.text.now) is_private) }
+        ensures within { IfOk result (AllByRecursion (λ i. i < length (elements_in self.now c))) }
     {
         ids_of_name(alloc, self.elements_of(c), name, is_private)
     }
