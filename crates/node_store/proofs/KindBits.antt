@@ -1,5 +1,5 @@
 -- Sets of kinds, bit by bit.
-use Rattle.std.proofs.Common.{◌≡◌, ℕ, zero, suc, ◌<◌, List, [], ◌∷◌, Bool, true, false, ◌||◌, length, get_or, slice_set, refl, ◌∙◌, ap, sym, arith}
+use Rattle.std.proofs.Common.{◌≡◌, ℕ, zero, suc, ◌<◌, List, [], ◌∷◌, Bool, true, false, ◌||◌, length, get_or, slice_set, refl, arith}
 use Rattle.std.specs.List.{list_all, list_any}
 use Rattle.semantic_kinds.specs.Kinds.{same_kind}
 use Rattle.node_store.specs.NodeList.{SeenNode}

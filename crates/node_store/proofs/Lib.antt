@@ -1,5 +1,6 @@
 pub mod Frames
 pub mod KindBits
+pub mod KindOrder
 pub mod Paths
 pub mod Rests
 pub mod Ways

@@ -1,8 +1,7 @@
 -- The path to a node of a store.
-use Rattle.std.proofs.Common.{◌≡◌, ℕ, zero, suc, ◌+◌, ◌<◌, List, [], ◌∷◌, length, map, get_or, refl, ap, arith}
+use Rattle.std.proofs.Common.{ℕ, zero, suc, ◌<◌, List, [], ◌∷◌, length, arith}
 use Rattle.std.proofs.lemmas.Option.{slice_get-get_or}
 use Rattle.node_store.specs.NodeList.{NodeList, SeenNode}
-use Rattle.node_store.specs.Outward.{outward_within, outward, numbered_of, kinds_of}
 use Rattle.node_store.specs.PathIn.{path_in}
 
 some_first : (nodes : List SeenNode) → 0 < length nodes → SeenNode

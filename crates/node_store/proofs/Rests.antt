@@ -1,6 +1,6 @@
 -- The nodes that are left from one on.
-use Rattle.std.proofs.Common.{◌≡◌, ℕ, zero, suc, ◌+◌, ◌-◌, ◌<◌, ◌≤◌, List, [], ◌∷◌, length, drop, map, get_or, refl, sym, ap, ◌∙◌, arith, add-one, drop-cons}
-use Rattle.std.proofs.lemmas.List.{length-drop, length-map}
+use Rattle.std.proofs.Common.{◌≡◌, ℕ, suc, ◌+◌, ◌-◌, ◌<◌, ◌≤◌, List, [], ◌∷◌, length, drop, map, get_or, set, refl, ap, ◌∙◌, add-one, drop-cons}
+use Rattle.std.proofs.lemmas.List.{length-drop, length-map, map-set}
 use Rattle.std.proofs.Math.ListN.{drop_of_length-le}
 use Rattle.node_store.specs.NodeList.{SeenNode}
 use Rattle.node_store.specs.Outward.{numbered_from}
@@ -28,3 +28,7 @@ length_numbered n (node ∷ nodes) = ap suc (length_numbered (n + 1) nodes)
 
 pub numbered_length : (nodes : List AstNode) (n m : ℕ) → length (numbered_from m (map seen (drop n nodes))) ≡ length nodes - n
 numbered_length nodes n m = length_numbered m (map seen (drop n nodes)) ∙ seen_length nodes n
+
+-- of nodes of which one is replaced the same one is seen replaced
+pub seen_set : (ns : List AstNode) (i : ℕ) (a : AstNode) → map seen (set ns i a) ≡ set (map seen ns) i (seen a)
+seen_set ns i a = map-set seen ns i a

@@ -1,8 +1,8 @@
 -- The way from a node to the root.
-use Rattle.std.proofs.Common.{◌≡◌, ℕ, zero, suc, ◌+◌, ◌-◌, ◌<◌, ◌≤◌, ◌==◌, List, [], ◌∷◌, length, drop, slice_index, if◌then◌else◌, All, Some, None, refl, sym, ap, subst, ◌∙◌, arith}
+use Rattle.std.proofs.Common.{◌≡◌, ℕ, zero, suc, ◌<◌, ◌==◌, List, [], ◌∷◌, length, drop, slice_index, if◌then◌else◌, All, Some, None, refl, sym, ap, subst, arith}
 use Rattle.std.proofs.lemmas.List.Elements.{All-cons}
 use Rattle.std.proofs.lemmas.Option.{slice_get-get_or, slice_get-map}
-use Rattle.std.proofs.Common.{get_or, map, option_map}
+use Rattle.std.proofs.Common.{get_or, map}
 use Rattle.node_store.specs.Seen.{seen}
 use Rattle.node_store.specs.declared.ast_node.AstNode.{AstNode}
 use Rattle.node_store.specs.NodeList.{StandBefore}

@@ -1,9 +1,10 @@
 //! Sets of kinds of nodes.
-ghost use Rattle.std.specs.Prelude.{◌≡◌, ◌||◌, false};
+ghost use Rattle.std.specs.Prelude.{◌≡◌, ◌||◌, false, map};
 ghost use Rattle.std.specs.List.{list_any, list_all};
+ghost use Rattle.std.specs.List.Sorted.{IsStrictlyIncreasing};
 ghost use Rattle.std.specs.Iterator.{YieldsFirst, item_count};
 ghost use Rattle.semantic_kinds.specs.declared.kind.AstType.{AstType};
-ghost use Rattle.semantic_kinds.specs.Kinds.{same_kind};
+ghost use Rattle.semantic_kinds.specs.Kinds.{same_kind, kind_number};
 ghost use Rattle.node_store.specs.KindSets.{holds, kinds_in, kinds_left};
 
 use semantic_kinds::kind::AstType;
@@ -72,8 +73,10 @@ impl AstTypesBitset {
     }
 
     /// The kinds that are set, in their order, each once.
+    #[tactic(auto, using(crate::proofs::KindOrder::kinds_rise))]
     pub fn iter(&self) -> AstTypesIter<'_>
-        ensures { kinds_left result ≡ kinds_in self.now }
+        ensures kinds { kinds_left result ≡ kinds_in self.now }
+        ensures rising { IsStrictlyIncreasing (map kind_number (kinds_left result)) }
     {
         AstTypesIter {
             set: self,

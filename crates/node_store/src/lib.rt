@@ -13,6 +13,18 @@ pub mod node_iter;
 pub mod nodes;
 pub mod stack;
 pub mod store;
+#[cfg(test)]
+mod tests;
 
+pub use ancestor_kinds::AncestorKinds;
+pub use ancestors::{
+    AstNodeAncestorsIter, AstNodeEnumeratedAncestorsIter, AstNodeIdAncestorsIter,
+    AstNodeKindAncestorsIter,
+};
+pub use ancestry::Ancestry;
 pub use ast_node::AstNode;
+pub use bitset::{AstTypesBitset, AstTypesIter};
+pub use node_iter::{AstNodesEnumerated, AstNodesIter};
 pub use nodes::AstNodes;
+pub use stack::AncestryStack;
+pub use store::{AstNodeStore, AstNodeStoreKind};

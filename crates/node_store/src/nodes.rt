@@ -1,5 +1,5 @@
 //! The store of all nodes of a program.
-ghost use Rattle.std.specs.Prelude.{◌≡◌, ◌-◌, ◌<◌, ◌≤◌, ◌==◌, [], Some, OnOk, OnErr, length, slice_get, slice_index};
+ghost use Rattle.std.specs.Prelude.{◌≡◌, ◌-◌, ◌<◌, ◌≤◌, ◌==◌, [], Some, OnOk, OnErr, length, slice_get, slice_index, slice_set};
 ghost use Rattle.semantic_kinds.specs.declared.kind.AstType.TheVariants.{Program};
 ghost use Rattle.node_store.specs.Seen.{seen};
 ghost use Rattle.node_store.specs.NodeList.{node_at, no_nodes, with_node};
@@ -120,6 +120,15 @@ impl<'a> AstNodes<'a> {
         ensures { slice_get self.now.nodes n ≡ Some (seen result.now) }
     {
         &self.nodes[n.index()]
+    }
+
+    /// Puts a node in the place of the one with this id. The parent and the flags there stay.
+    #[tactic(auto, using(crate::proofs::Rests::seen_set))]
+    pub fn set_node(&mut self, n: NodeId, node: &AstNode<'a>)
+        requires { n < length self.old.nodes }
+        ensures { self.new ≡ record self.old { nodes = slice_set self.old.nodes n (seen node.now) } }
+    {
+        self.nodes[n.index()] = AstNode::new(node.kind(), node.id(), node.scope_id());
     }
 
     /// The flags of a node, to be changed.

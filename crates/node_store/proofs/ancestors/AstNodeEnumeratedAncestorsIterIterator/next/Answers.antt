@@ -1,4 +1,4 @@
-use Rattle.std.proofs.Common.{◌≡◌, length, ap, sym, ◌∙◌, arith}
+use Rattle.std.proofs.Common.{length, ap, arith}
 use Rattle.node_store.proofs.Ways.{rest_is_below, numbered_step}
 use Rattle.node_store.proofs.ancestors.AstNodeEnumeratedAncestorsIterIterator.next.Goals as goal
 

@@ -1,4 +1,4 @@
-use Rattle.std.proofs.Common.{◌≡◌, ◌||◌, sym, ◌∙◌, ap, get_or}
+use Rattle.std.proofs.Common.{◌||◌, sym, ◌∙◌, ap, get_or}
 use Rattle.std.proofs.lemmas.List.Folds.{list_any_more}
 use Rattle.semantic_kinds.specs.declared.kind.AstType.TheVariants.{Program}
 use Rattle.semantic_kinds.specs.Kinds.{same_kind}

@@ -1,4 +1,4 @@
-use Rattle.std.proofs.Common.{arith, rules}
+use Rattle.std.proofs.Common.{rules}
 use denote.Enum.Declared.{tag_of}
 use Rattle.semantic_kinds.specs.contracts.kind.AstType.{the_type as the_kinds}
 use Rattle.node_store.proofs.KindBits.{set_at}

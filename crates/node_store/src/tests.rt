@@ -1,0 +1,127 @@
+//! What no clause says: that the calls succeed with ample memory, and that the paths, counts and sets meant are told.
+ghost use Rattle.std.specs.Prelude.{◌≡◌, IfOk};
+ghost use Rattle.semantic_kinds.specs.declared.kind.AstType.TheVariants.{Program};
+
+use crate::{
+    AncestorKinds, Ancestry, AncestryStack, AstNode, AstNodeStore, AstNodes, AstTypesBitset,
+};
+use semantic_syntax::{NodeFlags, NodeId, ScopeId, Span};
+use semantic_tree::{AstKind, AstType, Marks, Node};
+use std::alloc::{AllocError, Global};
+use std::test::Fail;
+
+// A program's root, as `let a; function f(b) { return b; } f(a);` has it.
+fn root(alloc: Global) -> Result<Node, AllocError>
+    ensures { IfOk result (λ made. made.kind ≡ Program) }
+{
+    Node::new(
+        alloc,
+        AstType::Program,
+        Span::new(0, 40),
+        "",
+        Marks::empty(),
+    )
+}
+
+// Its first statement.
+fn statement(alloc: Global) -> Result<Node, AllocError> {
+    let mut made = Node::new(
+        alloc,
+        AstType::VariableDeclaration,
+        Span::new(0, 6),
+        "let",
+        Marks::empty(),
+    )?;
+    made.node_id = NodeId::new(1);
+    Ok(made)
+}
+
+fn is_program_alone(kinds: AncestorKinds<'_, '_>) -> bool {
+    let mut left = kinds;
+    match left.next() {
+        Some(kind) => kind.ty() == AstType::Program && left.next().is_none(),
+        None => false,
+    }
+}
+
+#[test]
+fn a_store_tells_the_path(rt: HostRuntime) -> Result<(), Fail> {
+    let root = root(rt.alloc())?;
+    let statement = statement(rt.alloc())?;
+    let mut nodes = AstNodes::new(rt.alloc());
+    nodes.reserve(2)?;
+    let scope = ScopeId::new(0);
+    let first = NodeId::new(1);
+    let flags = NodeFlags::empty();
+    nodes.add_program_node(AstKind::new(&root), scope, flags)?;
+    nodes.add_node(first, AstKind::new(&statement), scope, NodeId::ROOT, flags)?;
+    assert_eq!(rt; nodes.len(), 2);
+    assert_eq!(rt; nodes.parent_id(first), NodeId::ROOT);
+    let above = Ancestry::Nodes {
+        nodes: &nodes,
+        current_node_id: first,
+    };
+    assert!(rt; is_program_alone(above.ancestor_kinds()));
+    let from_root = Ancestry::Nodes {
+        nodes: &nodes,
+        current_node_id: first,
+    };
+    assert!(rt; is_program_alone(from_root.ancestor_kinds_from(Some(NodeId::ROOT))));
+    Ok(())
+}
+
+#[test]
+fn a_stack_tells_the_path(rt: HostRuntime) -> Result<(), Fail> {
+    let root = root(rt.alloc())?;
+    let statement = statement(rt.alloc())?;
+    let mut stack = AncestryStack::new(rt.alloc());
+    stack.push(AstKind::new(&root))?;
+    stack.push(AstKind::new(&statement))?;
+    assert_eq!(rt; stack.current_node_id(), NodeId::new(1));
+    assert!(rt; is_program_alone(stack.ancestor_kinds()));
+    let above = Ancestry::Stack(&stack);
+    assert!(rt; is_program_alone(above.ancestor_kinds()));
+    let from_root = Ancestry::Stack(&stack);
+    assert!(rt; is_program_alone(from_root.ancestor_kinds_from(Some(NodeId::ROOT))));
+    Ok(())
+}
+
+#[test]
+fn a_node_is_put_in_place_of_another(rt: HostRuntime) -> Result<(), Fail> {
+    let root = root(rt.alloc())?;
+    let statement = statement(rt.alloc())?;
+    let mut nodes = AstNodes::new(rt.alloc());
+    let scope = ScopeId::new(0);
+    nodes.add_program_node(AstKind::new(&root), scope, NodeFlags::empty())?;
+    let other = AstNode::new(AstKind::new(&statement), NodeId::ROOT, scope);
+    nodes.set_node(NodeId::ROOT, &other);
+    assert!(rt; nodes.contains(AstType::VariableDeclaration));
+    Ok(())
+}
+
+#[test]
+fn room_is_no_node(rt: HostRuntime) -> Result<(), Fail> {
+    let mut store = AstNodeStore::new(rt.alloc());
+    store.reserve(2)?;
+    assert_eq!(rt; store.node_count(), 0);
+    store.set_build_nodes(true);
+    store.reserve(2)?;
+    assert_eq!(rt; store.node_count(), 0);
+    assert!(rt; store.into_nodes().is_empty());
+    Ok(())
+}
+
+#[test]
+fn kinds_are_told_in_order(rt: HostRuntime) {
+    let kinds = [
+        AstType::Program,
+        AstType::AssignmentPattern,
+        AstType::TSTupleType,
+    ];
+    let set = AstTypesBitset::from_types(&[kinds[2], kinds[0], kinds[1], kinds[0]]);
+    let mut told = set.iter();
+    for kind in kinds {
+        assert_eq!(rt; told.next(), Some(kind));
+    }
+    assert_eq!(rt; told.next(), None);
+}
