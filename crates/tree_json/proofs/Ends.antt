@@ -1,15 +1,13 @@
 -- What a reading is, where its bytes are a written form of a program.
-use Rattle.std.proofs.Common.{◌≡◌, ◌∙◌, inl, inr, List, ℕ, Some, None, Result, Ok, Err, IfOk, IfErr, ap, sym}
+use Rattle.std.proofs.Common.{◌≡◌, ◌∙◌, inl, inr, List, ℕ, None, Result, Ok, Err, IfOk, IfErr, Vec, Global, ap, sym}
 use Rattle.semantic_tree.specs.Faults.{first_fault}
 use Rattle.semantic_tree.specs.Tree.{Tree, IsNumbered}
 use Rattle.semantic_tree.specs.declared.error.TreeError.{TreeError}
 use Rattle.semantic_tree.specs.declared.error.TreeError.TheVariants.{NotJson, Shape, TooMany, TooDeep, Span, Memory}
 use Rattle.tree_json.specs.Outcome.{IsWantOfMemory}
 use Rattle.tree_json.specs.Reading.{Listed, listed, reading, Refuses}
-use Rattle.std.specs.Str.{IsUtf8}
-use Rattle.serde_json.specs.Data.{Data}
-use Rattle.serde_json.specs.Read.{read}
-use Rattle.tree_json.specs.WrittenForm.{IsWrittenForm, IsReadAs}
+use Rattle.std.specs.declared.alloc.AllocError.{AllocError}
+use Rattle.tree_json.specs.WrittenForm.{AreWrittenForm, IsReadAs}
 use Rattle.tree_json.proofs.Finds.{reading-found}
 use Rattle.tree_json.proofs.Laws.{listing-injective}
 
@@ -46,6 +44,11 @@ read-as (Err e) read p says q_numbered refused is numbered sound =
     only_memory e (λ other. not_refused read p e is numbered sound (refused other))
 
 pub read-found : (result : Result Tree TreeError) (bytes : List ℕ) → IfOk result (λ p. reading bytes ≡ Ok (listed p))
-    → IfOk result (λ p. IsUtf8 bytes × ((d : Data) × (read bytes ≡ Some d) × IsWrittenForm d p))
+    → IfOk result (λ p. AreWrittenForm bytes p)
 read-found (Ok p) bytes says = reading-found bytes p says
 read-found (Err e) bytes says = tt
+
+pub written-found : (result : Result (Vec ℕ Global) AllocError) (p : Tree) → IfOk result (λ b. reading b.items ≡ Ok (listed p))
+    → IfOk result (λ b. AreWrittenForm b.items p)
+written-found (Ok b) p says = reading-found b.items p says
+written-found (Err e) p says = tt

@@ -1,6 +1,8 @@
 -- Which JSON values are written forms of a program.
-use Rattle.std.specs.Prelude.{◌≡◌, Some, Result, Ok, Err}
+use Rattle.std.specs.Prelude.{◌≡◌, ℕ, List, Some, Result, Ok, Err}
+use Rattle.std.specs.Str.{IsUtf8}
 use Rattle.serde_json.specs.Data.{Data}
+use Rattle.serde_json.specs.Read.{read}
 use Rattle.semantic_tree.specs.Tree.{Tree}
 use Rattle.semantic_tree.specs.declared.error.TreeError.{TreeError}
 use Rattle.tree_json.specs.Lines.{listing}
@@ -19,6 +21,10 @@ pub record IsWrittenForm (d : Data) (p : Tree) : Type 0 where
   pub texts : Texts
   pub told : texts_in top.texts ≡ Some texts
   pub rows : all_items (line_of_data texts) top.rows ≡ Some (listing p.root)
+
+-- the bytes are the JSON text of a written form of the program
+abbrev pub AreWrittenForm : List ℕ → Tree → Type 0
+AreWrittenForm bytes p = IsUtf8 bytes × ((d : Data) × (read bytes ≡ Some d) × IsWrittenForm d p)
 
 -- the program, or want of memory
 abbrev pub IsReadAs : Tree → Result Tree TreeError → Type 0

@@ -3,7 +3,7 @@ ghost use Rattle.std.specs.Prelude.{◌≡◌, Some, None, ◌<◌, ◌≤◌, �
 ghost use Rattle.std.specs.Str.{IsUtf8, chars};
 ghost use Rattle.serde_json.specs.Data.{Data};
 ghost use Rattle.serde_json.specs.Read.{read};
-ghost use Rattle.tree_json.specs.WrittenForm.{IsWrittenForm, IsReadAs};
+ghost use Rattle.tree_json.specs.WrittenForm.{IsWrittenForm, AreWrittenForm, IsReadAs};
 ghost use Rattle.serde_json.specs.View.{view as data_of, items_view};
 ghost use Rattle.semantic_tree.specs.Tree.{Tree, IsNumbered};
 ghost use Rattle.semantic_tree.specs.Faults.{first_fault};
@@ -47,8 +47,7 @@ pub fn read_program(alloc: Global, bytes: &[u8]) -> Result<Program, TreeError>
     // Which refusal it is.
     ensures refused { IfErr result (λ e. ¬ IsWantOfMemory e → Refuses (reading bytes.now) e) }
     // What is read is a written form.
-    ensures found { IfOk result (λ p. IsUtf8 bytes.now
-        × ((d : Data) × (read bytes.now ≡ Some d) × IsWrittenForm d p)) }
+    ensures found { IfOk result (λ p. AreWrittenForm bytes.now p) }
     // Each written form of a shaped program is read.
     ensures complete { (d : Data) (p : Tree) → IsUtf8 bytes.now → read bytes.now ≡ Some d
         → IsWrittenForm d p → IsNumbered p.root → IsShaped p → IsReadAs p result }

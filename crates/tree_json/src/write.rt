@@ -9,6 +9,7 @@ ghost use Rattle.tree_json.specs.Lines.{listing};
 ghost use Rattle.tree_json.specs.Listing.{line};
 ghost use Rattle.tree_json.specs.Views.{characters, places_view, IsSpelled, AreSpelled};
 ghost use Rattle.tree_json.specs.Reading.{reading, listed};
+ghost use Rattle.tree_json.specs.WrittenForm.{AreWrittenForm};
 ghost use Rattle.tree_json.specs.Written.{texts_of, comment_data, rows_data, text_data, object_data, program_data, Each, IsReadable};
 
 use crate::list::push_rows;
@@ -32,9 +33,10 @@ struct Parts {
 }
 
 /// The compact text of the program's written form in format 1: keys in order, marks in the order of
-/// their table. Reading it gives the program again.
+/// their table. Reading it gives the program again, or want of memory.
 pub fn write_program(alloc: Global, program: &Program) -> Result<Vec<u8>, AllocError>
     ensures text { IfOk result (λ bytes. bytes.items ≡ compact_text (program_data in_rows program.now)) }
+    ensures written { IfOk result (λ bytes. AreWrittenForm bytes.items program.now) }
     ensures again { IfOk result (λ bytes. reading bytes.items ≡ Ok (listed program.now)) }
 {
     let rows = rows_of(alloc, program)?;
@@ -46,6 +48,7 @@ pub fn write_program(alloc: Global, program: &Program) -> Result<Vec<u8>, AllocE
 pub fn write_program_with_texts(alloc: Global, program: &Program) -> Result<Vec<u8>, AllocError>
     ensures text { IfOk result (λ bytes. bytes.items
         ≡ compact_text (program_data (in_list (texts_of program.now)) program.now)) }
+    ensures written { IfOk result (λ bytes. AreWrittenForm bytes.items program.now) }
     ensures again { IfOk result (λ bytes. reading bytes.items ≡ Ok (listed program.now)) }
 {
     let rows = rows_of(alloc, program)?;
