@@ -1,5 +1,5 @@
 -- A class body makes at most one element for each of its children.
-use Rattle.std.specs.Prelude.{◌≡◌, ℕ, ◌+◌, ◌≤◌, List, [], ◌∷◌, Bool, true, false, if◌then◌else◌, Option, Some, None, length, filter_map}
+use Rattle.std.specs.Prelude.{◌≤◌, List, [], ◌∷◌, Bool, true, false, if◌then◌else◌, Option, Some, None, length, filter_map}
 use Rattle.std.specs.List.{cons_option}
 use Rattle.std.proofs.Common.{arith}
 use Rattle.semantic_kinds.specs.declared.role.Role.{Role}
@@ -8,7 +8,7 @@ use Rattle.semantic_kinds.specs.Roles.{same_role}
 use Rattle.semantic_tree.specs.Forest.{Forest, nothing, tree, count}
 use Rattle.semantic_tree.specs.Nodes.{trees, nodes_in}
 use Rattle.semantic_tree.specs.declared.node.Node.{Node}
-use Rattle.semantic_model.specs.Element.{Element, element_of, elements_of}
+use Rattle.semantic_model.specs.Element.{element_of, elements_of}
 
 module _ {A B : Type 0} (f : A → Option B) where
   fewer_made : (xs : List A) → length (filter_map f xs) ≤ length xs
