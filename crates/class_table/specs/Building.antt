@@ -1,5 +1,5 @@
 -- The classes as a walk makes them, and the one in whose body it is.
-use Rattle.std.specs.Prelude.{ℕ, ◌<◌, true, ◌&&◌, cond, Option, Some, None, IfSome, length}
+use Rattle.std.specs.Prelude.{ℕ, ◌<◌, ◌^◌, ◌-◌, true, ◌&&◌, cond, Option, Some, None, IfSome, length}
 use Rattle.std.specs.Option.{option_map_or}
 use Rattle.semantic_kinds.specs.declared.kind.AstType.{AstType}
 use Rattle.semantic_tree.specs.declared.node.Node.{Node}
@@ -12,6 +12,10 @@ use Rattle.class_table.specs.declared.builder.ClassTableBuilder.{ClassTableBuild
 -- the current class is there
 abbrev pub IsCurrent : ClassTableBuilder → Type 0
 IsCurrent b = IfSome b.current_class_id (λ c. c < length b.classes.nodes)
+
+-- there is an id for the element that a member makes in the current class
+abbrev pub HasRoomFor : ClassTableBuilder → Node → Type 0
+HasRoomFor b member = IfSome b.current_class_id (λ c. IfSome (element_of member) (λ e. length (elements_in b.classes c) < 2 ^ 32 - 1))
 
 -- the class of a body, with its elements, is current
 abbrev pub with_body : ClassTableBuilder → Node → ℕ → ClassTableBuilder

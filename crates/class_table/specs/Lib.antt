@@ -3,6 +3,5 @@ pub mod Lists
 pub mod View
 pub mod Outward
 pub mod Building
-pub mod Room
 pub mod Told
 pub mod Noted

@@ -1,11 +1,11 @@
 //! The table of classes, as a walk makes it.
-ghost use Rattle.std.specs.Prelude.{◌≡◌, ◌<◌, ◌≤◌, ◌&&◌, nat_lt, nat_le, true, false, None, length, IfSome, OnOk, OnErr};
+ghost use Rattle.std.specs.Prelude.{◌≡◌, ◌<◌, ◌≤◌, ◌&&◌, nat_lt, nat_le, true, false, None, length, OnOk, OnErr};
 ghost use Rattle.semantic_tree.specs.Nodes.{trees};
 ghost use Rattle.semantic_kinds.specs.declared.kind.AstType.TheVariants.{MethodDefinition, PropertyDefinition, AccessorProperty};
 ghost use Rattle.semantic_model.specs.Element.{elements_of};
 ghost use Rattle.semantic_model.specs.Class.{uses_under};
-ghost use Rattle.class_table.specs.Lists.{no_classes, elements_in};
-ghost use Rattle.class_table.specs.Building.{IsCurrent, with_body, with_member, with_use_under, popped};
+ghost use Rattle.class_table.specs.Lists.{no_classes};
+ghost use Rattle.class_table.specs.Building.{IsCurrent, HasRoomFor, with_body, with_member, with_use_under, popped};
 
 use crate::making::{element_of, elements_of_body};
 use crate::private_name::PrivateIdentifierReference;
@@ -52,7 +52,7 @@ impl<'a> ClassTableBuilder<'a> {
     }
 
     /// Whether there are ids for one more class, and for an element of each child of a body.
-    #[tactic(auto, using(crate::specs::Room::elements_fit_trees))]
+    #[tactic(auto, using(crate::proofs::Room::elements_fit_trees))]
     pub fn has_room(&self, body: AstKind<'_>) -> bool
         ensures answer { result ≡ (nat_lt (length self.now.classes.nodes) u32.MAX && nat_le (length (trees body.entry.node.now.children)) u32.MAX) }
         ensures class { result ≡ true → length self.now.classes.nodes < u32.MAX }
@@ -91,7 +91,7 @@ impl<'a> ClassTableBuilder<'a> {
     pub fn declare_class_accessor(&mut self, element: AstKind<'a>) -> Result<(), AllocError>
         requires kind { element.node.now.kind ≡ AccessorProperty }
         requires current { IsCurrent self.old }
-        requires room { IfSome self.old.current_class_id (λ c. length (elements_in self.old.classes c) < u32.MAX) }
+        requires room { HasRoomFor self.old element.node.now }
         ensures ok { OnOk result (self.new ≡ with_member self.old element.entry.node.now) }
         ensures err { OnErr result (self.new ≡ self.old) }
         ensures stays { IsCurrent self.new }
@@ -103,7 +103,7 @@ impl<'a> ClassTableBuilder<'a> {
     pub fn declare_class_property(&mut self, element: AstKind<'a>) -> Result<(), AllocError>
         requires kind { element.node.now.kind ≡ PropertyDefinition }
         requires current { IsCurrent self.old }
-        requires room { IfSome self.old.current_class_id (λ c. length (elements_in self.old.classes c) < u32.MAX) }
+        requires room { HasRoomFor self.old element.node.now }
         ensures ok { OnOk result (self.new ≡ with_member self.old element.entry.node.now) }
         ensures err { OnErr result (self.new ≡ self.old) }
         ensures stays { IsCurrent self.new }
@@ -115,7 +115,7 @@ impl<'a> ClassTableBuilder<'a> {
     pub fn declare_class_method(&mut self, element: AstKind<'a>) -> Result<(), AllocError>
         requires kind { element.node.now.kind ≡ MethodDefinition }
         requires current { IsCurrent self.old }
-        requires room { IfSome self.old.current_class_id (λ c. length (elements_in self.old.classes c) < u32.MAX) }
+        requires room { HasRoomFor self.old element.node.now }
         ensures ok { OnOk result (self.new ≡ with_member self.old element.entry.node.now) }
         ensures err { OnErr result (self.new ≡ self.old) }
         ensures stays { IsCurrent self.new }
@@ -126,7 +126,7 @@ impl<'a> ClassTableBuilder<'a> {
     /// Adds the element that a member makes, if it makes one, to the current class, if there is one.
     fn declare_member(&mut self, member: AstKind<'a>) -> Result<(), AllocError>
         requires current { IsCurrent self.old }
-        requires room { IfSome self.old.current_class_id (λ c. length (elements_in self.old.classes c) < u32.MAX) }
+        requires room { HasRoomFor self.old member.node.now }
         ensures ok { OnOk result (self.new ≡ with_member self.old member.entry.node.now) }
         ensures err { OnErr result (self.new ≡ self.old) }
         ensures stays { IsCurrent self.new }

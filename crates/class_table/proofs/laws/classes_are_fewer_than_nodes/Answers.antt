@@ -1,5 +1,5 @@
 use Rattle.std.proofs.Common.{arith}
-use Rattle.class_table.specs.Room.{elements_fit_trees, trees_fit}
+use Rattle.class_table.proofs.Room.{elements_fit_trees, trees_fit}
 use Rattle.class_table.proofs.Noting.{classes_fit}
 use Rattle.class_table.proofs.laws.classes_are_fewer_than_nodes.Goals as goal
 
