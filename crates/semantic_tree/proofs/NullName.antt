@@ -1,5 +1,5 @@
 -- The name of null.
-use Rattle.std.proofs.Common.{◌≡◌, ℕ, zero, suc, codes, sym, arith}
+use Rattle.std.proofs.Common.{◌≡◌, zero, suc, codes, sym, arith}
 use Rattle.std.specs.Str.{chars, IsAscii}
 use Rattle.std.proofs.lemmas.Str.{encodes-IsAscii, chars_from_encodes, IsUtf8-from_ascii}
 

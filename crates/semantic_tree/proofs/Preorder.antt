@@ -8,12 +8,11 @@ use Rattle.semantic_kinds.specs.declared.role.Role.{Role}
 use Rattle.semantic_kinds.specs.declared.marks.Marks.{Marks}
 use Rattle.semantic_syntax.specs.declared.spans.Span.{Span}
 use Rattle.semantic_tree.specs.Forest.{Forest, nothing, tree, count, numbered}
-use Rattle.semantic_tree.specs.Children.{forest_of, numbered_node}
+use Rattle.semantic_tree.specs.Children.{numbered_node}
 use Rattle.semantic_tree.specs.Nodes.{trees}
 use Rattle.semantic_tree.specs.Tree.{IsNumbered, IsPreorder}
 use Rattle.semantic_tree.specs.BoundNames.{binds_by, bound_below, bound_names, rising}
 use Rattle.semantic_tree.specs.declared.node.Node.{Node}
-use Rattle.semantic_tree.proofs.Forests.{numbered_twice, count-numbered}
 
 -- the ids rise from the first number, and stay below the second
 abbrev Between : ℕ → ℕ → List Node → Type 0

@@ -1,14 +1,9 @@
 -- A program with other names is numbered and shaped as it was.
-use Rattle.std.proofs.Common.{◌≡◌, ℕ, zero, suc, ◌+◌, ◌==◌, List, [], ◌∷◌, ◌++◌, Bool, true, false, ◌&&◌, ◌||◌, not, if◌then◌else◌, nat_lt, Option, Some, None, option_map, length, take, drop, map, codes, refl, ap, sym, ◌∙◌, arith}
+use Rattle.std.proofs.Common.{◌≡◌, ℕ, zero, suc, ◌+◌, ◌==◌, List, [], ◌∷◌, ◌++◌, Bool, true, false, ◌&&◌, ◌||◌, not, if◌then◌else◌, nat_lt, Some, option_map, length, take, drop, map, codes, refl, ap, sym, ◌∙◌, arith}
 use Rattle.std.specs.Str.{bytes_eq, encode_utf8_all}
-use Rattle.std.specs.List.{list_all}
 use Rattle.std.proofs.lemmas.List.{length-map}
 use Rattle.semantic_kinds.specs.Roles.{same_role}
-use Rattle.semantic_kinds.specs.Classes.{is_of}
 use Rattle.semantic_kinds.specs.Parts.{parts}
-use Rattle.semantic_kinds.specs.Texts.{may_have_text}
-use Rattle.semantic_kinds.specs.Allowed.{allowed_marks}
-use Rattle.semantic_kinds.specs.MarkSets.{set_of, is_within}
 use Rattle.semantic_kinds.specs.declared.kind.AstType.{AstType}
 use Rattle.semantic_kinds.specs.declared.kind.AstType.TheVariants as kinds
 use Rattle.semantic_kinds.specs.declared.role.Role.{Role}
@@ -16,21 +11,20 @@ use Rattle.semantic_kinds.specs.declared.role.Role.TheVariants as roles
 use Rattle.semantic_kinds.specs.declared.class.Class.{Class}
 use Rattle.semantic_kinds.specs.declared.part.Part.{Part}
 use Rattle.semantic_tree.specs.Forest.{Forest, nothing, tree, count, numbered}
-use Rattle.semantic_tree.specs.Children.{node_count, numbered_node}
+use Rattle.semantic_tree.specs.Children.{numbered_node}
 use Rattle.semantic_tree.specs.Limits.{node_limit, comment_limit, source_limit}
 use Rattle.semantic_tree.specs.Nodes.{trees, nodes_in}
 use Rattle.semantic_tree.specs.Tree.{Tree, IsNumbered}
 use Rattle.semantic_tree.specs.Place.{root_place, child_place, placed_below, all_placed}
 use Rattle.semantic_tree.specs.Fit.{allows, lead, all_of, is_run, fit}
-use Rattle.semantic_tree.specs.Rules.{is_method_value, is_member_name, number_in, stands, is_rooted, keeps_table, names_foreign, is_well_formed}
-use Rattle.semantic_tree.specs.Sound.{is_sound, shows_sign, has_good_span}
+use Rattle.semantic_tree.specs.Rules.{is_method_value, is_member_name, number_in, stands, keeps_table}
+use Rattle.semantic_tree.specs.Sound.{shows_sign}
 use Rattle.semantic_tree.specs.Faults.{first_where, is_too_deep, is_misshapen, has_bad_span, first_bad_comment, or_fault, form_fault, first_fault}
-use Rattle.semantic_tree.specs.Renamed.{is_named, renamed_text, setting_below, renamed, renamed_node, renamed_tree}
+use Rattle.semantic_tree.specs.Renamed.{renamed_text, setting_below, renamed, renamed_node, renamed_tree}
 use Rattle.semantic_tree.specs.declared.node.Node.{Node}
 use Rattle.semantic_tree.specs.declared.place.Place.{Place}
 use Rattle.semantic_tree.specs.declared.swap.Setting.{Setting}
 use Rattle.semantic_tree.specs.declared.swap.Setting.TheVariants.{Elsewhere}
-use Rattle.semantic_tree.specs.declared.error.TreeError.{TreeError}
 use Rattle.semantic_tree.specs.declared.error.TreeError.TheVariants.{Shape, TooMany, TooDeep, Span}
 use Rattle.semantic_tree.specs.declared.error.SpanFault.TheVariants as span
 use Rattle.semantic_tree.proofs.Faults.{or_else, first_where-append}

@@ -1,14 +1,10 @@
 -- Names whose ids rise.
-use Rattle.std.proofs.Common.{◌≡◌, ℕ, ◌+◌, ◌<◌, ◌≤◌, nat_le, List, [], ◌∷◌, ◌++◌, Bool, true, false, if◌then◌else◌, Option, Some, None, length, drop, get_or, refl, ap, sym, ◌∙◌, arith}
+use Rattle.std.proofs.Common.{◌≡◌, ℕ, ◌+◌, ◌<◌, ◌≤◌, nat_le, List, [], ◌∷◌, ◌++◌, true, false, if◌then◌else◌, Option, Some, None, length, drop, get_or, refl, ap, sym, ◌∙◌, arith}
 use Rattle.std.proofs.lemmas.Bool.Decides.{nat_tests}
-use Rattle.semantic_kinds.specs.Kinds.{same_kind}
 use Rattle.semantic_kinds.specs.declared.kind.AstType.{AstType}
-use Rattle.semantic_kinds.specs.declared.kind.AstType.TheVariants as kinds
 use Rattle.semantic_kinds.specs.declared.role.Role.{Role}
-use Rattle.semantic_tree.specs.Forest.{Forest, nothing, tree, count, numbered}
 use Rattle.semantic_tree.specs.Children.{forest_of}
 use Rattle.semantic_tree.specs.Nodes.{first_of}
-use Rattle.semantic_tree.specs.Tree.{IsPreorder}
 use Rattle.semantic_tree.specs.BoundNames.{binds_by, bound_below, bound_names, given_names, rising}
 use Rattle.semantic_tree.specs.declared.node.Node.{Node}
 use Rattle.semantic_tree.proofs.Fits.{drop_here}

@@ -1,5 +1,5 @@
 -- Wrappers are taken off one by one.
-use Rattle.std.proofs.Common.{◌≡◌, ℕ, ◌<◌, ◌+◌, ap, ◌∙◌, List, [], ◌∷◌, Bool, true, false, Option, Some, None, if◌then◌else◌, refl, arith}
+use Rattle.std.proofs.Common.{◌≡◌, ℕ, ◌<◌, ◌+◌, ap, ◌∙◌, List, ◌∷◌, Bool, true, false, Option, Some, None, if◌then◌else◌, refl, arith}
 use Rattle.semantic_tree.specs.Forest.{Forest, nothing, tree, count}
 use Rattle.semantic_kinds.specs.Roles.{same_role}
 use Rattle.semantic_kinds.specs.declared.kind.AstType.{AstType}

@@ -1,5 +1,5 @@
 -- The children of a node in one role.
-use Rattle.std.specs.Prelude.{List, [], ◌∷◌, Bool, if◌then◌else◌, Option, Some, None}
+use Rattle.std.specs.Prelude.{List, [], ◌∷◌, if◌then◌else◌, Option, Some, None}
 use Rattle.semantic_tree.specs.Forest.{Forest, nothing, tree}
 use Rattle.semantic_kinds.specs.declared.role.Role.{Role}
 pub use Rattle.semantic_kinds.specs.Roles.{same_role}

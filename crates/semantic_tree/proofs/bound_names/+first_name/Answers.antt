@@ -1,4 +1,4 @@
-use Rattle.std.proofs.Common.{◌≡◌, ◌<◌, length, Some, ap, sym, ◌∙◌, arith}
+use Rattle.std.proofs.Common.{◌<◌, length, ap, sym, ◌∙◌, arith}
 use Rattle.semantic_tree.specs.Nodes.{first_of}
 use Rattle.semantic_tree.proofs.Rising.{found_in_child, child_without, child_apart}
 use Rattle.semantic_tree.proofs.bound_names.+first_name.Goals as goal

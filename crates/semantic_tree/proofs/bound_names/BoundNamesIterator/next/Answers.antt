@@ -1,4 +1,4 @@
-use Rattle.std.proofs.Common.{◌≡◌, List, [], ◌∷◌, ◌++◌, Option, Some, None, ap, sym, ◌∙◌}
+use Rattle.std.proofs.Common.{◌≡◌, ◌∷◌, ◌++◌, Option, Some, None, ap, sym, ◌∙◌}
 use Rattle.std.specs.Iterator.{YieldsFirstBy}
 use Rattle.semantic_tree.specs.ChildIter.{shown}
 use Rattle.semantic_tree.specs.NameIter.{own_name, names_below, names_left}

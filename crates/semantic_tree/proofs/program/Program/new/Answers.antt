@@ -1,4 +1,4 @@
-use Rattle.std.proofs.Common.{◌≡◌, ℕ, ◌+◌, List, Bool, true, false, ◌||◌, if◌then◌else◌, nat_lt, Option, Some, None, length, ap, sym, ◌∙◌}
+use Rattle.std.proofs.Common.{◌≡◌, ℕ, ◌+◌, List, true, false, ◌||◌, if◌then◌else◌, nat_lt, Option, Some, None, length, ap, sym, ◌∙◌}
 use Rattle.std.specs.Str.{encode_utf8_all}
 use Rattle.semantic_tree.specs.Children.{numbered_node}
 use Rattle.semantic_tree.specs.Limits.{node_limit, comment_limit, source_limit}

@@ -1,8 +1,7 @@
-use Rattle.std.proofs.Common.{◌≡◌, true, false, ap, sym, ◌∙◌}
+use Rattle.std.proofs.Common.{◌≡◌, true, ap, sym, ◌∙◌}
 use Rattle.semantic_kinds.specs.declared.role.Role.TheVariants as roles
 use Rattle.semantic_tree.specs.KindGroups.{is_wrapper}
-use Rattle.semantic_tree.specs.Unwrapped.{inner_expression}
-use Rattle.semantic_tree.proofs.Wrappers.{child_in_below, unwrapped_child_in, unwrapped_alone, unwrapped_none}
+use Rattle.semantic_tree.proofs.Wrappers.{child_in_below, unwrapped_child_in, unwrapped_alone}
 use Rattle.semantic_tree.proofs.view.AstKind.get_inner_expression.Goals as goal
 
 pub loop-kind-smaller : goal.loop-kind-smaller

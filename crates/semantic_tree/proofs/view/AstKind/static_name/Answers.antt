@@ -1,4 +1,4 @@
-use Rattle.std.proofs.Common.{◌≡◌, List, ℕ, Some, sym, ap, ◌∙◌}
+use Rattle.std.proofs.Common.{Some, sym, ap, ◌∙◌}
 use Rattle.semantic_tree.specs.KeyNames.{static_name_by}
 use Rattle.semantic_tree.proofs.NullName.{null_shown}
 use Rattle.semantic_tree.proofs.view.AstKind.static_name.Goals as goal
