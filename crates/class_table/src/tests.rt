@@ -19,11 +19,10 @@ fn with(mut node: Node, role: Role, child: Node) -> Result<Node, AllocError> {
     }
 }
 
-/// The property `#x`.
-fn property(alloc: Global) -> Result<Node, AllocError> {
+/// The property or accessor `#x`.
+fn field(alloc: Global, kind: AstType) -> Result<Node, AllocError> {
     let key = leaf(alloc, AstType::PrivateIdentifier, (10, 12), "x")?;
-    let property = leaf(alloc, AstType::PropertyDefinition, (10, 12), "")?;
-    with(property, Role::Key, key)
+    with(leaf(alloc, kind, (10, 12), "")?, Role::Key, key)
 }
 
 /// The method `m`, with a text and a body without statements.
@@ -42,7 +41,7 @@ fn method(alloc: Global, text: &str) -> Result<Node, AllocError> {
 /// The body of `class C { #x; m() {} }`.
 fn class_body(alloc: Global) -> Result<Node, AllocError> {
     let body = leaf(alloc, AstType::ClassBody, (10, 30), "")?;
-    let body = with(body, Role::Body, property(alloc)?)?;
+    let body = with(body, Role::Body, field(alloc, AstType::PropertyDefinition)?)?;
     with(body, Role::Body, method(alloc, "method")?)
 }
 
@@ -138,5 +137,41 @@ fn a_class_and_its_uses_are_built(rt: HostRuntime) -> Result<(), Fail> {
     assert_eq!(rt; table.get_node_id(class).index(), 1);
     assert_eq!(rt; table.elements_of(class).len(), 2);
     assert_eq!(rt; table.iter_private_identifiers(class).len(), 1);
+    Ok(())
+}
+
+/// How many elements a member makes in a class that has none yet.
+fn made(alloc: Global, member: AstKind<'_>) -> Result<usize, AllocError> {
+    let mut builder = ClassTableBuilder::new(alloc);
+    let class = builder.classes.declare_class(None, NodeId::new(1))?;
+    builder.current_class_id = Some(class);
+    match member.ty() {
+        AstType::AccessorProperty => builder.declare_class_accessor(member)?,
+        AstType::PropertyDefinition => builder.declare_class_property(member)?,
+        AstType::MethodDefinition => builder.declare_class_method(member)?,
+        _ => {}
+    }
+    if class.index() < builder.classes.len() {
+        Ok(builder.classes.elements_of(class).len())
+    } else {
+        Ok(0)
+    }
+}
+
+#[test]
+fn members_make_elements(rt: HostRuntime) -> Result<(), Fail> {
+    let alloc = rt.alloc();
+    let property = field(alloc, AstType::PropertyDefinition)?;
+    let accessor = field(alloc, AstType::AccessorProperty)?;
+    let plain = method(alloc, "method")?;
+    let constructor = method(alloc, "constructor")?;
+    for (member, elements) in [
+        (&property, 1),
+        (&accessor, 1),
+        (&plain, 1),
+        (&constructor, 0),
+    ] {
+        assert_eq!(rt; made(alloc, AstKind::new(member))?, elements);
+    }
     Ok(())
 }
