@@ -1,9 +1,9 @@
 -- The lists fit on, whatever is told more.
-use Rattle.std.proofs.Common.{◌≡◌, ℕ, ◌+◌, ◌<◌, ◌≤◌, List, [], ◌∷◌, ◌++◌, true, false, cond, Option, None, Some, IfSome, length, map, refl, sym, ap, ◌∙◌, arith, length-append}
-use Rattle.std.specs.Prelude.{option_map, nat_eq}
+use Rattle.std.proofs.Common.{◌≡◌, ℕ, ◌+◌, ◌<◌, ◌≤◌, List, [], ◌∷◌, ◌++◌, true, false, cond, Option, None, Some, IfSome, length, map, refl, sym, ap, ◌∙◌, arith, length-append, zero, suc, add-zero, zero-add}
+use Rattle.std.specs.Prelude.{option_map, slice_get, nat_eq}
 use Rattle.std.specs.List.{AllByRecursion}
 use Rattle.std.specs.Map.{lookup}
-use Rattle.std.specs.Option.{option_to_list}
+use Rattle.std.specs.Option.{option_and_then, option_to_list}
 use Rattle.std.proofs.Math.ListN.{length-set}
 use Rattle.std.proofs.lemmas.List.{get_or_append_left, length-map}
 use Rattle.semantic_model.specs.Element.{Element}
@@ -106,3 +106,17 @@ around n es current cs h = found_later n es _ h ∙ by current
     by : (c : Option ℕ) → lookup (nat_eq n) (option_to_list (option_map (λ p. (n, p)) c) ++ parents_from (n + 1) cs) ≡ c
     by None = found_none n (n + 1) cs (omega arith)
     by (Some p) = ap (λ b. cond b (Some p) (lookup (nat_eq n) (parents_from (n + 1) cs))) same
+
+-- a table tells the class around each class
+told_from : (n i : ℕ) (cs : List Class) → parent_in (parents_from n cs) (n + i) ≡ option_and_then (λ c. c.parent) (slice_get cs i)
+told_from n i [] = refl
+told_from n zero (c ∷ cs) = ap (parent_in (parents_from n (c ∷ cs))) (add-zero n) ∙ around n [] c.parent cs tt
+told_from n (suc i) (c ∷ cs) =
+    let place : n + suc i ≡ n + 1 + i = omega arith in
+    let later : n < n + suc i = omega arith in
+    found_later (n + suc i) (option_to_list (option_map (λ p. (n, p)) c.parent)) (parents_from (n + 1) cs) (below_here n (n + suc i) c.parent later)
+    ∙ ap (parent_in (parents_from (n + 1) cs)) place
+    ∙ told_from (n + 1) i cs
+
+pub told_parent : (cs : List Class) (c : ℕ) → parent_in (parents_from 0 cs) c ≡ option_and_then (λ k. k.parent) (slice_get cs c)
+told_parent cs c = ap (parent_in (parents_from 0 cs)) (sym (zero-add c)) ∙ told_from 0 c cs

@@ -1,10 +1,12 @@
 //! Laws of the table of classes: each is the contract of a function that does nothing.
-ghost use Rattle.std.specs.Prelude.{◌≡◌, ◌≤◌, false, length};
+ghost use Rattle.std.specs.Prelude.{◌≡◌, ◌≤◌, ℕ, List, false, length, slice_get};
+ghost use Rattle.std.specs.Option.{option_and_then};
 ghost use Rattle.semantic_tree.specs.Forest.{Forest, count};
 ghost use Rattle.semantic_tree.specs.declared.node.Node.{Node};
-ghost use Rattle.semantic_model.specs.Class.{classes};
+ghost use Rattle.semantic_model.specs.Class.{Class, classes};
 ghost use Rattle.semantic_model.specs.Element.{elements_of};
 ghost use Rattle.class_table.specs.Noted.{noted, begun};
+ghost use Rattle.class_table.specs.Outward.{parent_in};
 ghost use Rattle.class_table.specs.Told.{lists_told};
 ghost use Rattle.class_table.specs.declared.builder.ClassTableBuilder.{ClassTableBuilder};
 
@@ -20,4 +22,9 @@ pub fn a_walk_notes_the_classes()
 pub fn classes_are_fewer_than_nodes()
     ensures classes { (root : Node) → length (classes root) ≤ count root.children }
     ensures elements { (body : Forest) → length (elements_of body) ≤ count body }
+{}
+
+/// A table that tells some classes tells the class around each.
+pub fn a_table_tells_parents()
+    ensures { (cs : List Class) (c : ℕ) → parent_in (lists_told cs).parents c ≡ option_and_then (λ k. k.parent) (slice_get cs c) }
 {}
