@@ -1,6 +1,8 @@
 // The report of what was found in a program.
 #![tactic(auto)]
 
+pub mod class_lines;
+pub mod count_lines;
 pub mod counts;
 pub mod diagnostic_line;
 pub mod flags;

@@ -1,0 +1,144 @@
+// Inputs, and what the program makes of them.
+use report::ReportStatus;
+
+/// An input and words, and what the program makes of them.
+#[derive(Clone, Copy)]
+pub struct Case {
+    pub name: &'static str,
+    pub words: &'static [&'static str],
+    pub input: &'static str,
+    pub status: ReportStatus,
+    pub out: &'static str,
+    pub errs: &'static str,
+}
+
+/// The tree of `let a; function f(b) { return b; } f(a);`.
+pub const FUNCTION: &str =
+    r#"{"comments":[],"format":1,"goal":"script","lang":"js","rows":[[0,"root","Program",0,40,"",[]],[1,"body","VariableDeclaration",0,6,"let",[]],[2,"declarators","VariableDeclarator",4,5,"",[]],[3,"id","BindingIdentifier",4,5,"a",[]],[1,"body","Function",7,34,"declaration",[]],[2,"id","BindingIdentifier",16,17,"f",[]],[2,"params","FormalParameters",18,19,"formal",[]],[3,"items","FormalParameter",18,19,"",[]],[4,"pattern","BindingIdentifier",18,19,"b",[]],[2,"body","FunctionBody",30,31,"",[]],[3,"body","ReturnStatement",30,31,"",[]],[4,"argument","IdentifierReference",30,31,"b",[]],[1,"body","ExpressionStatement",35,38,"",[]],[2,"expression","CallExpression",35,38,"",[]],[3,"callee","IdentifierReference",35,36,"f",[]],[3,"arguments","IdentifierReference",37,38,"a",[]]],"source":"let a; function f(b) { return b; } f(a);"}"#;
+
+/// Its report.
+pub const FUNCTION_REPORT: &str =
+    "scope 0 parent - node 0 flags Top\nbind 0 \"a\" 0\nbind 0 \"f\" 1\nscope 1 parent 0 node 4 flags Function\nbind 1 \"b\" 2\nsymbol 0 \"a\" scope 0 node 2 span 4-5 flags BlockScopedVariable\nuses 0 2\nsymbol 1 \"f\" scope 0 node 4 span 16-17 flags Function\nuses 1 1\nsymbol 2 \"b\" scope 1 node 7 span 18-19 flags FunctionScopedVariable\nuses 2 0\nref 0 \"b\" node 11 scope 1 flags Read symbol 2\nref 1 \"f\" node 14 scope 0 flags Read symbol 1\nref 2 \"a\" node 15 scope 0 flags Read symbol 0\n";
+
+pub const CASES: &[Case] = &[
+    Case {
+        name: "a declaration, a function and a call",
+        words: &[],
+        input: FUNCTION,
+        status: ReportStatus::Clean,
+        out: FUNCTION_REPORT,
+        errs: "",
+    },
+    Case {
+        name: "an empty program",
+        words: &[],
+        input: r#"{"format":1,"source":"","goal":"script","lang":"js","comments":[],"rows":[[0,"root","Program",0,0,"",[]]]}"#,
+        status: ReportStatus::Clean,
+        out: "scope 0 parent - node 0 flags Top\n",
+        errs: "",
+    },
+    Case {
+        name: "a use before its var",
+        words: &[],
+        input: r#"{"comments":[],"format":1,"goal":"script","lang":"js","rows":[[0,"root","Program",0,9,"",[]],[1,"body","ExpressionStatement",0,1,"",[]],[2,"expression","IdentifierReference",0,1,"x",[]],[1,"body","VariableDeclaration",7,8,"var",[]],[2,"declarators","VariableDeclarator",7,8,"",[]],[3,"id","BindingIdentifier",7,8,"x",[]]],"source":"x; var x;"}"#,
+        status: ReportStatus::Clean,
+        out: "scope 0 parent - node 0 flags Top\nbind 0 \"x\" 0\nsymbol 0 \"x\" scope 0 node 4 span 7-8 flags FunctionScopedVariable\nuses 0 0\nref 0 \"x\" node 2 scope 0 flags Read symbol 0\n",
+        errs: "",
+    },
+    Case {
+        name: "not JSON",
+        words: &[],
+        input: r#"{"format":1"#,
+        status: ReportStatus::Tree,
+        out: "",
+        errs: "tree: not JSON\n",
+    },
+    Case {
+        name: "no input",
+        words: &[],
+        input: r#""#,
+        status: ReportStatus::Tree,
+        out: "",
+        errs: "tree: not JSON\n",
+    },
+    Case {
+        name: "a fraction as end",
+        words: &[],
+        input: r#"{"format":1,"source":"","goal":"script","lang":"js","comments":[],"rows":[[0,"root","Program",0,0.5,"",[]]]}"#,
+        status: ReportStatus::Tree,
+        out: "",
+        errs: "tree: shape at node 0\n",
+    },
+    Case {
+        name: "an unknown kind",
+        words: &[],
+        input: r#"{"format":1,"source":"","goal":"script","lang":"js","comments":[],"rows":[[0,"root","Programme",0,0,"",[]]]}"#,
+        status: ReportStatus::Tree,
+        out: "",
+        errs: "tree: shape at node 0\n",
+    },
+    Case {
+        name: "a declarator without a name",
+        words: &[],
+        input: r#"{"comments":[],"format":1,"goal":"script","lang":"js","rows":[[0,"root","Program",0,16,"",[]],[1,"body","VariableDeclaration",0,10,"let",[]],[2,"declarators","VariableDeclarator",4,9,"",[]],[3,"init","NumericLiteral",8,9,"1",["decimal"]],[1,"body","ExpressionStatement",11,16,"",[]],[2,"expression","AssignmentExpression",11,16,"=",[]],[3,"left","IdentifierReference",11,12,"a",[]],[3,"right","NumericLiteral",15,16,"2",["decimal"]]],"source":"let a = 1; a = 2"}"#,
+        status: ReportStatus::Tree,
+        out: "",
+        errs: "tree: shape at node 2\n",
+    },
+    Case {
+        name: "a depth that jumps",
+        words: &[],
+        input: r#"{"comments":[],"format":1,"goal":"script","lang":"js","rows":[[0,"root","Program",0,16,"",[]],[1,"body","VariableDeclaration",0,10,"let",[]],[2,"declarators","VariableDeclarator",4,9,"",[]],[4,"id","BindingIdentifier",4,5,"a",[]],[3,"init","NumericLiteral",8,9,"1",["decimal"]],[1,"body","ExpressionStatement",11,16,"",[]],[2,"expression","AssignmentExpression",11,16,"=",[]],[3,"left","IdentifierReference",11,12,"a",[]],[3,"right","NumericLiteral",15,16,"2",["decimal"]]],"source":"let a = 1; a = 2"}"#,
+        status: ReportStatus::Tree,
+        out: "",
+        errs: "tree: shape at node 3\n",
+    },
+    Case {
+        name: "a mark that stands twice",
+        words: &[],
+        input: r#"{"comments":[],"format":1,"goal":"script","lang":"js","rows":[[0,"root","Program",0,16,"",[]],[1,"body","VariableDeclaration",0,10,"let",[]],[2,"declarators","VariableDeclarator",4,9,"",[]],[3,"id","BindingIdentifier",4,5,"a",[]],[3,"init","NumericLiteral",8,9,"1",["decimal","decimal"]],[1,"body","ExpressionStatement",11,16,"",[]],[2,"expression","AssignmentExpression",11,16,"=",[]],[3,"left","IdentifierReference",11,12,"a",[]],[3,"right","NumericLiteral",15,16,"2",["decimal"]]],"source":"let a = 1; a = 2"}"#,
+        status: ReportStatus::Tree,
+        out: "",
+        errs: "tree: shape at node 4\n",
+    },
+    Case {
+        name: "an unknown format",
+        words: &[],
+        input: r#"{"comments":[],"format":2,"goal":"script","lang":"js","rows":[[0,"root","Program",0,16,"",[]],[1,"body","VariableDeclaration",0,10,"let",[]],[2,"declarators","VariableDeclarator",4,9,"",[]],[3,"id","BindingIdentifier",4,5,"a",[]],[3,"init","NumericLiteral",8,9,"1",["decimal"]],[1,"body","ExpressionStatement",11,16,"",[]],[2,"expression","AssignmentExpression",11,16,"=",[]],[3,"left","IdentifierReference",11,12,"a",[]],[3,"right","NumericLiteral",15,16,"2",["decimal"]]],"source":"let a = 1; a = 2"}"#,
+        status: ReportStatus::Tree,
+        out: "",
+        errs: "tree: shape\n",
+    },
+    Case {
+        name: "a span that cuts a character",
+        words: &[],
+        input: r#"{"format":1,"source":"é","goal":"script","lang":"js","comments":[],"rows":[[0,"root","Program",0,1,"",[]]]}"#,
+        status: ReportStatus::Tree,
+        out: "",
+        errs: "tree: span at node 0\n",
+    },
+    Case {
+        name: "a comment outside the source",
+        words: &[],
+        input: r#"{"format":1,"source":"","goal":"script","lang":"js","comments":[[0,1,"line"]],"rows":[[0,"root","Program",0,0,"",[]]]}"#,
+        status: ReportStatus::Tree,
+        out: "",
+        errs: "tree: span at comment 0\n",
+    },
+    Case {
+        name: "an unknown word",
+        words: &["--what"],
+        input: r#"{"format":1,"source":"","goal":"script","lang":"js","comments":[],"rows":[[0,"root","Program",0,0,"",[]]]}"#,
+        status: ReportStatus::Usage,
+        out: "",
+        errs: "usage: report [--check] [--nodes] [--classes] [--stats] [--make N]\n",
+    },
+    Case {
+        name: "a word that isn't taken yet",
+        words: &["--check"],
+        input: r#"{"format":1,"source":"","goal":"script","lang":"js","comments":[],"rows":[[0,"root","Program",0,0,"",[]]]}"#,
+        status: ReportStatus::Usage,
+        out: "",
+        errs: "usage: report [--check] [--nodes] [--classes] [--stats] [--make N]\n",
+    },
+];
