@@ -1,0 +1,98 @@
+-- How a name is declared in one scope.
+use Rattle.std.specs.Prelude.{ℕ, List, [], ◌∷◌, ◌++◌, Option, Some, None, cond, length, nat_eq}
+use Rattle.std.specs.Ordering.{nat_cmp}
+use Rattle.std.specs.Int.RustNames.{bit_or}
+use Rattle.std.specs.Option.{unwrap_or}
+use Rattle.std.specs.Map.{lookup}
+use Rattle.std.specs.Str.{bytes_eq}
+use Rattle.std.specs.BTreeSet.{insert_key}
+use Rattle.indexmap.specs.IndexMap.{insert_entry}
+use Rattle.semantic_syntax.specs.declared.symbol_flags.TheConstants.SymbolFlags as symbol
+use Rattle.semantic_syntax.specs.declared.references.Redeclaration.{Redeclaration}
+use Rattle.semantic_syntax.specs.Sets.{meets}
+use Rattle.semantic_syntax.specs.Tables.{Name, Symbol, Tables}
+use Rattle.scoping.specs.Reading.{bindings_of, symbol_of, own_entry}
+use Rattle.scoping.specs.Writing.{bound, with_symbol}
+use Rattle.semantic_model.specs.Binding.{get}
+use Rattle.semantic_model.specs.Fold.{Conflict, or_else}
+use Rattle.walk_model.specs.Standing.{Standing}
+use Rattle.walk_model.specs.Naming.{Naming}
+
+-- the symbol to which the scope binds the name
+abbrev pub bound_to : Tables → ℕ → Name → Option ℕ
+bound_to t s x = lookup (bytes_eq x) (bindings_of t s)
+
+abbrev unless_expression : Tables → Option ℕ → Option ℕ
+unless_expression t None = None
+unless_expression t (Some y) = cond (meets (symbol_of t y).flags.bits symbol.FunctionExpression.bits) None (Some y)
+
+-- the symbol that the scope binds to the name, else the one that it remembers; the name of a function expression counts as none
+abbrev pub found : Standing → ℕ → Name → Option ℕ
+found w s x = unless_expression w.tables (or_else (bound_to w.tables s x) (get w.remembered s x))
+
+abbrev conflict_of : Naming → Symbol → List Conflict
+conflict_of d y = cond (meets y.flags.bits d.excluded) (record { name = d.name; earlier = y.span; later = d.span } ∷ []) []
+
+-- a conflict is noted where the symbol's flags meet the excluded ones
+abbrev pub against : Standing → Naming → ℕ → Standing
+against w d y = record w { conflicts = w.conflicts ++ conflict_of d (symbol_of w.tables y) }
+
+abbrev new_symbol : ℕ → Naming → Symbol
+new_symbol s d = record { name = d.name; span = d.span; flags = record { bits = d.flags }; scope = s; node = d.node; redeclarations = None }
+
+abbrev with_new : Tables → ℕ → Naming → Tables
+with_new t s d = record (bound t s d.name (length t.symbols)) { symbols = t.symbols ++ new_symbol s d ∷ []; uses = t.uses ++ [] ∷ [] }
+
+-- a new symbol, bound in the scope
+abbrev pub make : Standing → ℕ → Naming → Standing
+make w s d = record w { tables = with_new w.tables s d }
+
+abbrev entry_of : Naming → Redeclaration
+entry_of d = record { span = d.span; declaration = d.node; flags = record { bits = d.flags } }
+
+abbrev redeclared : Naming → Symbol → Symbol
+redeclared d y = record y { redeclarations = Some (unwrap_or y.redeclarations (own_entry y ∷ []) ++ entry_of d ∷ []) }
+
+-- one more declaration of the symbol, without its flags; without a list, its own goes first
+abbrev pub redeclare : Standing → ℕ → Naming → Standing
+redeclare w y d = record w { tables = with_symbol w.tables y (redeclared d (symbol_of w.tables y)) }
+
+abbrev with_flags : ℕ → Symbol → Symbol
+with_flags flags y = record y { flags = record { bits = bit_or y.flags.bits flags } }
+
+abbrev add_flags : Standing → ℕ → ℕ → Standing
+add_flags w y flags = record w { tables = with_symbol w.tables y (with_flags flags (symbol_of w.tables y)) }
+
+-- the symbol is declared once more
+abbrev pub unite : Standing → ℕ → Naming → Standing
+unite w y d = add_flags (redeclare (against w d y) y d) y d.flags
+
+abbrev pure_with : Tables → ℕ → Tables
+pure_with t y = record t { pure_symbols = insert_key nat_cmp t.pure_symbols y }
+
+-- the declaration gets the symbol
+abbrev pub gets : Standing → ℕ → Naming → Standing
+gets w y d = record w {
+  nodes = record w.nodes { symbols = insert_entry nat_eq w.nodes.symbols d.identifier y };
+  tables = cond d.is_pure (pure_with w.tables y) w.tables;
+}
+
+abbrev symbol_by : Standing → ℕ → Naming → Option ℕ → Standing
+symbol_by w s d None = make w s d
+symbol_by w s d (Some y) = unite w y d
+
+-- what is found in the scope is declared once more, else a new symbol is bound
+abbrev pub with_symbol_in : Standing → ℕ → Naming → Standing
+with_symbol_in w s d = symbol_by w s d (found w s d.name)
+
+-- its symbol
+abbrev pub symbol_in : Standing → ℕ → Naming → ℕ
+symbol_in w s d = unwrap_or (found w s d.name) (length w.tables.symbols)
+
+-- declared in a scope, by what is found there
+abbrev pub declare : Standing → ℕ → Naming → Standing
+declare w s d = gets (with_symbol_in w s d) (symbol_in w s d) d
+
+-- declared in a scope, always anew
+abbrev pub declare_anew : Standing → ℕ → Naming → Standing
+declare_anew w s d = gets (make w s d) (length w.tables.symbols) d

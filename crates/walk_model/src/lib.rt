@@ -1,0 +1,5 @@
+//! The walk over a program as a machine of steps: what each step does to the tables.
+//! There is no program code here: the definitions stand in `specs/`, each law on a function that does nothing.
+#![tactic(auto)]
+
+pub mod laws;
