@@ -22,7 +22,7 @@ use Rattle.walk_model.specs.Naming.{Naming}
 abbrev pub bound_to : Tables → ℕ → Name → Option ℕ
 bound_to t s x = lookup (bytes_eq x) (bindings_of t s)
 
-abbrev unless_expression : Tables → Option ℕ → Option ℕ
+abbrev pub unless_expression : Tables → Option ℕ → Option ℕ
 unless_expression t None = None
 unless_expression t (Some y) = cond (meets (symbol_of t y).flags.bits symbol.FunctionExpression.bits) None (Some y)
 
@@ -30,44 +30,44 @@ unless_expression t (Some y) = cond (meets (symbol_of t y).flags.bits symbol.Fun
 abbrev pub found : Standing → ℕ → Name → Option ℕ
 found w s x = unless_expression w.tables (or_else (bound_to w.tables s x) (get w.remembered s x))
 
-abbrev conflict_of : Naming → Symbol → List Conflict
+abbrev pub conflict_of : Naming → Symbol → List Conflict
 conflict_of d y = cond (meets y.flags.bits d.excluded) (record { name = d.name; earlier = y.span; later = d.span } ∷ []) []
 
 -- a conflict is noted where the symbol's flags meet the excluded ones
 abbrev pub against : Standing → Naming → ℕ → Standing
 against w d y = record w { conflicts = w.conflicts ++ conflict_of d (symbol_of w.tables y) }
 
-abbrev new_symbol : ℕ → Naming → Symbol
+abbrev pub new_symbol : ℕ → Naming → Symbol
 new_symbol s d = record { name = d.name; span = d.span; flags = record { bits = d.flags }; scope = s; node = d.node; redeclarations = None }
 
-abbrev with_new : Tables → ℕ → Naming → Tables
+abbrev pub with_new : Tables → ℕ → Naming → Tables
 with_new t s d = record (bound t s d.name (length t.symbols)) { symbols = t.symbols ++ new_symbol s d ∷ []; uses = t.uses ++ [] ∷ [] }
 
 -- a new symbol, bound in the scope
 abbrev pub make : Standing → ℕ → Naming → Standing
 make w s d = record w { tables = with_new w.tables s d }
 
-abbrev entry_of : Naming → Redeclaration
+abbrev pub entry_of : Naming → Redeclaration
 entry_of d = record { span = d.span; declaration = d.node; flags = record { bits = d.flags } }
 
-abbrev redeclared : Naming → Symbol → Symbol
+abbrev pub redeclared : Naming → Symbol → Symbol
 redeclared d y = record y { redeclarations = Some (unwrap_or y.redeclarations (own_entry y ∷ []) ++ entry_of d ∷ []) }
 
 -- one more declaration of the symbol, without its flags; without a list, its own goes first
 abbrev pub redeclare : Standing → ℕ → Naming → Standing
 redeclare w y d = record w { tables = with_symbol w.tables y (redeclared d (symbol_of w.tables y)) }
 
-abbrev with_flags : ℕ → Symbol → Symbol
+abbrev pub with_flags : ℕ → Symbol → Symbol
 with_flags flags y = record y { flags = record { bits = bit_or y.flags.bits flags } }
 
-abbrev add_flags : Standing → ℕ → ℕ → Standing
+abbrev pub add_flags : Standing → ℕ → ℕ → Standing
 add_flags w y flags = record w { tables = with_symbol w.tables y (with_flags flags (symbol_of w.tables y)) }
 
 -- the symbol is declared once more
 abbrev pub unite : Standing → ℕ → Naming → Standing
 unite w y d = add_flags (redeclare (against w d y) y d) y d.flags
 
-abbrev pure_with : Tables → ℕ → Tables
+abbrev pub pure_with : Tables → ℕ → Tables
 pure_with t y = record t { pure_symbols = insert_key nat_cmp t.pure_symbols y }
 
 -- the declaration gets the symbol
@@ -77,7 +77,7 @@ gets w y d = record w {
   tables = cond d.is_pure (pure_with w.tables y) w.tables;
 }
 
-abbrev symbol_by : Standing → ℕ → Naming → Option ℕ → Standing
+abbrev pub symbol_by : Standing → ℕ → Naming → Option ℕ → Standing
 symbol_by w s d None = make w s d
 symbol_by w s d (Some y) = unite w y d
 

@@ -16,7 +16,7 @@ abbrev pub counting : Tables → Option ℕ → Option ℕ
 counting t None = None
 counting t (Some y) = cond (meets (symbol_of t y).flags.bits symbol.ByValue.bits) (Some y) None
 
-abbrev hit_or : ℕ → Option ℕ → Option Hit → Option Hit
+abbrev pub hit_or : ℕ → Option ℕ → Option Hit → Option Hit
 hit_or s None later = later
 hit_or s (Some y) later = Some (record { scope = s; symbol = y })
 
@@ -25,11 +25,11 @@ abbrev pub hit : Standing → List ℕ → Name → Option Hit
 hit w [] x = None
 hit w (s ∷ ss) x = hit_or s (counting w.tables (found w s x)) (hit w ss x)
 
-abbrev against_found : Standing → Naming → Option ℕ → Standing
+abbrev pub against_found : Standing → Naming → Option ℕ → Standing
 against_found w d None = w
 against_found w d (Some y) = against w d y
 
-abbrev unless_hit : Option ℕ → Standing → Standing → Standing
+abbrev pub unless_hit : Option ℕ → Standing → Standing → Standing
 unless_hit None w later = later
 unless_hit (Some y) w later = w
 
@@ -40,7 +40,7 @@ against_way w d (s ∷ ss) =
     let noted : Standing = against_found w d (found w s d.name) in
     unless_hit (counting w.tables (found w s d.name)) noted (against_way noted d ss)
 
-abbrev in_scope : Tables → ℕ → ℕ → Tables
+abbrev pub in_scope : Tables → ℕ → ℕ → Tables
 in_scope t y s = with_symbol t y (record (symbol_of t y) { scope = s })
 
 -- the symbol is the scope's
@@ -51,7 +51,7 @@ give w y s = record w { tables = in_scope w.tables y s }
 abbrev pub rebind : Standing → Name → ℕ → (from to : ℕ) → Standing
 rebind w x y from to = record w { tables = in_scope (unbound (bound w.tables to x y) from x) y to }
 
-abbrev unless_bound : Option ℕ → Standing → Standing → Standing
+abbrev pub unless_bound : Option ℕ → Standing → Standing → Standing
 unless_bound None w moved = moved
 unless_bound (Some y) w moved = w
 
@@ -68,11 +68,11 @@ abbrev pub remember_all : Standing → List ℕ → Name → ℕ → Standing
 remember_all w [] x y = w
 remember_all w (s ∷ ss) x y = remember_all (remember w s x y) ss x y
 
-abbrev hoisted_by : Standing → ℕ → Naming → Option Hit → Standing
+abbrev pub hoisted_by : Standing → ℕ → Naming → Option Hit → Standing
 hoisted_by w target d None = with_symbol_in w target d
 hoisted_by w target d (Some h) = move_symbol (redeclare w h.symbol d) h.scope target h.symbol d.name
 
-abbrev hoisted_symbol : Standing → ℕ → Naming → Option Hit → ℕ
+abbrev pub hoisted_symbol : Standing → ℕ → Naming → Option Hit → ℕ
 hoisted_symbol w target d None = symbol_in w target d
 hoisted_symbol w target d (Some h) = h.symbol
 
@@ -84,7 +84,7 @@ hoist w passed target d =
     let y : ℕ = hoisted_symbol noted target d found_on_way in
     remember_all (gets (hoisted_by noted target d found_on_way) y d) passed d.name y
 
-abbrev rebind_bound : Standing → Name → Option ℕ → (from to : ℕ) → Standing
+abbrev pub rebind_bound : Standing → Name → Option ℕ → (from to : ℕ) → Standing
 rebind_bound w x None from to = w
 rebind_bound w x (Some y) from to = rebind w x y from to
 

@@ -14,7 +14,7 @@ use Rattle.semantic_model.specs.Cursor.{way_of}
 use Rattle.semantic_model.specs.TablesOf.{is_direct_eval}
 use Rattle.walk_model.specs.Standing.{Standing}
 
-abbrev with_eval : Scope → Scope
+abbrev pub with_eval : Scope → Scope
 with_eval s = record s { flags = record { bits = union s.flags.bits scope.DirectEval.bits } }
 
 -- a call of `eval` in the scope
@@ -25,7 +25,7 @@ add_eval w s = record w { tables = with_scope w.tables s (with_eval (scope_of w.
 abbrev pub note_eval : Standing → Place → Standing
 note_eval w p = cond (is_direct_eval p.node) (add_eval w (at p)) w
 
-abbrev refer : Standing → Place → Standing
+abbrev pub refer : Standing → Place → Standing
 refer w p =
     let r : ℕ = length w.tables.references in
     record w {
@@ -40,7 +40,7 @@ refer w p =
 abbrev pub note_reference : Standing → Place → Standing
 note_reference w p = cond (is kind.IdentifierReference p.node) (refer w p) w
 
-abbrev number_of : List OpenScope → Option ℕ
+abbrev pub number_of : List OpenScope → Option ℕ
 number_of [] = None
 number_of (s ∷ ss) = Some s.number
 

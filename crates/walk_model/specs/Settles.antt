@@ -10,7 +10,7 @@ use Rattle.scoping.specs.Writing.{with_uses, with_reference}
 use Rattle.semantic_model.specs.Outcome.{Pending, Outcome, means, is_free, waits, source_of, header_outcome, last_outcome}
 use Rattle.walk_model.specs.Standing.{Standing}
 
-abbrev tied_to : ℕ → Symbol → Reference → Reference
+abbrev pub tied_to : ℕ → Symbol → Reference → Reference
 tied_to y s r = record r { flags = record { bits = settled r.flags.bits s.flags.bits }; symbol_id = Some y }
 
 -- a reference is tied to the symbol: it has the settled flags, and stands last in the symbol's uses
@@ -34,7 +34,7 @@ settle t [] outcomes = t
 settle t (e ∷ es) [] = t
 settle t (e ∷ es) (o ∷ os) = settle (settle_one t e o) es os
 
-abbrev waiting_on : Pending → Outcome → List Pending → List Pending
+abbrev pub waiting_on : Pending → Outcome → List Pending → List Pending
 waiting_on e (means y) later = later
 waiting_on e is_free later = later
 waiting_on e (waits s) later = record e { lookup_scope = s } ∷ later

@@ -16,10 +16,10 @@ pub record Standing : Type 0 where
   -- the references that wait for their symbol
   pub waiting : List Pending
 
-abbrev no_tables : Tables
+abbrev pub no_tables : Tables
 no_tables = record { scopes = []; bindings = []; symbols = []; references = []; uses = []; free = []; pure_symbols = [] }
 
-abbrev no_entries : NodeEntries
+abbrev pub no_entries : NodeEntries
 no_entries = record { scopes = []; symbols = []; references = [] }
 
 -- nothing is made yet

@@ -13,7 +13,7 @@ use Rattle.walk_model.specs.Hoists.{hoist, declare_and_move}
 use Rattle.walk_model.specs.Settles.{end_header, settle_rest}
 use Rattle.walk_model.specs.Opens.{note_eval, note_reference, open_scope, close_scope}
 
-abbrev numbers : List OpenScope → List ℕ
+abbrev pub numbers : List OpenScope → List ℕ
 numbers scopes = map (λ s. s.number) scopes
 
 abbrev pub declare_by : How → Standing → Declaration → Standing
