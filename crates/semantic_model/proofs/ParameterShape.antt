@@ -84,7 +84,7 @@ run_stands k part (c ∷ cs) h s i =
     (part_stands k part c.0 c.1.kind c.1.text (h c.1.text) (first_holds (same_role c.0 part.role) _ s) (first_holds (is_of part.class c.1.kind c.1.text) _ i))
     (run_stands k part cs h (second_holds (same_role c.0 part.role) _ s) (second_holds (is_of part.class c.1.kind c.1.text) _ i))
 
-lead_in_role : (role : Role) (cs : List (Role × Node)) → list_all (λ c. same_role c.0 role) (take (lead role cs) cs) ≡ true
+pub lead_in_role : (role : Role) (cs : List (Role × Node)) → list_all (λ c. same_role c.0 role) (take (lead role cs) cs) ≡ true
 lead_in_role role [] = refl
 lead_in_role role (c ∷ cs) = elim (cases_Bool (same_role c.0 role)) [
   | inl e ↦ rw (e, add-one) (both_hold (same_role c.0 role) _ e (lead_in_role role cs))

@@ -109,27 +109,27 @@ clause_ends node h = elim (cases_Bool (same_kind node.kind kind.CatchClause)) [
 ]
 
 -- no node is misshapen
-abbrev NoneMisshapen : List (Place × Node) → Type 0
+abbrev pub NoneMisshapen : List (Place × Node) → Type 0
 NoneMisshapen placed = first_where is_misshapen placed ≡ None
 
-first_formed : (placed : Place × Node) (rest : List (Place × Node)) → NoneMisshapen (placed ∷ rest) → (is_well_formed placed.0 placed.1 ≡ true) × NoneMisshapen rest
+pub first_formed : (placed : Place × Node) (rest : List (Place × Node)) → NoneMisshapen (placed ∷ rest) → (is_well_formed placed.0 placed.1 ≡ true) × NoneMisshapen rest
 first_formed placed rest h = elim (cases_Bool (is_well_formed placed.0 placed.1)) [
   | inl e ↦ (e, rw e at h)
   | inr e ↦ (let q : Some placed.1.node_id ≡ None = rw e at h in absurd cc)
 ]
 
-rest_formed : (xs ys : List (Place × Node)) → NoneMisshapen (xs ++ ys) → NoneMisshapen xs × NoneMisshapen ys
+pub rest_formed : (xs ys : List (Place × Node)) → NoneMisshapen (xs ++ ys) → NoneMisshapen xs × NoneMisshapen ys
 rest_formed [] ys h = (refl, h)
 rest_formed (x ∷ xs) ys h =
     let q : (is_well_formed x.0 x.1 ≡ true) × NoneMisshapen (xs ++ ys) = first_formed x (xs ++ ys) h in
     let w : NoneMisshapen xs × NoneMisshapen ys = rest_formed xs ys q.1 in
     (rw q.0 w.0, w.1)
 
-table_kept : (place : Place) (node : Node) → is_well_formed place node ≡ true → keeps_table node ≡ true
+pub table_kept : (place : Place) (node : Node) → is_well_formed place node ≡ true → keeps_table node ≡ true
 table_kept place node h =
     second_holds (is_rooted place node.kind) (keeps_table node) (first_holds (is_rooted place node.kind && keeps_table node) (stands place node.kind node) (first_holds (is_rooted place node.kind && keeps_table node && stands place node.kind node) (names_foreign place node.kind) h))
 
-fit_kept : (node : Node) → keeps_table node ≡ true → fit (parts node.kind) (trees node.children) ≡ true
+pub fit_kept : (node : Node) → keeps_table node ≡ true → fit (parts node.kind) (trees node.children) ≡ true
 fit_kept node h = second_holds (may_have_text node.kind node.text && is_within node.marks (set_of (allowed_marks node.kind))) (fit (parts node.kind) (trees node.children)) h
 
 forest_clauses : (place : Place) (k : AstType) (f : Forest) → NoneMisshapen (placed_below place k f) → clauses_end f ≡ true
@@ -164,7 +164,7 @@ none_mapped : (o : Option ℕ) → option_map (λ id. Shape (Some id)) o ≡ Non
 none_mapped None h = refl
 none_mapped (Some id) h = absurd cc
 
-none_misshapen : (p : Tree) → first_fault p ≡ None → NoneMisshapen (all_placed p.root)
+pub none_misshapen : (p : Tree) → first_fault p ≡ None → NoneMisshapen (all_placed p.root)
 none_misshapen p h = go (is_too_large source p.comments p.root) h
   where
     source : List ℕ

@@ -6,3 +6,9 @@ pub mod Changed
 pub mod Reached
 pub mod Acted
 pub mod Nested
+pub mod Shapes
+pub mod Routes
+pub mod Grounds
+pub mod Simulated
+pub mod Ascending
+pub mod Agreed

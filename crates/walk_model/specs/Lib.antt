@@ -5,3 +5,5 @@ pub mod Hoists
 pub mod Settles
 pub mod Opens
 pub mod Walks
+pub mod Noted
+pub mod Agreement

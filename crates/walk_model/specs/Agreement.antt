@@ -1,0 +1,19 @@
+-- What it means that a walk gives what the definitions say.
+use Rattle.std.specs.Prelude.{◌≡◌}
+use Rattle.semantic_tree.specs.Tree.{Tree}
+use Rattle.semantic_model.specs.Step.{steps}
+use Rattle.semantic_model.specs.Event.{events}
+use Rattle.semantic_model.specs.Fold.{start}
+use Rattle.semantic_model.specs.Hoist.{run}
+use Rattle.semantic_model.specs.TablesOf.{tables_of}
+use Rattle.semantic_model.specs.NodeTable.{node_tables}
+use Rattle.walk_model.specs.Standing.{Standing}
+use Rattle.walk_model.specs.Noted.{entries_of}
+
+-- what is declared: bindings, symbols, conflicts
+pub record HasDeclared (p : Tree) (w : Standing) : Type 0 where
+  pub bindings : w.tables.bindings ≡ (tables_of p).bindings
+  pub symbols : w.tables.symbols ≡ (tables_of p).symbols
+  pub pure_symbols : w.tables.pure_symbols ≡ (tables_of p).pure_symbols
+  pub conflicts : w.conflicts ≡ (run start (events (steps p))).conflicts
+  pub nodes : w.nodes.symbols ≡ entries_of (node_tables (steps p)).symbols
