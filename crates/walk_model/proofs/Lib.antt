@@ -12,3 +12,8 @@ pub mod Grounds
 pub mod Simulated
 pub mod Ascending
 pub mod Agreed
+pub mod Untouched
+pub mod Flags
+pub mod Reaching
+pub mod OpenedScopes
+pub mod OpenedAll

@@ -17,3 +17,8 @@ pub record HasDeclared (p : Tree) (w : Standing) : Type 0 where
   pub pure_symbols : w.tables.pure_symbols ≡ (tables_of p).pure_symbols
   pub conflicts : w.conflicts ≡ (run start (events (steps p))).conflicts
   pub nodes : w.nodes.symbols ≡ entries_of (node_tables (steps p)).symbols
+
+-- what is opened: the scopes with their flags
+pub record HasOpened (p : Tree) (w : Standing) : Type 0 where
+  pub scopes : w.tables.scopes ≡ (tables_of p).scopes
+  pub nodes : w.nodes.scopes ≡ entries_of (node_tables (steps p)).scopes
