@@ -101,7 +101,7 @@ pub rescoped_length : (ys : List Symbol) (bs : Bindings) (c : ℕ) → length (r
 rescoped_length ys [] c = refl
 rescoped_length ys (b ∷ bs) c = omega (arith, rescoped_length (update (in_scope c) ys b.1) bs c, update_length (in_scope c) ys b.1)
 
-act_grows : (st : State) (e : Event) → IsSound st → Grows st (act st e)
+pub act_grows : (st : State) (e : Event) → IsSound st → Grows st (act st e)
 act_grows st (declares d) b = declare_by_grows d.how st d b
 act_grows st (takes_over c d) b =
     same_grows st (act st (takes_over c d)) (rescoped_length st.symbols (bound_by st.bindings c) d) (take_over_below (length st.symbols) st.bindings c d b.bindings) b.remembered

@@ -17,3 +17,5 @@ pub mod Flags
 pub mod Reaching
 pub mod OpenedScopes
 pub mod OpenedAll
+pub mod Sides
+pub mod Unmoved
