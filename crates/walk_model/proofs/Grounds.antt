@@ -31,8 +31,8 @@ use Rattle.walk_model.proofs.Routes.{HasVar}
 use Rattle.walk_model.proofs.Shapes.{HoldParts, holds_below, tree_holds}
 
 -- a list of parameters doesn't stand in a program itself
-abbrev pub not_in_program : AstType → Role → AstType → Bool
-not_in_program k r k2 = not (same_kind k kind.Program && same_kind k2 kind.FormalParameters)
+abbrev pub not_in_program : AstType → Role → AstType → List ℕ → Bool
+not_in_program k r k2 text = not (same_kind k kind.Program && same_kind k2 kind.FormalParameters)
 
 not_one : (b : Bool) → not (b && false) ≡ true
 not_one true = refl
@@ -208,7 +208,7 @@ or_first : (a b : Bool) → a ≡ true → (a || b) ≡ true
 or_first a b h = rw h refl
 
 child_outer : (p : Place) (scope : Option OpenScope) (cursor : ℕ) (r : Role) (node : Node) → IsGrounded p → (is_inside p.node.kind r ≡ true → scope ≡ None → ⊥) → (holds_parameters p.node.kind ≡ true → HasVar (outside p.chain))
-    → stands_under p.node.kind r node.kind ≡ true → not_in_program p.node.kind r node.kind ≡ true → holds_parameters node.kind ≡ true → HasVar (outside (child_place p scope cursor r node).chain)
+    → stands_under p.node.kind r node.kind ≡ true → not_in_program p.node.kind r node.kind node.text ≡ true → holds_parameters node.kind ≡ true → HasVar (outside (child_place p scope cursor r node).chain)
 child_outer p scope cursor r node g i outer s t h = elim (cases_Bool (same_kind node.kind kind.FormalParameters)) [
   | inl e ↦ list_outer p scope cursor r node (chain_var e g) i (rw e at s)
   | inr e ↦ (let parameter : is_parameter node.kind ≡ true = or_same (same_kind node.kind kind.FormalParameters) (is_parameter node.kind) e h in
@@ -238,8 +238,8 @@ grounded_below p own n cursor (tree r k span text marks below id after) g o oute
     let i : is_inside p.node.kind r ≡ true → scope ≡ None → ⊥ = is_open_inside p r own n in
     let s_here : stands_under p.node.kind r k ≡ true = first_holds (stands_under p.node.kind r k) _ s in
     let s_rest : (parameters_stand k below && parameters_stand p.node.kind after) ≡ true = second_holds (stands_under p.node.kind r k) _ s in
-    let t_here : not_in_program p.node.kind r k ≡ true = first_holds (not_in_program p.node.kind r k) _ t in
-    let t_rest : (holds_below not_in_program k below && holds_below not_in_program p.node.kind after) ≡ true = second_holds (not_in_program p.node.kind r k) _ t in
+    let t_here : not_in_program p.node.kind r k text ≡ true = first_holds (not_in_program p.node.kind r k text) _ t in
+    let t_rest : (holds_below not_in_program k below && holds_below not_in_program p.node.kind after) ≡ true = second_holds (not_in_program p.node.kind r k text) _ t in
     let v : HasVar child.chain = child_var p scope cursor r node g o_scope i outer in
     grounded-append (xs ++ (entering child ∷ (ys ++ leaving child ∷ [])) ++ es) ws
     (grounded-append (xs ++ (entering child ∷ (ys ++ leaving child ∷ []))) es

@@ -19,3 +19,5 @@ pub mod OpenedScopes
 pub mod OpenedAll
 pub mod Sides
 pub mod Unmoved
+pub mod Closed
+pub mod Ordered
