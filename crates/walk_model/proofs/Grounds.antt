@@ -134,7 +134,7 @@ own_var p r None n h = go (is_inside p.node.kind r)
     go false = tt
 
 -- once a child inside is reached, the scope is open
-is_open_inside : (p : Place) (r : Role) (own : Option OpenScope) (n : ℕ) → is_inside p.node.kind r ≡ true → scope_at p r own n ≡ None → ⊥
+pub is_open_inside : (p : Place) (r : Role) (own : Option OpenScope) (n : ℕ) → is_inside p.node.kind r ≡ true → scope_at p r own n ≡ None → ⊥
 is_open_inside p r (Some s) n i e = absurd cc
 is_open_inside p r None n i e = let q : Some (opened_scope p n) ≡ None = rw i at e in absurd cc
 

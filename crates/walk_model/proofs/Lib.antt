@@ -21,3 +21,6 @@ pub mod Sides
 pub mod Unmoved
 pub mod Closed
 pub mod Ordered
+pub mod Headed
+pub mod HeadedBelow
+pub mod HeadedProgram
