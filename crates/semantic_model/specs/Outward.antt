@@ -39,7 +39,7 @@ abbrev pub first_outward : Tables → List ℕ → Name → ℕ → Option ℕ
 first_outward t [] x w = None
 first_outward t (c ∷ cs) x w = usable_or t w (bound_in t c x) (first_outward t cs x w)
 
-abbrev parent_at : List Scope → ℕ → Option ℕ
+abbrev pub parent_at : List Scope → ℕ → Option ℕ
 parent_at [] n = None
 parent_at (e ∷ es) zero = e.parent
 parent_at (e ∷ es) (suc n) = parent_at es n

@@ -24,3 +24,5 @@ pub mod Ordered
 pub mod Headed
 pub mod HeadedBelow
 pub mod HeadedProgram
+pub mod Lookups
+pub mod Settling
