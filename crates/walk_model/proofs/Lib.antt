@@ -26,3 +26,5 @@ pub mod HeadedBelow
 pub mod HeadedProgram
 pub mod Lookups
 pub mod Settling
+pub mod Touched
+pub mod Frozen

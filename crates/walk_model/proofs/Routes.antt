@@ -93,7 +93,7 @@ outward_is test chain how l = go (first_with test chain) refl
 abbrev pub HasVar : List OpenScope → Type 0
 HasVar chain = first_with is_var chain ≡ None → ⊥
 
-not_var : (p : Place) → is_block_function p ≡ true → is_var (innermost p.chain) ≡ false
+pub not_var : (p : Place) → is_block_function p ≡ true → is_var (innermost p.chain) ≡ false
 not_var p h = go (is_var (innermost p.chain)) (is_clause (innermost p.chain)) (second_holds (not (is_special p.node) && not (is_typescript p.source_type) && not (is_strict p.chain)) (not (is_var (innermost p.chain) || is_clause (innermost p.chain))) h)
   where
     go : (a b : Bool) → not (a || b) ≡ true → a ≡ false

@@ -69,7 +69,7 @@ solid : (n : ℕ) (chain : List OpenScope) → HasVar chain → Descends n chain
 solid n [] v h = absurd (v refl)
 solid n (s ∷ ss) v h = h
 
-root_declares_none : (p : Place) → p.node.kind ≡ kind.Program → declared_on_entering p ≡ []
+pub root_declares_none : (p : Place) → p.node.kind ≡ kind.Program → declared_on_entering p ≡ []
 root_declares_none p e = ap (λ k. declared_by k p) e
 
 entering_as : (n : ℕ) (ds : List Declaration) (w : Standing) (st : State) (p : Place) → IsGrounded p → Descends n p.chain → Represents n w st
@@ -81,12 +81,12 @@ act_all-append : (w : Standing) (es fs : List Event) → walk.act_all w (es ++ f
 act_all-append w [] fs = refl
 act_all-append w (e ∷ es) fs = act_all-append (walk.act w e) es fs
 
-first_below : (n : ℕ) (chain : List OpenScope) → HasVar chain → Descends n chain → (innermost chain).number < n
+pub first_below : (n : ℕ) (chain : List OpenScope) → HasVar chain → Descends n chain → (innermost chain).number < n
 first_below n [] v h = absurd (v refl)
 first_below n (s ∷ ss) v h = h.0
 
 -- a block that takes over is not the root
-body_has_var : (p : Place) → IsGrounded p → is_catch_body p ≡ true → HasVar p.chain
+pub body_has_var : (p : Place) → IsGrounded p → is_catch_body p ≡ true → HasVar p.chain
 body_has_var p (inl v) h = v
 body_has_var p (inr e) h =
     let b : is kind.BlockStatement p.node ≡ true = first_holds (is kind.BlockStatement p.node) (same_role p.role role.Body) (first_holds (is kind.BlockStatement p.node && same_role p.role role.Body) (parent_holds (is kind.CatchClause) p.path) h) in
