@@ -28,3 +28,5 @@ pub mod Lookups
 pub mod Settling
 pub mod Touched
 pub mod Frozen
+pub mod Sources
+pub mod HeaderEnds

@@ -103,7 +103,7 @@ parent_seen (b ∷ bare) (x ∷ seen) zero around e h =
     q ∙ ap head_of r
 parent_seen (b ∷ bare) (x ∷ seen) (suc i) around e h = let q : map (λ (f : Scope). f.parent) bare ≡ map head_of seen = cc in parent_seen bare seen i around q h
 
-as_many : (bare : List Scope) (seen : List (List ℕ)) → map (λ e. e.parent) bare ≡ map head_of seen → length bare ≡ length seen
+pub as_many : (bare : List Scope) (seen : List (List ℕ)) → map (λ e. e.parent) bare ≡ map head_of seen → length bare ≡ length seen
 as_many [] [] e = refl
 as_many [] (x ∷ seen) e = absurd cc
 as_many (b ∷ bare) [] e = absurd cc
