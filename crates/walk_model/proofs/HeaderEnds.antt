@@ -62,18 +62,18 @@ pub record Waits (awaiting : List ℕ) (seen : List (List ℕ)) (fs : List ℕ) 
   pub flagged : AreFlagged fs (next ∷ rest)
   pub descends : Descends (length seen) t.reference.chain
 
-descends_right : (n : ℕ) (xs ys : List OpenScope) → Descends n (xs ++ ys) → Descends n ys
+pub descends_right : (n : ℕ) (xs ys : List OpenScope) → Descends n (xs ++ ys) → Descends n ys
 descends_right n [] ys h = h
 descends_right n (x ∷ xs) ys h = descends_right n xs ys (descends_more x.number n (xs ++ ys) (omega (arith, h.0)) h.1)
 
-among_less : (n : ℕ) (ys : List OpenScope) (d : ℕ) → Descends n ys → contains (numbers ys) d ≡ true → d < n
+pub among_less : (n : ℕ) (ys : List OpenScope) (d : ℕ) → Descends n ys → contains (numbers ys) d ≡ true → d < n
 among_less n [] d h k = absurd cc
 among_less n (y ∷ ys) d h k = elim (eqb_tells y.number d) [
   | inl q ↦ subst (λ m. m < n) q.1 h.0
   | inr q ↦ omega (arith, among_less y.number ys d h.1 (rw q.0 at k), h.0)
 ]
 
-apart : (n : ℕ) (xs ys : List OpenScope) (d : ℕ) → Descends n (xs ++ ys) → contains (numbers ys) d ≡ true → contains (numbers xs) d ≡ false
+pub apart : (n : ℕ) (xs ys : List OpenScope) (d : ℕ) → Descends n (xs ++ ys) → contains (numbers ys) d ≡ true → contains (numbers xs) d ≡ false
 apart n [] ys d h k = refl
 apart n (x ∷ xs) ys d h k =
     let less : d < x.number = among_less x.number ys d (descends_right x.number xs ys h.1) k in
@@ -82,7 +82,7 @@ apart n (x ∷ xs) ys d h k =
       | inr q ↦ rw q.0 (apart x.number xs ys d h.1 k)
     ]
 
-scopes_of : (final : State) (es : List Event) (t : Tie) (ss : List OpenScope) → map (λ a. a.scope) (answers_of final es t ss) ≡ numbers ss
+pub scopes_of : (final : State) (es : List Event) (t : Tie) (ss : List OpenScope) → map (λ a. a.scope) (answers_of final es t ss) ≡ numbers ss
 scopes_of final es t [] = refl
 scopes_of final es t (s ∷ ss) = ap (λ l. s.number ∷ l) (scopes_of final es t ss)
 
@@ -184,7 +184,7 @@ pub record Parts (c : ℕ) (ss : List OpenScope) : Type 0 where
   pub number : own.number ≡ c
   pub apart : contains (numbers seg) c ≡ false
 
-parted : (c : ℕ) (ss : List OpenScope) → contains (numbers ss) c ≡ true → Parts c ss
+pub parted : (c : ℕ) (ss : List OpenScope) → contains (numbers ss) c ≡ true → Parts c ss
 parted c [] h = absurd cc
 parted c (s ∷ ss) h = elim (eqb_tells s.number c) [
   | inl q ↦ record { seg = []; own = s; tail = ss; is = refl; number = q.1; apart = refl }
@@ -192,24 +192,24 @@ parted c (s ∷ ss) h = elim (eqb_tells s.number c) [
 ]
 
 -- parts of what is known of scopes
-match_right : (aw : List ℕ) (xs ys : List OpenScope) → AllMatch aw (xs ++ ys) → AllMatch aw ys
+pub match_right : (aw : List ℕ) (xs ys : List OpenScope) → AllMatch aw (xs ++ ys) → AllMatch aw ys
 match_right aw [] ys h = h
 match_right aw (x ∷ xs) ys h = match_right aw xs ys h.1
 
-linked_right : (seen : List (List ℕ)) (xs ys : List OpenScope) → AreLinked seen (xs ++ ys) → AreLinked seen ys
+pub linked_right : (seen : List (List ℕ)) (xs ys : List OpenScope) → AreLinked seen (xs ++ ys) → AreLinked seen ys
 linked_right seen [] ys h = h
 linked_right seen (x ∷ xs) ys h = linked_right seen xs ys h.1
 
-flagged_right : (fs : List ℕ) (xs ys : List OpenScope) → AreFlagged fs (xs ++ ys) → AreFlagged fs ys
+pub flagged_right : (fs : List ℕ) (xs ys : List OpenScope) → AreFlagged fs (xs ++ ys) → AreFlagged fs ys
 flagged_right fs [] ys h = h
 flagged_right fs (x ∷ xs) ys h = flagged_right fs xs ys h.1
 
-flagged_prefix : (fs : List ℕ) (seg : List OpenScope) (h : OpenScope) (tail : List OpenScope) → AreFlagged fs (seg ++ h ∷ tail) → AreFlagged fs (seg ++ h ∷ [])
+pub flagged_prefix : (fs : List ℕ) (seg : List OpenScope) (h : OpenScope) (tail : List OpenScope) → AreFlagged fs (seg ++ h ∷ tail) → AreFlagged fs (seg ++ h ∷ [])
 flagged_prefix fs [] h tail f = (f.0, tt)
 flagged_prefix fs (s ∷ ss) h tail f = (f.0, flagged_prefix fs ss h tail f.1)
 
 -- past the header nothing is of its number
-match_past : (c : ℕ) (aw : List ℕ) (ss : List OpenScope) → contains (numbers ss) c ≡ false → AllMatch (c ∷ aw) ss → AllMatch aw ss
+pub match_past : (c : ℕ) (aw : List ℕ) (ss : List OpenScope) → contains (numbers ss) c ≡ false → AllMatch (c ∷ aw) ss → AllMatch aw ss
 match_past c aw [] n h = tt
 match_past c aw (s ∷ ss) n h = elim (eqb_tells s.number c) [
   | inl q ↦ (let w : true ≡ false = rw q.0 at n in absurd cc)
@@ -220,7 +220,7 @@ match_past c aw (s ∷ ss) n h = elim (eqb_tells s.number c) [
     other n = elim (eqb_tells c s.number) [ inl q ↦ absurd (n (sym q.1)) | inr q ↦ rw q.0 refl ]
 
 -- the scopes inside the header's own are closed, and stay as they are
-seg_none : (c m : ℕ) (aw : List ℕ) (seg : List OpenScope) (own : OpenScope) (tail : List OpenScope) → own.number ≡ c → AllLess aw c → Descends m (seg ++ own ∷ tail) → AllMatch (c ∷ aw) (seg ++ own ∷ tail) → NoneInHeader seg
+pub seg_none : (c m : ℕ) (aw : List ℕ) (seg : List OpenScope) (own : OpenScope) (tail : List OpenScope) → own.number ≡ c → AllLess aw c → Descends m (seg ++ own ∷ tail) → AllMatch (c ∷ aw) (seg ++ own ∷ tail) → NoneInHeader seg
 seg_none c m aw [] own tail e l d h = tt
 seg_none c m aw (s ∷ ss) own tail e l d h =
     let less : own.number < s.number = among_less s.number (ss ++ own ∷ tail) own.number d.1 (there ss) in
@@ -230,7 +230,7 @@ seg_none c m aw (s ∷ ss) own tail e l d h =
     there [] = contains_first own.number (numbers tail)
     there (x ∷ xs) = elim (eqb_tells x.number own.number) [ inl q ↦ rw q.0 refl | inr q ↦ rw q.0 (there xs) ]
 
-seg_viewed : (c m n : ℕ) (st final : State) (es : List Event) (x : Name) (seg : List OpenScope) (own : OpenScope) (tail : List OpenScope) → own.number ≡ c → m ≤ n → Descends m (seg ++ own ∷ tail) → NoneInHeader seg → Frozen c n st final → AllViewed st final es x seg
+pub seg_viewed : (c m n : ℕ) (st final : State) (es : List Event) (x : Name) (seg : List OpenScope) (own : OpenScope) (tail : List OpenScope) → own.number ≡ c → m ≤ n → Descends m (seg ++ own ∷ tail) → NoneInHeader seg → Frozen c n st final → AllViewed st final es x seg
 seg_viewed c m n st final es x [] own tail e k d h f = tt
 seg_viewed c m n st final es x (s ∷ ss) own tail e k d h f =
     let less : own.number < s.number = among_less s.number (ss ++ own ∷ tail) own.number d.1 (there ss) in
@@ -240,7 +240,7 @@ seg_viewed c m n st final es x (s ∷ ss) own tail e k d h f =
     there [] = contains_first own.number (numbers tail)
     there (y ∷ xs) = elim (eqb_tells y.number own.number) [ inl q ↦ rw q.0 refl | inr q ↦ rw q.0 (there xs) ]
 
-tail_apart : (n : ℕ) (seg : List OpenScope) (own : OpenScope) (tail : List OpenScope) → Descends n (seg ++ own ∷ tail) → contains (numbers tail) own.number ≡ false
+pub tail_apart : (n : ℕ) (seg : List OpenScope) (own : OpenScope) (tail : List OpenScope) → Descends n (seg ++ own ∷ tail) → contains (numbers tail) own.number ≡ false
 tail_apart n seg own tail d = by (contains (numbers tail) own.number) refl
   where
     inner : Descends own.number tail

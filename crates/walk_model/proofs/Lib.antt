@@ -30,3 +30,4 @@ pub mod Touched
 pub mod Frozen
 pub mod Sources
 pub mod HeaderEnds
+pub mod RightEnds
