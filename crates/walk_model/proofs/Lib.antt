@@ -31,3 +31,4 @@ pub mod Frozen
 pub mod Sources
 pub mod HeaderEnds
 pub mod RightEnds
+pub mod Tracked

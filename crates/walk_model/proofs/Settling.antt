@@ -32,6 +32,7 @@ pub data Tracks (D : Tie → Type 0) (W : Tie → Pending → Type 0) : List Tie
 -- the lists of references hold what is settled, in order
 pub record Lists (done : List Tie) (m : ℕ) (t : Tables) : Type 0 where
   pub uses : t.uses ≡ map (uses_of done) (range_with_len 0 m)
+  pub beyond : (s : ℕ) → m ≤ s → uses_of done s ≡ []
   pub free : t.free ≡ free_of done
 
 -- what becomes of a reference that waits is right: it is settled now as its tie tells, or waits on
@@ -195,12 +196,14 @@ module _ (D D2 : Tie → Type 0) (W W2 : Tie → Pending → Type 0) (ys : List 
   tie_lists : (u : Tables) (done : List Tie) (t : Tie) (n y m : ℕ) → t.number ≡ n → y < m → symbol_tied t ≡ Some y → Lists done m u → Lists (done ++ t ∷ []) m (tie u n y)
   tie_lists u done t n y m k l q h = record {
     uses = (λ i. slice_set (h.uses i) y (slice_index_or (h.uses i) y [] ++ sym k i ∷ [])) ∙ uses_set done t y 0 y m q (omega arith) l;
+    beyond = λ s i. sym (uses_other done t y s q (λ j. absurd (omega (arith, j, l, i)))) ∙ h.beyond s i;
     free = h.free ∙ free_tied done t y q;
   }
 
   free_lists : (u : Tables) (done : List Tie) (t : Tie) (e : Pending) (m : ℕ) → e.name ≡ t.reference.name → e.reference ≡ t.number → symbol_tied t ≡ None → Lists done m u → Lists (done ++ t ∷ []) m (set_free u e)
   free_lists u done t e m x r q h = record {
     uses = h.uses ∙ uses_free done t (range_with_len 0 m) q;
+    beyond = λ s i. uses-push done t s ∙ ap (λ o. uses_of done s ++ cond (is_symbol s o) (t.number ∷ []) []) q ∙ append-nil (uses_of done s) ∙ h.beyond s i;
     free = insert_is_add u.free e.name e.reference ∙ (λ i. add_free (h.free i) (x i) (r i)) ∙ free_freed done t q;
   }
 
