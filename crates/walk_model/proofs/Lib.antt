@@ -32,3 +32,5 @@ pub mod Sources
 pub mod HeaderEnds
 pub mod RightEnds
 pub mod Tracked
+pub mod Referred
+pub mod ReferredSteps

@@ -159,7 +159,7 @@ clean-push : (es : List Scope) (e : Scope) → AllClean es → IsClean e.flags.b
 clean-push [] e h k = (k, tt)
 clean-push (x ∷ es) e h k = (h.0, clean-push es e h.1 k)
 
-numbered-push : (i : ℕ) (xs : List ℕ) (x : ℕ) → numbered_from i (xs ++ x ∷ []) ≡ numbered_from i xs ++ record { node = x; number = i + length xs } ∷ []
+pub numbered-push : (i : ℕ) (xs : List ℕ) (x : ℕ) → numbered_from i (xs ++ x ∷ []) ≡ numbered_from i xs ++ record { node = x; number = i + length xs } ∷ []
 numbered-push i [] x = ap (λ n. record { node = x; number = n } ∷ []) (omega arith)
 numbered-push i (y ∷ xs) x =
     let n : suc i + length xs ≡ i + length (y ∷ xs) = omega arith in
