@@ -1,5 +1,5 @@
 -- What stands in a header holds no statements but in functions and static blocks.
-use Rattle.std.proofs.Common.{◌≡◌, ℕ, List, [], ◌∷◌, ◌++◌, Bool, true, false, not, ◌&&◌, ◌||◌, cond, None, ◌⊎◌, inl, inr, refl, sym, ap, subst, ◌∙◌, bytes_eq, codes, ◌==◌, if◌then◌else◌}
+use Rattle.std.proofs.Common.{◌≡◌, ℕ, List, [], ◌∷◌, Bool, true, false, not, ◌&&◌, ◌||◌, None, ◌⊎◌, inl, inr, refl, sym, ap, subst, ◌∙◌, bytes_eq, codes}
 use Rattle.std.specs.List.{list_all, list_any}
 use Rattle.std.proofs.lemmas.Bool.{cases_Bool}
 use Rattle.std.proofs.lemmas.Slice.Eq.{bytes_eq-Decides}
@@ -17,12 +17,11 @@ use Rattle.semantic_kinds.specs.declared.part.Part.{Part}
 use Rattle.semantic_tree.specs.Tree.{Tree}
 use Rattle.semantic_tree.specs.Faults.{first_fault}
 use Rattle.semantic_tree.specs.Place.{child_place}
-use Rattle.semantic_tree.specs.Rules.{stands, function_stands, number_in}
+use Rattle.semantic_tree.specs.Rules.{stands, function_stands}
 use Rattle.semantic_tree.specs.declared.node.Node.{Node}
 use Rattle.semantic_tree.specs.declared.place.Place.{Place}
-use Rattle.semantic_model.specs.Nodes.{is_role_of}
-use Rattle.semantic_model.specs.Inside.{header_roles, is_in_header, is_parameter_decorator}
-use Rattle.semantic_model.proofs.Clauses.{kind_is, role_is, first_holds, second_holds, both_hold}
+use Rattle.semantic_model.specs.Inside.{is_in_header, is_parameter_decorator}
+use Rattle.semantic_model.proofs.Clauses.{kind_is, first_holds, second_holds}
 use Rattle.walk_model.proofs.Shapes.{HoldsPart, HoldParts, holds_below, tree_holds, tree_stands}
 
 -- kinds that hold statements, or declare by `var`
@@ -103,9 +102,9 @@ not_loose : (c : Class) (k2 : AstType) (text : List ℕ) → is_open_class c ≡
 not_loose c k2 text e h = elim (cases_Bool (is_loose k2)) [
   | inr q ↦ q
   | inl q ↦ elim (none_loose c e text) [
-      | inl a ↦ (let w : not (is_of c k2 text) ≡ true = each_of (λ k. not (is_of c k text)) loose_kinds k2 a q in let v : false ≡ true = sym (ap not h) ∙ w in absurd cc)
-      | inr o ↦ absurd (not_any o.0 k2 (subst (λ d. is_open_class d ≡ false) o.1 e) (sym (only_is o.0 k2 text) ∙ subst (λ d. is_of d k2 text ≡ true) o.1 h) q)
-    ]
+    | inl a ↦ (let w : not (is_of c k2 text) ≡ true = each_of (λ k. not (is_of c k text)) loose_kinds k2 a q in let v : false ≡ true = sym (ap not h) ∙ w in absurd cc)
+    | inr o ↦ absurd (not_any o.0 k2 (subst (λ d. is_open_class d ≡ false) o.1 e) (sym (only_is o.0 k2 text) ∙ subst (λ d. is_of d k2 text ≡ true) o.1 h) q)
+  ]
 ]
 
 -- a function of such a class is an expression

@@ -1,6 +1,5 @@
 -- As a header ends, what the scopes in it bind is as it stays, and so are the flags of their symbols.
-use Rattle.std.proofs.Common.{◌≡◌, ℕ, suc, ◌<◌, ◌≤◌, List, [], ◌∷◌, ◌++◌, Option, Some, None, Bool, true, false, cond, ◌&&◌, ◌||◌, ◌⊎◌, inl, inr, refl, sym, ap, subst, ◌∙◌, map, flat_map, length, nat_lt, arith}
-use Rattle.std.proofs.lemmas.Bool.{cases_Bool}
+use Rattle.std.proofs.Common.{◌≡◌, ℕ, ◌<◌, ◌≤◌, List, [], ◌∷◌, ◌++◌, Some, None, Bool, true, false, cond, ◌&&◌, ◌⊎◌, inl, inr, refl, sym, ap, subst, ◌∙◌, map, flat_map, length, nat_lt, arith}
 use Rattle.std.proofs.lemmas.Bool.Decides.{eqb_tells, Decides-ltb}
 use Rattle.std.proofs.lemmas.List.{length-append}
 use Rattle.semantic_kinds.specs.Roles.{same_role}
@@ -13,31 +12,29 @@ use Rattle.semantic_tree.specs.declared.node.Node.{Node}
 use Rattle.semantic_model.specs.Nodes.{is, has}
 use Rattle.semantic_model.specs.Names.{names_at}
 use Rattle.semantic_model.specs.Place.{Place, OpenScope, innermost, parent_holds}
-use Rattle.semantic_model.specs.Entries.{Among}
-use Rattle.semantic_model.specs.Binding.{Binding, get}
+use Rattle.semantic_model.specs.Binding.{get}
 use Rattle.semantic_model.specs.Declaration.{How, plain, hoisted, moved, caught, Declaration, here, first_with, contains}
 use Rattle.semantic_model.specs.Binder.{Row, declare, is_var, is_statement, own_function_row, class_row, type_parameter_row, ids, declared_on_entering, declared_inside, declared_on_opening}
-use Rattle.semantic_model.specs.Event.{Event, declares, takes_over, ends_header, placed, placed_by, is_catch_body, taken_over, declares_all, events_of}
+use Rattle.semantic_model.specs.Event.{Event, declares, takes_over, placed_by, is_catch_body, taken_over, declares_all, events_of}
 use Rattle.semantic_model.specs.Step.{Step, entering, opening, header_ending, closing, leaving}
 use Rattle.semantic_model.specs.Fold.{State, flags_of}
 use Rattle.semantic_model.specs.Hoist.{act, run}
-use Rattle.semantic_model.proofs.Bounds.{IsSound, Grows}
-use Rattle.semantic_model.proofs.Growth.{act_grows, run_grows}
+use Rattle.semantic_model.proofs.Bounds.{IsSound}
+use Rattle.semantic_model.proofs.Growth.{act_grows}
 use Rattle.semantic_model.proofs.BindingLaws.{get_among}
 use Rattle.semantic_model.proofs.Bounds.{get_below}
 use Rattle.semantic_model.proofs.Lists.{IsBelow}
-use Rattle.semantic_model.proofs.Compose.{run-append}
-use Rattle.semantic_model.proofs.Clauses.{kind_is, first_holds, second_holds}
+use Rattle.semantic_model.proofs.Clauses.{kind_is, first_holds}
 use Rattle.walk_model.specs.Walks.{numbers}
-use Rattle.walk_model.proofs.Nested.{Descends, AreOpen, IsChain, IsNestedStep, AreNested, open_past, seen_past, IsInnermost}
-use Rattle.walk_model.proofs.Routes.{grounded, GoesOut, AllGoOut, HasVar, entering_goes, opening_goes}
+use Rattle.walk_model.proofs.Nested.{Descends, AreOpen, IsNestedStep, AreNested, open_past, seen_past}
+use Rattle.walk_model.proofs.Routes.{grounded, HasVar, entering_goes, opening_goes}
 use Rattle.walk_model.proofs.Grounds.{IsGrounded, IsStepGrounded, AllGrounded}
 use Rattle.walk_model.proofs.Simulated.{root_declares_none, body_has_var, first_below}
-use Rattle.walk_model.proofs.Sides.{AreOf, IsSided, IsOn, act_sided}
+use Rattle.walk_model.proofs.Sides.{IsSided, act_sided}
 use Rattle.walk_model.proofs.Unmoved.{Keeps, AreOnOther, run_keeps, capped, capped_beyond, capped_sided}
 use Rattle.walk_model.proofs.Closed.{is_closed}
-use Rattle.walk_model.proofs.Headed.{VarAbove, AllVarAbove, IsSheltered, AllLess, IsHeadedPlace, IsHeadedStep, AreHeaded, awaiting_past, flags_past, has_header}
-use Rattle.walk_model.proofs.Touched.{Touches, ChainOn, AllTouch, touch-append, declares_touch, above, above_is, above_not, OneSided, AllOneSided, one-append, entering_sided}
+use Rattle.walk_model.proofs.Headed.{VarAbove, IsSheltered, AllLess, IsHeadedStep, awaiting_past, has_header}
+use Rattle.walk_model.proofs.Touched.{ChainOn, AllTouch, touch-append, declares_touch, above, above_is, above_not, OneSided, AllOneSided, one-append, entering_sided}
 
 -- the symbols held above the scope are held there alone
 pub record SidedAt (c : ℕ) (st : State) : Type 0 where
@@ -126,8 +123,8 @@ frozen c n st es h w s t =
     record {
       bound = λ x y l m. k.bound x y (between_is c n x l m);
       flags = λ x y z l m e.
-        let q : IsBelow (length st.symbols) (Some z) = subst (IsBelow (length st.symbols)) e (get_below (length st.symbols) st.bindings x y s.bindings) in
-        k.flags z (sym (sided.bindings (record { scope = x; name = y; symbol = z }) (get_among st.bindings x y z e)) ∙ between_is c n x l m) q;
+          let q : IsBelow (length st.symbols) (Some z) = subst (IsBelow (length st.symbols)) e (get_below (length st.symbols) st.bindings x y s.bindings) in
+          k.flags z (sym (sided.bindings (record { scope = x; name = y; symbol = z }) (get_among st.bindings x y z e)) ∙ between_is c n x l m) q;
     }
   where
     and_true : (a : Bool) → (a && true) ≡ a
@@ -229,11 +226,12 @@ entering_all (c ∷ cs) n ds p st g k sh s h =
 opening_all : (cs : List ℕ) (n : ℕ) (ds : List Declaration) (p : Place) (s : OpenScope) (st : State) → s.number ≡ n → AllLess cs n → Descends n p.chain → IsSheltered cs p → IsSound st → AllSidedAt cs st → AllSidedAt cs (run st (taken_over p s ++ declares_all ds (declared_on_opening p s)))
 opening_all [] n ds p s st e l k sh b h = tt
 opening_all (c ∷ cs) n ds p s st e l k sh b h =
-    let each : ((is_closed p.node.kind p.node.text ≡ true) ⊎ VarAbove c p.chain) × IsSheltered cs p = sheltered_each c cs p sh in
-    (sided_run c st (taken_over p s ++ declares_all ds (declared_on_opening p s))
-        (one-append c (taken_over p s) (declares_all ds (declared_on_opening p s)) (taken_sided c n p s e l.0 k each.0) (plain_sided c ds (declared_on_opening p s) (opening_plain p.node.kind p s)))
-        b h.0,
-    opening_all cs n ds p s st e l.1 k each.1 b h.1)
+    let each : ((is_closed p.node.kind p.node.text ≡ true) ⊎ VarAbove c p.chain) × IsSheltered cs p = sheltered_each c cs p sh in (
+      sided_run c st (taken_over p s ++ declares_all ds (declared_on_opening p s))
+          (one-append c (taken_over p s) (declares_all ds (declared_on_opening p s)) (taken_sided c n p s e l.0 k each.0) (plain_sided c ds (declared_on_opening p s) (opening_plain p.node.kind p s)))
+          b h.0,
+      opening_all cs n ds p s st e l.1 k each.1 b h.1,
+    )
 
 -- so it is after each step
 pub sides_step : (ds : List Declaration) (st : State) (stack : List ℕ) (seen : List (List ℕ)) (awaiting fs : List ℕ) (step : Step) → length fs ≡ length seen → IsNestedStep stack seen step → IsStepGrounded step → IsHeadedStep awaiting fs step → IsSound st → IsWithin (length seen) st → AllSidedAt awaiting st
@@ -248,11 +246,12 @@ sides_step ds st stack seen awaiting fs (opening p s) e k g h b w a = by (has_he
     old = opening_all awaiting (length seen) ds p s st number (subst (AllLess awaiting) e h.1) k.0.descends h.0 b a
 
     by : (t : Bool) → AllSidedAt (cond t (s.number ∷ awaiting) awaiting) (run st (events_of ds (opening p s)))
-    by true =
-        (sided_run s.number st (events_of ds (opening p s))
-            (one-append s.number (taken_over p s) (declares_all ds (declared_on_opening p s)) (taken_new (length seen) p s number g k.0.descends) (plain_sided s.number ds (declared_on_opening p s) (opening_plain p.node.kind p s)))
-            b (sided_new s.number st (subst (λ n. IsWithin n st) (sym number) w)),
-        old)
+    by true = (
+      sided_run s.number st (events_of ds (opening p s))
+          (one-append s.number (taken_over p s) (declares_all ds (declared_on_opening p s)) (taken_new (length seen) p s number g k.0.descends) (plain_sided s.number ds (declared_on_opening p s) (opening_plain p.node.kind p s)))
+          b (sided_new s.number st (subst (λ n. IsWithin n st) (sym number) w)),
+      old,
+    )
     by false = old
 sides_step ds st stack seen awaiting fs (header_ending p s) e k g h b w a =
     subst (λ l. AllSidedAt (awaiting_past l (header_ending p s)) st) (sym h.is) (subst (λ l. AllSidedAt l st) h.is a).1

@@ -1,14 +1,11 @@
 -- The headers of a program's steps: which are still to end, and what stands in them.
-use Rattle.std.proofs.Common.{◌≡◌, ℕ, zero, suc, ◌+◌, ◌<◌, ◌≤◌, ◌==◌, List, [], ◌∷◌, ◌++◌, Option, Some, None, Bool, true, false, cond, ◌&&◌, ◌||◌, not, ◌⊎◌, inl, inr, refl, sym, ap, subst, ◌∙◌, length, bytes_eq, codes, arith}
+use Rattle.std.proofs.Common.{◌≡◌, ℕ, zero, suc, ◌+◌, ◌<◌, ◌≤◌, List, [], ◌∷◌, ◌++◌, Option, Some, None, Bool, true, false, cond, ◌&&◌, ◌||◌, not, ◌⊎◌, inl, inr, refl, sym, ap, subst, ◌∙◌, length, bytes_eq, codes, arith}
 use Rattle.std.specs.Prelude.{slice_get}
 use Rattle.std.proofs.lemmas.List.{length-append}
 use Rattle.std.proofs.lemmas.Bool.{cases_Bool}
 use Rattle.std.proofs.lemmas.Bool.Decides.{eqb_tells}
 use Rattle.semantic_tree.specs.Forest.{Forest, nothing, tree}
-use Rattle.semantic_tree.specs.Tree.{Tree}
-use Rattle.semantic_tree.specs.Faults.{first_fault}
 use Rattle.semantic_tree.specs.declared.node.Node.{Node}
-use Rattle.semantic_kinds.specs.Kinds.{same_kind}
 use Rattle.semantic_kinds.specs.Roles.{same_role}
 use Rattle.semantic_kinds.specs.declared.kind.AstType.{AstType}
 use Rattle.semantic_kinds.specs.declared.kind.AstType.TheVariants as kind
@@ -17,20 +14,15 @@ use Rattle.semantic_kinds.specs.declared.role.Role.TheVariants as role
 use Rattle.semantic_syntax.specs.declared.scope_flags.TheConstants.ScopeFlags as scope
 use Rattle.semantic_syntax.specs.Sets.{meets, union}
 use Rattle.semantic_model.specs.Nodes.{is, has_role, reads, child_of, holds, has_use_strict}
-use Rattle.semantic_model.specs.Place.{Place, OpenScope, outside, is_strict}
-use Rattle.semantic_model.specs.Inside.{opens, is_inside, any_inside, header_roles, is_in_header, is_parameter_decorator, scopes_in}
-use Rattle.semantic_model.specs.ScopeKind.{strict_if, strict_by_body, accessor, value_of, method_flags, flags_of_kind, opened_scope}
-use Rattle.semantic_model.specs.Cursor.{on_entering}
+use Rattle.semantic_model.specs.Place.{Place, OpenScope, is_strict}
+use Rattle.semantic_model.specs.Inside.{opens, is_inside, any_inside, header_roles, is_in_header}
+use Rattle.semantic_model.specs.ScopeKind.{strict_if, accessor, value_of, method_flags, flags_of_kind, opened_scope}
 use Rattle.semantic_model.specs.Declaration.{contains, first_with}
 use Rattle.semantic_model.specs.Binder.{is_var}
-use Rattle.semantic_model.specs.Step.{Step, entering, opening, header_ending, closing, leaving, steps_below, steps, opening_at, ending_after, opening_last, scope_at, next_at, child_place, chain_within, cursor_past, root_place}
-use Rattle.semantic_model.proofs.Clauses.{kind_is, first_holds, second_holds}
-use Rattle.semantic_model.proofs.Members.{contains_first}
-use Rattle.semantic_model.proofs.Opened.{openings, openings-append, opened_below, none_after}
-use Rattle.walk_model.proofs.Nested.{IsInnermost, header_inside}
-use Rattle.walk_model.proofs.Shapes.{holds_below}
-use Rattle.walk_model.proofs.Closed.{is_loose, is_closed, is_bound, asks_closed, closed_by_table, closed_by_place, child_closed, table_closes, place_closes}
-use Rattle.walk_model.proofs.Ordered.{is_name, may_lead, ordered_below, tree_ordered, names_identifier, tree_names, nothing_below}
+use Rattle.semantic_model.specs.Step.{Step, entering, opening, header_ending, closing, leaving, opening_at, ending_after, opening_last, scope_at}
+use Rattle.semantic_model.proofs.Opened.{openings}
+use Rattle.walk_model.proofs.Nested.{IsInnermost}
+use Rattle.walk_model.proofs.Closed.{is_closed, is_bound}
 
 -- whether the scope of the place has a header
 abbrev pub has_header : Place → Bool
@@ -104,7 +96,7 @@ abbrev pub AreHeaded : List ℕ → List ℕ → List Step → Type 0
 AreHeaded awaiting fs [] = Unit {0}
 AreHeaded awaiting fs (s ∷ more) = IsHeadedStep awaiting fs s × AreHeaded (awaiting_past awaiting s) (flags_past fs s) more
 
-awaiting-append : (awaiting : List ℕ) (xs ys : List Step) → awaiting_after awaiting (xs ++ ys) ≡ awaiting_after (awaiting_after awaiting xs) ys
+pub awaiting-append : (awaiting : List ℕ) (xs ys : List Step) → awaiting_after awaiting (xs ++ ys) ≡ awaiting_after (awaiting_after awaiting xs) ys
 awaiting-append awaiting [] ys = refl
 awaiting-append awaiting (x ∷ xs) ys = awaiting-append (awaiting_past awaiting x) xs ys
 
@@ -171,10 +163,13 @@ chain_less_more (s ∷ ss) n m l h = (omega (arith, h.0, l), chain_less_more ss 
 -- one more scope that awaits its end is none of the chain's
 pub match_more : (c : ℕ) (awaiting : List ℕ) (chain : List OpenScope) → ChainLess chain c → AllMatch awaiting chain → AllMatch (c ∷ awaiting) chain
 match_more c awaiting [] l h = tt
-match_more c awaiting (s ∷ ss) l h = (h.0 ∙ (elim (eqb_tells c s.number) [
-  | inl q ↦ absurd (omega (arith, q.1, l.0))
-  | inr q ↦ ap (λ b. b || contains awaiting s.number) (sym q.0)
-]), match_more c awaiting ss l.1 h.1)
+match_more c awaiting (s ∷ ss) l h = (
+  h.0 ∙ (elim (eqb_tells c s.number) [
+    | inl q ↦ absurd (omega (arith, q.1, l.0))
+    | inr q ↦ ap (λ b. b || contains awaiting s.number) (sym q.0)
+  ]),
+  match_more c awaiting ss l.1 h.1,
+)
 
 -- a function's scope, an arrow's and a static block's end the way of a `var`
 abbrev IsAccessory : ℕ → Type 0

@@ -1,33 +1,21 @@
 -- What stands in the headers of a program.
-use Rattle.std.proofs.Common.{◌≡◌, ℕ, suc, ◌+◌, ◌<◌, ◌≤◌, List, [], ◌∷◌, ◌++◌, Option, Some, None, Bool, true, false, cond, ◌&&◌, ◌||◌, not, ◌⊎◌, inl, inr, refl, sym, ap, subst, ◌∙◌, length, arith}
-use Rattle.std.specs.Prelude.{slice_get}
+use Rattle.std.proofs.Common.{◌≡◌, ℕ, ◌≤◌, List, [], ◌∷◌, Option, Some, None, Bool, true, false, cond, ◌&&◌, ◌||◌, not, ◌⊎◌, inl, inr, refl, sym, ap, subst, ◌∙◌, length, arith}
 use Rattle.std.proofs.lemmas.Bool.{cases_Bool}
-use Rattle.semantic_tree.specs.Forest.{Forest, nothing, tree}
-use Rattle.semantic_tree.specs.Tree.{Tree}
-use Rattle.semantic_tree.specs.Faults.{first_fault}
+use Rattle.semantic_tree.specs.Forest.{Forest}
 use Rattle.semantic_tree.specs.declared.node.Node.{Node}
-use Rattle.semantic_kinds.specs.Kinds.{same_kind}
-use Rattle.semantic_kinds.specs.Roles.{same_role}
 use Rattle.semantic_kinds.specs.declared.kind.AstType.{AstType}
-use Rattle.semantic_kinds.specs.declared.kind.AstType.TheVariants as kind
 use Rattle.semantic_kinds.specs.declared.role.Role.{Role}
-use Rattle.semantic_kinds.specs.declared.role.Role.TheVariants as role
-use Rattle.semantic_model.specs.Nodes.{is, has_role}
+use Rattle.semantic_model.specs.Nodes.{has_role}
 use Rattle.semantic_model.specs.Place.{Place, OpenScope, outside}
-use Rattle.semantic_model.specs.Inside.{opens, is_inside, any_inside, header_roles, is_in_header, is_parameter_decorator, scopes_in}
-use Rattle.semantic_model.specs.Cursor.{on_entering}
-use Rattle.semantic_model.specs.Declaration.{contains, first_with}
+use Rattle.semantic_model.specs.Inside.{is_inside, header_roles, is_in_header, is_parameter_decorator}
+use Rattle.semantic_model.specs.Declaration.{contains}
 use Rattle.semantic_model.specs.Binder.{is_var}
-use Rattle.semantic_model.specs.Step.{Step, entering, leaving, steps_below, steps, opening_at, ending_after, opening_last, scope_at, next_at, child_place, chain_within, cursor_past, root_place}
-use Rattle.semantic_model.proofs.Clauses.{kind_is, first_holds, second_holds}
+use Rattle.semantic_model.specs.Step.{child_place, chain_within}
 use Rattle.semantic_model.proofs.Members.{contains_first}
-use Rattle.semantic_model.proofs.Opened.{openings, openings-append, opened_below, none_after}
-use Rattle.walk_model.proofs.Nested.{header_inside}
-use Rattle.walk_model.proofs.Grounds.{is_open_inside}
 use Rattle.walk_model.proofs.Shapes.{holds_below}
-use Rattle.walk_model.proofs.Closed.{is_loose, is_closed, is_bound, asks_closed, closed_by_table, closed_by_place, child_closed, table_closes, place_closes}
-use Rattle.walk_model.proofs.Ordered.{is_name, may_lead, ordered_below, tree_ordered, names_identifier, tree_names, nothing_below}
-use Rattle.walk_model.proofs.Headed.{has_header, awaiting_past, flags_past, awaiting_after, flags_after, AreFlagged, AllMatch, VarAbove, AllVarAbove, IsSheltered, AllLess, IsHeadedPlace, AreHeaded, LeadsOn, leads_on-append, flags-append, flags_length, flagged_later, less_more, not_among, ChainLess, chain_less_more, match_more, bound_inside, left, awaiting_with, OwnHead, OwnHeadOf, at_opening, own_opened, own_later, at_last, none_with, at_ending}
+use Rattle.walk_model.proofs.Closed.{is_loose, is_closed, is_bound, asks_closed, closed_by_table, closed_by_place, child_closed}
+use Rattle.walk_model.proofs.Ordered.{is_name, may_lead, ordered_below, names_identifier}
+use Rattle.walk_model.proofs.Headed.{AreFlagged, AllMatch, AllVarAbove, IsSheltered, AllLess, not_among, ChainLess, match_more, bound_inside, left, awaiting_with, OwnHead, OwnHeadOf}
 
 -- the children that are left keep the rules
 pub record Shaped (k : AstType) (f : Forest) : Type 0 where
@@ -164,10 +152,13 @@ own_above (c ∷ cs) s chain v l = (record { next = s; is = rw v refl; above = l
 
 deeper_above : (awaiting : List ℕ) (s : OpenScope) (chain : List OpenScope) → AllLess awaiting s.number → AllVarAbove awaiting chain → AllVarAbove awaiting (s ∷ chain)
 deeper_above [] s chain l h = tt
-deeper_above (c ∷ cs) s chain l h = (elim (cases_Bool (is_var s)) [
-  | inl v ↦ record { next = s; is = rw v refl; above = l.0 }
-  | inr v ↦ record { next = h.0.next; is = rw v h.0.is; above = h.0.above }
-], deeper_above cs s chain l.1 h.1)
+deeper_above (c ∷ cs) s chain l h = (
+  elim (cases_Bool (is_var s)) [
+    | inl v ↦ record { next = s; is = rw v refl; above = l.0 }
+    | inr v ↦ record { next = h.0.next; is = rw v h.0.is; above = h.0.above }
+  ],
+  deeper_above cs s chain l.1 h.1,
+)
 
 within_sheltered : (awaiting fs : List ℕ) (p : Place) (own : Option OpenScope) (f : Forest) (r : Role) → (is_inside p.node.kind r ≡ true → own ≡ None → ⊥) → (is_loose p.node.kind ≡ false → is_bound p.node.kind ≡ true) → IsSheltered awaiting p → OwnHeadOf awaiting fs p own f
     → AllVarAbove awaiting (chain_within p r own)
@@ -220,9 +211,9 @@ pub child_sheltered : (awaiting fs : List ℕ) (p : Place) (own : Option OpenSco
 child_sheltered awaiting fs p own f after cursor r node i m e t g sh o = elim (cases_Bool (is_closed node.kind node.text)) [
   | inl c ↦ inl c
   | inr c ↦ elim (cases_Bool (asks_closed p.node.kind r)) [
-      | inl a ↦ (let w : true ≡ false = sym (child_closed p.node.kind r node.kind node.text t g a) ∙ c in absurd cc)
-      | inr a ↦ inr (open_child (asks_not p.node.kind r a))
-    ]
+    | inl a ↦ (let w : true ≡ false = sym (child_closed p.node.kind r node.kind node.text t g a) ∙ c in absurd cc)
+    | inr a ↦ inr (open_child (asks_not p.node.kind r a))
+  ]
 ]
   where
     open_child : AsksNot p.node.kind r → AllVarAbove (awaiting_with p own f awaiting) (child_place p own cursor r node).chain

@@ -1,6 +1,5 @@
 -- The steps of a program are headed.
-use Rattle.std.proofs.Common.{◌≡◌, ℕ, suc, ◌+◌, ◌<◌, ◌≤◌, List, [], ◌∷◌, ◌++◌, Option, Some, None, Bool, true, false, cond, ◌&&◌, ◌||◌, not, ◌⊎◌, inl, inr, refl, sym, ap, subst, ◌∙◌, length, arith}
-use Rattle.std.proofs.lemmas.Bool.{cases_Bool}
+use Rattle.std.proofs.Common.{◌≡◌, ℕ, suc, ◌+◌, ◌≤◌, List, [], ◌∷◌, ◌++◌, Option, Some, None, Bool, true, false, cond, ◌||◌, not, ◌⊎◌, inl, inr, refl, sym, ap, subst, ◌∙◌, length, arith}
 use Rattle.semantic_tree.specs.Forest.{Forest, nothing, tree}
 use Rattle.semantic_tree.specs.Tree.{Tree}
 use Rattle.semantic_tree.specs.Faults.{first_fault}
@@ -9,19 +8,19 @@ use Rattle.semantic_kinds.specs.Kinds.{same_kind}
 use Rattle.semantic_kinds.specs.declared.kind.AstType.{AstType}
 use Rattle.semantic_kinds.specs.declared.kind.AstType.TheVariants as kind
 use Rattle.semantic_kinds.specs.declared.role.Role.{Role}
-use Rattle.semantic_model.specs.Nodes.{is, has_role}
+use Rattle.semantic_model.specs.Nodes.{has_role}
 use Rattle.semantic_model.specs.Place.{Place, OpenScope}
 use Rattle.semantic_model.specs.Inside.{opens, is_inside, header_roles, is_in_header, scopes_in}
 use Rattle.semantic_model.specs.ScopeKind.{opened_scope}
 use Rattle.semantic_model.specs.Cursor.{on_entering}
 use Rattle.semantic_model.specs.Step.{Step, entering, opening, closing, leaving, steps_below, steps, opening_at, ending_after, opening_last, scope_at, next_at, child_place, cursor_past, root_place}
-use Rattle.semantic_model.proofs.Clauses.{kind_is, first_holds, second_holds}
+use Rattle.semantic_model.proofs.Clauses.{kind_is, second_holds}
 use Rattle.semantic_model.proofs.Opened.{openings, openings-append, opened_below, none_after}
 use Rattle.walk_model.proofs.Grounds.{is_open_inside}
 use Rattle.walk_model.proofs.Shapes.{holds_below}
 use Rattle.walk_model.proofs.Closed.{table_closes, place_closes}
-use Rattle.walk_model.proofs.Ordered.{is_name, may_lead, tree_ordered, names_identifier, tree_names, nothing_below}
-use Rattle.walk_model.proofs.Headed.{awaiting_after, flags_after, AreFlagged, AllMatch, IsSheltered, AllLess, IsHeadedPlace, AreHeaded, LeadsOn, leads_on-append, flags-append, flags_length, flagged_later, less_more, ChainLess, chain_less_more, left, awaiting_with, OwnHead, OwnHeadOf, at_opening, own_opened, own_later, at_last, none_with, at_ending, headed-append}
+use Rattle.walk_model.proofs.Ordered.{is_name, tree_ordered, names_identifier, tree_names, nothing_below}
+use Rattle.walk_model.proofs.Headed.{awaiting_after, flags_after, AreFlagged, AllMatch, IsSheltered, AllLess, IsHeadedPlace, AreHeaded, LeadsOn, leads_on-append, flags-append, flags_length, flagged_later, less_more, ChainLess, chain_less_more, left, awaiting_with, OwnHeadOf, at_opening, own_opened, own_later, at_last, none_with, at_ending, headed-append, awaiting-append}
 use Rattle.walk_model.proofs.HeadedBelow.{Shaped, ShapedChild, shaped_child, child_flagged, child_less, child_matches, child_sheltered}
 
 with_less : (awaiting fs : List ℕ) (p : Place) (own : Option OpenScope) (f : Forest) (n : ℕ) → length fs ≤ n → AllLess awaiting n → OwnHeadOf awaiting fs p own f → AllLess (awaiting_with p own f awaiting) n
@@ -130,12 +129,12 @@ headed_below p own n cursor (tree r k span text marks below id after) awaiting f
     let m_child : AllMatch aw child.chain ⊎ ((k ≡ kind.BindingIdentifier) × (below ≡ nothing)) = elim (which p.node.kind r k text below after shaped) [
       | inl i ↦ inl (child_matches awaiting fs_x p scope here cursor r node (inl i) (ap (λ b. b || left p after) i ∙ sym (ap (λ b. b || left p here) i)) m o_x)
       | inr w ↦ elim w [
-          | inl g ↦ inl (child_matches awaiting fs_x p scope here cursor r node (behind (is_in_header p.node.kind r) (left p after) refl g) (sym (or_same (is_in_header p.node.kind r) (left p after))) m o_x)
-          | inr b ↦ inr b
-        ]
+        | inl g ↦ inl (child_matches awaiting fs_x p scope here cursor r node (behind (is_in_header p.node.kind r) (left p after) refl g) (sym (or_same (is_in_header p.node.kind r) (left p after))) m o_x)
+        | inr b ↦ inr b
+      ]
     ] in
     let part : Child aw fs_x child ys = child_part aw fs_x child next inner below fl_child sh_child (subst (AllLess aw) (sym length_x) l_child) m_child
-      (λ mm. headed_below child None next inner below aw fs_x length_x fl_child cl_child mm sh_child l_child refl shaped.inner) in
+    (λ mm. headed_below child None next inner below aw fs_x length_x fl_child cl_child mm sh_child l_child refl shaped.inner) in
     let leaves : LeadsOn aw aw (flags_after fs_x ys) (leaving child ∷ []) = record { headed = (tt, tt); is = refl } in
     let both : LeadsOn aw aw fs_x (ys ++ leaving child ∷ []) = leads_on-append aw aw aw fs_x ys (leaving child ∷ []) part.below leaves in
     let first : LeadsOn (awaiting_with p own here awaiting) aw fs xs = at_opening p r own n here awaiting fs sh (subst (AllLess awaiting) (sym e) l) o in
@@ -145,12 +144,20 @@ headed_below p own n cursor (tree r k span text marks below id after) awaiting f
     let fl_e : AreFlagged fs_e p.chain = flagged_later fs_z es p.chain (flagged_later fs_x zs p.chain fl_x) in
     let far : next ≤ rest = omega arith in
     let fourth : LeadsOn (awaiting_with p scope after awaiting) awaiting fs_e ws =
-      headed_below p scope rest (cursor_past p r cursor child) after awaiting fs_e length_e fl_e (chain_less_more p.chain next rest far cl_x) m sh (less_more awaiting next rest far l_x) o_e shaped.others in
+    headed_below p scope rest (cursor_past p r cursor child) after awaiting fs_e length_e fl_e (chain_less_more p.chain next rest far cl_x) m sh (less_more awaiting next rest far l_x) o_e shaped.others in
     let two : LeadsOn (awaiting_with p own here awaiting) aw fs (xs ++ zs) = leads_on-append (awaiting_with p own here awaiting) aw aw fs xs zs first second in
     let three : LeadsOn (awaiting_with p own here awaiting) (awaiting_with p scope after awaiting) fs (xs ++ zs ++ es) =
-      leads_on-append (awaiting_with p own here awaiting) aw (awaiting_with p scope after awaiting) fs (xs ++ zs) es two (subst (λ g. LeadsOn aw (awaiting_with p scope after awaiting) g es) (sym (flags-append fs xs zs)) third) in
+    leads_on-append (awaiting_with p own here awaiting) aw (awaiting_with p scope after awaiting) fs (xs ++ zs) es two (subst (λ g. LeadsOn aw (awaiting_with p scope after awaiting) g es) (sym (flags-append fs xs zs)) third) in
     leads_on-append (awaiting_with p own here awaiting) (awaiting_with p scope after awaiting) awaiting fs (xs ++ zs ++ es) ws three
     (subst (λ g. LeadsOn (awaiting_with p scope after awaiting) awaiting g ws) (sym (flags-append fs (xs ++ zs) es ∙ ap (λ g. flags_after g es) (flags-append fs xs zs))) fourth)
+
+-- in the end no header is awaited
+pub program_awaits : (p : Tree) → first_fault p ≡ None → awaiting_after [] (steps p) ≡ []
+program_awaits p h =
+    let below : List Step = steps_below (root_place p) None 0 (on_entering p.root.kind 0) p.root.children in
+    let shaped : Shaped p.root.kind p.root.children = record { in_order = tree_ordered p h; by_table = table_closes p h; by_place = place_closes p h; names = tree_names p h } in
+    let led : LeadsOn [] [] [] below = headed_below (root_place p) None 0 (on_entering p.root.kind 0) p.root.children [] [] refl tt tt tt (inr tt) tt refl shaped in
+    awaiting-append [] below (leaving (root_place p) ∷ []) ∙ ap (λ l. awaiting_after l (leaving (root_place p) ∷ [])) led.is
 
 -- so it is in a program
 pub program_headed : (p : Tree) → first_fault p ≡ None → AreHeaded [] [] (steps p)

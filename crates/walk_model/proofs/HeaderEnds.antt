@@ -1,23 +1,17 @@
 -- What becomes of a reference at the end of a header is what its tie tells.
-use Rattle.std.proofs.Common.{◌≡◌, ℕ, suc, ◌+◌, ◌<◌, ◌≤◌, ◌==◌, List, [], ◌∷◌, ◌++◌, Option, Some, None, Bool, true, false, cond, ◌||◌, ◌⊎◌, inl, inr, refl, sym, ap, subst, ◌∙◌, map, length, slice_index_or, arith}
-use Rattle.std.specs.Prelude.{slice_get}
-use Rattle.std.specs.Option.{option_map_or}
-use Rattle.std.proofs.lemmas.Bool.{cases_Bool}
+use Rattle.std.proofs.Common.{◌≡◌, ℕ, ◌<◌, ◌≤◌, List, [], ◌∷◌, ◌++◌, Option, Some, None, Bool, true, false, cond, inl, inr, refl, sym, ap, subst, ◌∙◌, map, length, arith}
 use Rattle.std.proofs.lemmas.Bool.Decides.{eqb_tells}
 use Rattle.std.proofs.lemmas.List.{append_assoc, map-append}
 use Rattle.semantic_syntax.specs.Usable.{settled}
-use Rattle.semantic_syntax.specs.Tables.{Name, Symbol, Scope}
-use Rattle.scoping.specs.Reading.{no_symbol}
+use Rattle.semantic_syntax.specs.Tables.{Name, Scope}
 use Rattle.semantic_model.specs.Place.{OpenScope}
 use Rattle.semantic_model.specs.Binding.{get}
 use Rattle.semantic_model.specs.Declaration.{contains}
 use Rattle.semantic_model.specs.Event.{Event}
-use Rattle.semantic_model.specs.Fold.{State, flags_of, start}
-use Rattle.semantic_model.specs.Hoist.{run}
+use Rattle.semantic_model.specs.Fold.{State, flags_of}
 use Rattle.semantic_model.specs.Lookup.{Seen, Asked, Lookup, tied, barred, unanswered, lookup}
-use Rattle.semantic_model.specs.Tie.{Tie, until_end_of, seen_as, answer, symbol_by, symbol_of, final_flags, header_from, moment_by, moment, is_at, is_last}
-use Rattle.semantic_model.specs.Outward.{way_of, parent_of}
-use Rattle.semantic_model.specs.Outcome.{Source, Pending, Outcome, means, is_free, waits, source_of, chain, up_to, answer as source_answer, lookup_along, outcome_or, waits_outside, is_below, header_outcome, last_outcome}
+use Rattle.semantic_model.specs.Tie.{Tie, seen_as, answer, symbol_by, final_flags, header_from, moment, is_at}
+use Rattle.semantic_model.specs.Outcome.{Pending, Outcome, source_of, answer as source_answer, outcome_or}
 use Rattle.semantic_model.proofs.Bounds.{IsSound, get_below}
 use Rattle.semantic_model.proofs.Lists.{IsBelow}
 use Rattle.semantic_model.proofs.Members.{contains_first}
@@ -28,10 +22,10 @@ use Rattle.walk_model.proofs.Represents.{Shows}
 use Rattle.walk_model.proofs.Nested.{AreLinked, Descends, descends_more}
 use Rattle.walk_model.proofs.OpenedScopes.{ShowsScopes}
 use Rattle.walk_model.proofs.Headed.{AllMatch, AreFlagged, AllLess, not_among}
-use Rattle.walk_model.proofs.Lookups.{answered_in, lookup_first, lookup_through, answered_among, IsSeenBy, first_sees, later_sees, tied_is_seen, AreAlike, lookup_alike, in_headers, header_among, header_skip, NoneInHeader, header_at, header_none, moment_answered, moment_unanswered, not_at}
-use Rattle.walk_model.proofs.Settling.{IsRight, ties, frees, goes_on}
+use Rattle.walk_model.proofs.Lookups.{answered_in, lookup_first, lookup_through, answered_among, IsSeenBy, first_sees, later_sees, tied_is_seen, in_headers, header_among, header_skip, NoneInHeader, header_at, moment_answered, not_at}
+use Rattle.walk_model.proofs.Settling.{IsRight, ties, frees}
 use Rattle.walk_model.proofs.Frozen.{Frozen}
-use Rattle.walk_model.proofs.Sources.{answer_bound, chain_is, parent_is, up_to_is, IsViewed, AllViewed, viewed-append, all_alike, viewed_frozen, viewed_ending}
+use Rattle.walk_model.proofs.Sources.{answer_bound, AllViewed, viewed_frozen}
 
 -- the walk's tables at some step
 pub record At (w : Standing) (st : State) (stack : List ℕ) (seen calls : List (List ℕ)) (bare : List Scope) (fs : List ℕ) : Type 0 where
@@ -118,8 +112,8 @@ pub answered_now : (final : State) (es : List Event) (t : Tie) (n d : ℕ) (xs s
     → NoneInHeader seg → h.in_header ≡ true → answered_in (looked_up final es t (seg ++ h ∷ [])) ≡ Some d → (t.lookup ≡ looked_up final es t (seg ++ h ∷ [])) × (moment t ≡ Some h.number)
 answered_now final es t n d xs seg h tail e f i k none inside a =
     let whole : t.lookup ≡ looked_up final es t (seg ++ h ∷ []) =
-      past_asked final es t xs (seg ++ h ∷ tail) e f i ∙ ap (lookup t.reference.name t.reference.way) (split_answers final es t seg h tail)
-      ∙ lookup_first t.reference.name t.reference.way (answers_of final es t (seg ++ h ∷ [])) (answers_of final es t tail) d a in
+    past_asked final es t xs (seg ++ h ∷ tail) e f i ∙ ap (lookup t.reference.name t.reference.way) (split_answers final es t seg h tail)
+    ∙ lookup_first t.reference.name t.reference.way (answers_of final es t (seg ++ h ∷ [])) (answers_of final es t tail) d a in
     let there : contains (numbers (seg ++ h ∷ [])) d ≡ true = subst (λ l. contains l d ≡ true) (scopes_of final es t (seg ++ h ∷ [])) (answered_among t.reference.name t.reference.way (answers_of final es t (seg ++ h ∷ [])) d a) in
     let out : contains (numbers xs) d ≡ false = apart n xs (seg ++ h ∷ tail) d (subst (Descends n) e k) (more_there seg h tail d there) in
     (whole, moment_answered t.lookup t.reference.chain d (ap answered_in whole ∙ a) ∙ ap (header_from d) e ∙ header_skip d xs (seg ++ h ∷ tail) out ∙ header_at d seg h tail none inside there)

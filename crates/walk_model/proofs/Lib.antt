@@ -34,3 +34,4 @@ pub mod RightEnds
 pub mod Tracked
 pub mod Referred
 pub mod ReferredSteps
+pub mod GivesTables

@@ -1,11 +1,11 @@
 -- Lookups along a chain in parts, and the header at whose end they are settled.
-use Rattle.std.proofs.Common.{◌≡◌, ℕ, ◌<◌, ◌≤◌, ◌==◌, List, [], ◌∷◌, ◌++◌, Option, Some, None, Bool, true, false, cond, ◌||◌, ◌⊎◌, inl, inr, refl, sym, ap, subst, ◌∙◌, map, arith}
+use Rattle.std.proofs.Common.{◌≡◌, ℕ, ◌==◌, List, [], ◌∷◌, ◌++◌, Option, Some, None, Bool, true, false, cond, inl, inr, refl, sym, ap, ◌∙◌, map, arith}
 use Rattle.std.proofs.lemmas.Bool.Decides.{eqb_tells}
 use Rattle.semantic_syntax.specs.Tables.{Name}
 use Rattle.semantic_model.specs.Place.{OpenScope}
 use Rattle.semantic_model.specs.Declaration.{contains}
 use Rattle.semantic_model.specs.Lookup.{Seen, Asked, Lookup, tied, barred, unanswered, fits, ends_after, tied_by, or_lookup, lookup}
-use Rattle.semantic_model.specs.Tie.{first_header, header_from, moment_by, is_at, is_last}
+use Rattle.semantic_model.specs.Tie.{first_header, header_from, moment_by, is_at}
 use Rattle.walk_model.specs.Walks.{numbers}
 
 -- the scope that ends the lookup

@@ -77,11 +77,11 @@ flagged_nodes : (f : ℕ → Bool) (k : ℕ) (es : List Scope) → map (λ e. e.
 flagged_nodes f k [] = refl
 flagged_nodes f k (e ∷ es) = ap (λ l. e.node ∷ l) (flagged_nodes f (suc k) es)
 
-nothing_opened : ShowsScopes [] [] [] [] nothing_made
+pub nothing_opened : ShowsScopes [] [] [] [] nothing_made
 nothing_opened = record { scopes = refl; parents = refl; clean = tt; linked = tt; frames = tt; nodes = refl }
 
 -- in the end all scopes are closed
-all_closed : (p : Tree) → open_after [] (steps p) ≡ []
+pub all_closed : (p : Tree) → open_after [] (steps p) ≡ []
 all_closed p =
     let below : List Step = steps_below (root_place p) None 0 (on_entering p.root.kind 0) p.root.children in
     let chain : IsChain [] [] [] = record { are_open = tt; are_linked = tt; descends = tt } in

@@ -1,52 +1,40 @@
 -- Step by step, the walk's references are those of the ties, as far as headers have ended.
-use Rattle.std.proofs.Common.{◌≡◌, ℕ, zero, suc, ◌+◌, ◌<◌, ◌≤◌, ◌==◌, List, [], ◌∷◌, ◌++◌, Option, Some, None, Bool, true, false, cond, ◌||◌, ◌⊎◌, inl, inr, refl, sym, ap, subst, ◌∙◌, map, flat_map, length, slice_index_or, arith}
-use Rattle.std.specs.Prelude.{slice_get, filter}
+use Rattle.std.proofs.Common.{◌≡◌, ℕ, zero, suc, ◌+◌, ◌≤◌, List, [], ◌∷◌, ◌++◌, Option, Some, None, Bool, true, false, cond, inl, inr, refl, sym, ap, subst, ◌∙◌, map, flat_map, length, arith}
+use Rattle.std.specs.Prelude.{slice_get}
 use Rattle.std.specs.List.{range_with_len, cons_option}
 use Rattle.std.specs.Option.{option_map_or}
-use Rattle.std.proofs.lemmas.Bool.Decides.{eqb_tells}
-use Rattle.std.proofs.lemmas.Option.{slice_get_within}
 use Rattle.std.proofs.lemmas.List.{length-append, append_assoc, append-nil, map-append}
 use Rattle.semantic_kinds.specs.declared.kind.AstType.TheVariants as kind
 use Rattle.semantic_syntax.specs.Sets.{meets}
 use Rattle.semantic_syntax.specs.declared.scope_flags.TheConstants.ScopeFlags as scope
-use Rattle.semantic_syntax.specs.declared.references.Reference.{Reference}
-use Rattle.semantic_syntax.specs.Tables.{Scope, Tables, Symbol}
+use Rattle.semantic_syntax.specs.Tables.{Scope, Tables}
 use Rattle.scoping.specs.Reading.{scope_of}
 use Rattle.semantic_model.specs.Nodes.{is}
 use Rattle.semantic_model.specs.Place.{Place, OpenScope, at}
 use Rattle.semantic_model.specs.Reference.{Occurrence, reference_at, references}
-use Rattle.semantic_model.specs.Declaration.{Declaration, contains}
 use Rattle.semantic_model.specs.Step.{Step, entering, opening, header_ending, closing, leaving}
-use Rattle.semantic_model.specs.Event.{Event, declares, takes_over, ends_header, events_of}
-use Rattle.semantic_model.specs.Fold.{State, start}
-use Rattle.semantic_model.specs.Hoist.{run}
-use Rattle.semantic_model.specs.Tie.{Tie, ties, until_end_of, moment, is_at, settled_at}
-use Rattle.semantic_model.specs.Outward.{way_of}
-use Rattle.semantic_model.specs.Outcome.{Pending, Outcome, source_of, header_outcome}
-use Rattle.semantic_model.specs.TablesOf.{is_direct_eval, uses_of}
+use Rattle.semantic_model.specs.Event.{Event, declares, takes_over, ends_header}
+use Rattle.semantic_model.specs.Fold.{State}
+use Rattle.semantic_model.specs.Tie.{Tie, ties, settled_at}
+use Rattle.semantic_model.specs.TablesOf.{uses_of}
 use Rattle.semantic_model.specs.NodeTable.{numbered_from}
-use Rattle.semantic_model.proofs.Bounds.{IsSound, Grows}
-use Rattle.semantic_model.proofs.Growth.{run_grows}
-use Rattle.semantic_model.proofs.Compose.{run-append, flat-append}
+use Rattle.semantic_model.proofs.Bounds.{IsSound}
+use Rattle.semantic_model.proofs.Compose.{flat-append}
 use Rattle.walk_model.specs.Standing.{Standing}
-use Rattle.walk_model.specs.Opens.{add_eval, note_eval, note_reference, refer, open_scope, close_scope}
+use Rattle.walk_model.specs.Opens.{add_eval, note_reference, refer, close_scope}
 use Rattle.walk_model.specs.Noted.{entries_of, with_entry}
-use Rattle.walk_model.specs.Settles.{settle, staying}
-use Rattle.walk_model.specs.Walks as walk
-use Rattle.walk_model.proofs.Represents.{Shows, Represents}
-use Rattle.walk_model.proofs.Simulated.{step_as}
+use Rattle.walk_model.proofs.Represents.{Represents}
 use Rattle.walk_model.proofs.Nested as link
 use Rattle.walk_model.proofs.Nested.{IsChain, IsInnermost, Descends, Extends, get_more, IsNestedStep, AreNested, open_past, open_after, seen_past, seen_after}
 use Rattle.walk_model.proofs.Routes.{HasVar}
-use Rattle.walk_model.proofs.Grounds.{IsGrounded, IsStepGrounded, AllGrounded}
-use Rattle.walk_model.proofs.Untouched.{Untouched, Declares, AllDeclare, acts_untouched}
-use Rattle.walk_model.proofs.OpenedScopes.{ShowsScopes, Frame, AreFrames, bare_past, bare_after, calls_past, calls_after, scopes_step, entering_declares, opening_declares, entries-push, numbered-push}
-use Rattle.walk_model.proofs.Headed.{AllMatch, AreFlagged, AllLess, less_more, not_among, awaiting_past, awaiting_after, flags_past, flags_after, has_header, IsHeadedPlace, IsHeadedStep, AreHeaded}
-use Rattle.walk_model.proofs.Settling.{open_entry, Tracks, none, is_done, is_open, Lists, IsRight, Settled, settle_tracks}
-use Rattle.walk_model.proofs.Frozen.{SidedAt, AllSidedAt, IsWithin, Frozen, frozen, between, between_low, between_high, sides_step, within_step, later_touch}
-use Rattle.walk_model.proofs.HeaderEnds.{At, Waits}
-use Rattle.walk_model.proofs.RightEnds.{right_end}
-use Rattle.walk_model.proofs.Tracked.{tie_of, ties-append, numbered, tracks-push, tracks_map, tracks_length, ties_length, with_ways, IsDone, done_more, done_opening, done_ending, done_not, at_is, waits_opening, OldFirst, AllEnds, ends-append, ends_more, ends_opening, ends_ending, until_is, none_later}
+use Rattle.walk_model.proofs.Grounds.{IsGrounded}
+use Rattle.walk_model.proofs.Untouched.{AllDeclare}
+use Rattle.walk_model.proofs.OpenedScopes.{ShowsScopes, entries-push, numbered-push}
+use Rattle.walk_model.proofs.Headed.{AllMatch, AreFlagged, AllLess, IsHeadedPlace}
+use Rattle.walk_model.proofs.Settling.{Tracks, Lists}
+use Rattle.walk_model.proofs.Frozen.{AllSidedAt, IsWithin}
+use Rattle.walk_model.proofs.HeaderEnds.{Waits}
+use Rattle.walk_model.proofs.Tracked.{tie_of, ties-append, tracks-push, tracks_length, ties_length, IsDone, OldFirst, AllEnds}
 
 -- a scope that isn't the root's
 pub record IsInner (seen : List (List ℕ)) (c : ℕ) : Type 0 where
@@ -171,7 +159,7 @@ pub record Refs (final : State) (es : List Event) (awaiting : List ℕ) (seen : 
 pub refs_same : (final : State) (es : List Event) (awaiting : List ℕ) (seen : List (List ℕ)) (fs : List ℕ) (rs : List Occurrence) (v u : Standing) → u.tables.references ≡ v.tables.references → u.waiting ≡ v.waiting → u.nodes.references ≡ v.nodes.references → Refs final es awaiting seen fs rs v → Refs final es awaiting seen fs rs u
 refs_same final es awaiting seen fs rs v u a b c h = record {
   tracks = subst (λ l. Tracks (IsDone awaiting (length seen)) (Waits awaiting seen fs final es) (ties final es 0 rs) l u.waiting) (sym a)
-    (subst (λ l. Tracks (IsDone awaiting (length seen)) (Waits awaiting seen fs final es) (ties final es 0 rs) v.tables.references l) (sym b) h.tracks);
+      (subst (λ l. Tracks (IsDone awaiting (length seen)) (Waits awaiting seen fs final es) (ties final es 0 rs) v.tables.references l) (sym b) h.tracks);
   nodes = c ∙ h.nodes;
 }
 
@@ -211,12 +199,12 @@ refs_noted final es awaiting stack seen fs rs w p g k h r = by (is kind.Identifi
     by : (b : Bool) → is kind.IdentifierReference p.node ≡ b → IsGrounded p → Refs final es awaiting seen fs (cond b (rs ++ reference_at p ∷ []) rs) (cond b (refer w p) w)
     by true e (inl v) = record {
       tracks = subst (λ ts. Tracks (IsDone awaiting (length seen)) (Waits awaiting seen fs final es) ts (refer w p).tables.references (refer w p).waiting) (sym (ties-append final es 0 rs (reference_at p ∷ [])))
-        (tracks-push (IsDone awaiting (length seen)) (Waits awaiting seen fs final es) (ties final es 0 rs) w.tables.references w.waiting (tie_of final es (0 + length rs) (reference_at p)) (record { name = p.node.text; reference = n; lookup_scope = at p }) r.tracks (waits_new p.chain refl v (h.matches e)));
+          (tracks-push (IsDone awaiting (length seen)) (Waits awaiting seen fs final es) (ties final es 0 rs) w.tables.references w.waiting (tie_of final es (0 + length rs) (reference_at p)) (record { name = p.node.text; reference = n; lookup_scope = at p }) r.tracks (waits_new p.chain refl v (h.matches e)));
       nodes = ap (λ l. with_entry l (record { node = p.node.node_id; number = n })) r.nodes
-        ∙ sym (entries-push (numbered_from 0 (map (λ q. q.node) rs)) (record { node = p.node.node_id; number = n }))
-        ∙ ap (λ m. entries_of (numbered_from 0 (map (λ q. q.node) rs) ++ record { node = p.node.node_id; number = m } ∷ [])) number
-        ∙ ap entries_of (sym (numbered-push 0 (map (λ q. q.node) rs) p.node.node_id))
-        ∙ ap (λ l. entries_of (numbered_from 0 l)) (sym (map-append (λ q. q.node) rs (reference_at p ∷ [])));
+          ∙ sym (entries-push (numbered_from 0 (map (λ q. q.node) rs)) (record { node = p.node.node_id; number = n }))
+          ∙ ap (λ m. entries_of (numbered_from 0 (map (λ q. q.node) rs) ++ record { node = p.node.node_id; number = m } ∷ [])) number
+          ∙ ap entries_of (sym (numbered-push 0 (map (λ q. q.node) rs) p.node.node_id))
+          ∙ ap (λ l. entries_of (numbered_from 0 l)) (sym (map-append (λ q. q.node) rs (reference_at p ∷ [])));
     }
       where
         number : n ≡ 0 + length (map (λ (q : Occurrence). q.node) rs)

@@ -1,48 +1,46 @@
 -- Each step keeps what is tracked of references.
-use Rattle.std.proofs.Common.{◌≡◌, ℕ, zero, suc, ◌+◌, ◌<◌, ◌≤◌, List, [], ◌∷◌, ◌++◌, Option, Some, None, Bool, true, false, cond, ◌⊎◌, inl, inr, refl, sym, ap, subst, ◌∙◌, map, flat_map, length, slice_index_or, arith}
+use Rattle.std.proofs.Common.{◌≡◌, ℕ, zero, suc, ◌+◌, ◌<◌, ◌≤◌, List, [], ◌∷◌, ◌++◌, Some, Bool, true, false, cond, inl, inr, refl, sym, ap, subst, ◌∙◌, map, flat_map, length, slice_index_or, arith}
 use Rattle.std.specs.Prelude.{slice_get, filter}
 use Rattle.std.proofs.lemmas.Bool.Decides.{eqb_tells}
 use Rattle.std.proofs.lemmas.Option.{slice_get_within}
-use Rattle.std.proofs.lemmas.List.{length-append, append_assoc, append-nil, map-append}
+use Rattle.std.proofs.lemmas.List.{length-append, append-nil, map-append}
 use Rattle.semantic_kinds.specs.declared.kind.AstType.TheVariants as kind
 use Rattle.semantic_syntax.specs.declared.references.Reference.{Reference}
-use Rattle.semantic_syntax.specs.Tables.{Scope, Tables, Symbol}
+use Rattle.semantic_syntax.specs.Tables.{Scope}
 use Rattle.semantic_tree.specs.Forest.{Forest, nothing, tree}
 use Rattle.semantic_model.specs.Nodes.{is, has_role}
 use Rattle.semantic_model.specs.Inside.{header_roles}
 use Rattle.walk_model.proofs.Touched.{AllTouch}
 use Rattle.semantic_model.specs.Place.{Place, OpenScope, at}
-use Rattle.semantic_model.specs.Reference.{Occurrence, reference_at, references}
+use Rattle.semantic_model.specs.Reference.{Occurrence, references}
 use Rattle.semantic_model.specs.Declaration.{Declaration, contains}
 use Rattle.semantic_model.specs.Step.{Step, entering, opening, header_ending, closing, leaving}
 use Rattle.semantic_model.specs.Event.{Event, ends_header, events_of}
 use Rattle.semantic_model.specs.Fold.{State, start}
 use Rattle.semantic_model.specs.Hoist.{run}
 use Rattle.semantic_model.specs.Tie.{Tie, ties, until_end_of, moment, is_at, settled_at}
-use Rattle.semantic_model.specs.Outward.{way_of}
-use Rattle.semantic_model.specs.Outcome.{Pending, Outcome, source_of, header_outcome}
+use Rattle.semantic_model.specs.Outcome.{Pending, source_of, header_outcome}
 use Rattle.semantic_model.specs.TablesOf.{is_direct_eval}
-use Rattle.semantic_model.proofs.Bounds.{IsSound, Grows}
 use Rattle.semantic_model.proofs.Growth.{run_grows}
 use Rattle.semantic_model.proofs.Compose.{run-append, flat-append}
 use Rattle.walk_model.specs.Standing.{Standing}
-use Rattle.walk_model.specs.Opens.{note_eval, note_reference, refer, open_scope, close_scope}
+use Rattle.walk_model.specs.Opens.{note_reference, refer, close_scope}
 use Rattle.walk_model.specs.Settles.{settle, staying}
 use Rattle.walk_model.specs.Walks as walk
-use Rattle.walk_model.proofs.Represents.{Shows, Represents}
+use Rattle.walk_model.proofs.Represents.{Represents}
 use Rattle.walk_model.proofs.Simulated.{step_as}
-use Rattle.walk_model.proofs.Nested.{IsInnermost, Extends, IsNestedStep, AreNested, open_past, open_after, seen_past, seen_after}
+use Rattle.walk_model.proofs.Nested.{IsNestedStep, AreNested, open_past, seen_past}
 use Rattle.walk_model.proofs.Routes.{HasVar}
-use Rattle.walk_model.proofs.Grounds.{IsGrounded, IsStepGrounded, AllGrounded}
+use Rattle.walk_model.proofs.Grounds.{IsGrounded, AllGrounded}
 use Rattle.walk_model.proofs.Untouched.{Untouched, AllDeclare, acts_untouched}
-use Rattle.walk_model.proofs.OpenedScopes.{ShowsScopes, Frame, AreFrames, bare_entry, bare_past, bare_after, calls_past, calls_after, scopes_step, entering_declares, opening_declares}
-use Rattle.walk_model.proofs.Headed.{AllLess, less_more, not_among, awaiting_past, awaiting_after, flags_past, flags_after, has_header, IsHeadedStep, AreHeaded}
-use Rattle.walk_model.proofs.Settling.{Tracks, Lists, IsRight, Settled, settle_tracks}
-use Rattle.walk_model.proofs.Frozen.{SidedAt, AllSidedAt, IsWithin, Frozen, frozen, between, between_low, between_high, sides_step, within_step, later_touch}
+use Rattle.walk_model.proofs.OpenedScopes.{AreFrames, bare_entry, bare_past, calls_past, scopes_step, entering_declares, opening_declares}
+use Rattle.walk_model.proofs.Headed.{AllLess, less_more, not_among, awaiting_past, flags_past, has_header, IsHeadedStep, AreHeaded}
+use Rattle.walk_model.proofs.Settling.{Tracks, Lists, Settled, settle_tracks}
+use Rattle.walk_model.proofs.Frozen.{Frozen, frozen, between, between_low, between_high, sides_step, within_step, later_touch}
 use Rattle.walk_model.proofs.HeaderEnds.{At, Waits}
 use Rattle.walk_model.proofs.RightEnds.{right_end}
-use Rattle.walk_model.proofs.Tracked.{ties-append, numbered, tracks_map, with_ways, IsDone, done_more, done_opening, done_ending, done_not, at_is, waits_opening, OldFirst, AllEnds, ends-append, ends_more, ends_opening, ends_ending, until_is, none_later}
-use Rattle.walk_model.proofs.Referred.{IsInner, AllInner, inner_more, Inv, referred_past, referred_next, none_settled, same_settled, none_end, grow_lists, SameReferences, same_eval, same_closing, Refs, refs_same, refs_noted}
+use Rattle.walk_model.proofs.Tracked.{ties-append, numbered, tracks_map, with_ways, IsDone, done_opening, done_ending, done_not, at_is, waits_opening, OldFirst, AllEnds, ends-append, ends_more, ends_opening, ends_ending, until_is, none_later}
+use Rattle.walk_model.proofs.Referred.{IsInner, AllInner, inner_more, Inv, referred_past, same_settled, none_end, grow_lists, SameReferences, same_eval, same_closing, Refs, refs_same, refs_noted}
 
 module _ (ds : List Declaration) (all : List Tie) (final : State) (es : List Event) where
   -- the invariant after a step
@@ -132,11 +130,11 @@ module _ (ds : List Declaration) (all : List Tie) (final : State) (es : List Eve
       let U : Untouched v u = acts_untouched v evs (opening_declares ds p s) in
       let R : Represents (length later) u (run st evs) = step_as ds w st stack seen (opening p s) k g i.represents in
       let moved : Tracks (IsDone (awaiting_past awaiting (opening p s)) (length later)) (Waits (awaiting_past awaiting (opening p s)) later (flags_past fs (opening p s)) final es) (ties final es 0 rs) w.tables.references w.waiting =
-        tracks_map (IsDone awaiting (length seen)) (IsDone (awaiting_past awaiting (opening p s)) (length later)) (Waits awaiting seen fs final es) (Waits (awaiting_past awaiting (opening p s)) later (flags_past fs (opening p s)) final es) (ties final es 0 rs) w.tables.references w.waiting
-        (λ t d. done_opening (has_header p) awaiting (length seen) (length later) s.number t (omega arith) (omega arith) d)
-        (λ t x y. waits_opening awaiting seen fs final es p s t x number y) i.tracks in
+      tracks_map (IsDone awaiting (length seen)) (IsDone (awaiting_past awaiting (opening p s)) (length later)) (Waits awaiting seen fs final es) (Waits (awaiting_past awaiting (opening p s)) later (flags_past fs (opening p s)) final es) (ties final es 0 rs) w.tables.references w.waiting
+      (λ t d. done_opening (has_header p) awaiting (length seen) (length later) s.number t (omega arith) (omega arith) d)
+      (λ t x y. waits_opening awaiting seen fs final es p s t x number y) i.tracks in
       let r : Refs final es (awaiting_past awaiting (opening p s)) later (flags_past fs (opening p s)) rs u =
-        refs_same final es (awaiting_past awaiting (opening p s)) later (flags_past fs (opening p s)) rs v u U.references U.waiting U.node_references (record { tracks = moved; nodes = i.nodes }) in
+      refs_same final es (awaiting_past awaiting (opening p s)) later (flags_past fs (opening p s)) rs v u U.references U.waiting U.node_references (record { tracks = moved; nodes = i.nodes }) in
       let ends2 : AllEnds awaiting (length later) done = ends_more awaiting (length seen) (length later) done (omega arith) i.ends in
       record {
         represents = R;
@@ -198,27 +196,27 @@ module _ (ds : List Declaration) (all : List Tie) (final : State) (es : List Eve
       let now : Tie → Bool = λ t. is_at c (moment t) in
       let here : List Tie = ties final es 0 rs in
       let final_run : final ≡ run st evs =
-        final_is ∙ ap (run start) es_is ∙ run-append done (ends_header c ∷ evs) start ∙ ap (λ x. run x evs) (sym st_is) in
+      final_is ∙ ap (run start) es_is ∙ run-append done (ends_header c ∷ evs) start ∙ ap (λ x. run x evs) (sym st_is) in
       let touch : AllTouch (between c n) false evs =
-        later_touch (between c n) ds (c ∷ around) seen ss nested grounded (λ x h. between_low c n x (first_most c around x i.order.0 h)) (λ x l. between_high c n x l) in
+      later_touch (between c n) ds (c ∷ around) seen ss nested grounded (λ x h. between_low c n x (first_most c around x i.order.0 h)) (λ x l. between_high c n x l) in
       let still : Frozen c n st final = subst (Frozen c n st) (sym final_run) (frozen c n st evs i.sided.0 i.within i.sound touch) in
       let view_is : run start (until_end_of c es) ≡ st = ap (λ l. run start (until_end_of c l)) es_is ∙ ap (run start) (until_is aw n c done evs i.ends) ∙ sym st_is in
       let at_w : At w st (c ∷ around) seen calls bare fs = record { shows = i.represents.shows; scopes = i.scopes; flags = i.flags; sound = i.sound } in
       let W1 : Tie → Pending → Type 0 = λ t x. Waits (c ∷ aw) seen fs final es t x × (slice_index_or (map (λ (r : Reference). r.flags.bits) w.tables.references) t.number 0 ≡ t.reference.way) in
       let ways : Tracks (IsDone (c ∷ aw) n) W1 here w.tables.references w.waiting = with_ways (IsDone (c ∷ aw) n) (Waits (c ∷ aw) seen fs final es) w.tables.references here w.tables.references w.waiting 0 [] i.tracks (numbered final es 0 rs) refl refl in
       let done2 : Settled (IsDone aw n) (Waits aw seen fs final es) [] (flat_map (settled_at all) done) (filter now here) here (length st.symbols) (staying w.waiting (map (header_outcome (source_of w.tables) c) w.waiting)) (settle w.tables w.waiting (map (header_outcome (source_of w.tables) c) w.waiting)) =
-        settle_tracks (IsDone (c ∷ aw) n) (IsDone aw n) W1 (Waits aw seen fs final es) st.symbols now (header_outcome (source_of w.tables) c)
-        (λ t d. done_ending c aw n t d)
-        (λ t q. record { header = c; is = at_is c (moment t) q; ended = not_among aw c c (omega arith) i.old.0; older = i.less.0 })
-        (λ t d. done_not c aw n t d)
-        (λ t x y. (y.0.name, y.0.number))
-        (λ t x y. right_end w st final es (c ∷ around) seen calls bare fs at_w c aw i.inner.0.first i.inner.0.others still view_is i.old.0 i.inner.0.is t x y.0 (ap (λ m. slice_index_or (map (λ (r : Reference). r.flags.bits) w.tables.references) m 0) y.0.number ∙ y.1))
-        here w.tables.references w.waiting 0 (length st.symbols) [] (flat_map (settled_at all) done) w.tables ways (numbered final es 0 rs) refl refl refl i.represents.shows.symbols i.lists in
+      settle_tracks (IsDone (c ∷ aw) n) (IsDone aw n) W1 (Waits aw seen fs final es) st.symbols now (header_outcome (source_of w.tables) c)
+      (λ t d. done_ending c aw n t d)
+      (λ t q. record { header = c; is = at_is c (moment t) q; ended = not_among aw c c (omega arith) i.old.0; older = i.less.0 })
+      (λ t d. done_not c aw n t d)
+      (λ t x y. (y.0.name, y.0.number))
+      (λ t x y. right_end w st final es (c ∷ around) seen calls bare fs at_w c aw i.inner.0.first i.inner.0.others still view_is i.old.0 i.inner.0.is t x y.0 (ap (λ m. slice_index_or (map (λ (r : Reference). r.flags.bits) w.tables.references) m 0) y.0.number ∙ y.1))
+      here w.tables.references w.waiting 0 (length st.symbols) [] (flat_map (settled_at all) done) w.tables ways (numbered final es 0 rs) refl refl refl i.represents.shows.symbols i.lists in
       let now_all : filter now all ≡ filter now here =
-        ap (filter now) (all_is ∙ ties-append final es 0 rs (references ss)) ∙ filter-append now here (ties final es (0 + length rs) (references ss))
-        ∙ ap (λ l. filter now here ++ l) (none_later final es c (0 + length rs) (c ∷ around) seen aw fs ss nested headed i.less.0 (not_among aw c c (omega arith) i.old.0)) ∙ append-nil (filter now here) in
+      ap (filter now) (all_is ∙ ties-append final es 0 rs (references ss)) ∙ filter-append now here (ties final es (0 + length rs) (references ss))
+      ∙ ap (λ l. filter now here ++ l) (none_later final es c (0 + length rs) (c ∷ around) seen aw fs ss nested headed i.less.0 (not_among aw c c (omega arith) i.old.0)) ∙ append-nil (filter now here) in
       let order_is : flat_map (settled_at all) done ++ filter now here ≡ flat_map (settled_at all) (done ++ ends_header c ∷ []) =
-        sym (flat-append (settled_at all) done (ends_header c ∷ []) ∙ ap (λ l. flat_map (settled_at all) done ++ l) (append-nil (filter now all) ∙ now_all)) in
+      sym (flat-append (settled_at all) done (ends_header c ∷ []) ∙ ap (λ l. flat_map (settled_at all) done ++ l) (append-nil (filter now all) ∙ now_all)) in
       record {
         represents = step_as ds w st (c ∷ around) seen (header_ending p s) (record { around = around; is = refl }) tt i.represents;
         scopes = scopes_step ds w (c ∷ around) seen calls bare (header_ending p s) (record { around = around; is = refl }) tt i.scopes;

@@ -1,8 +1,7 @@
 -- At the end of a header, and in the end, each reference that waits gets the outcome that its tie tells.
-use Rattle.std.proofs.Common.{◌≡◌, ℕ, suc, ◌<◌, ◌≤◌, ◌==◌, List, [], ◌∷◌, ◌++◌, Option, Some, None, Bool, true, false, cond, inl, inr, refl, sym, ap, subst, ◌∙◌, map, length, arith}
+use Rattle.std.proofs.Common.{◌≡◌, ℕ, List, [], ◌∷◌, ◌++◌, Some, None, Bool, true, false, cond, inl, inr, refl, sym, ap, subst, ◌∙◌, map, length, arith}
 use Rattle.std.specs.Prelude.{slice_get}
 use Rattle.std.specs.Option.{option_map_or}
-use Rattle.std.proofs.lemmas.Bool.{cases_Bool}
 use Rattle.std.proofs.lemmas.Bool.Decides.{eqb_tells}
 use Rattle.std.proofs.lemmas.List.{append_assoc}
 use Rattle.semantic_syntax.specs.Tables.{Name, Scope}
@@ -13,19 +12,18 @@ use Rattle.semantic_model.specs.Event.{Event}
 use Rattle.semantic_model.specs.Fold.{State, start}
 use Rattle.semantic_model.specs.Hoist.{run}
 use Rattle.semantic_model.specs.Lookup.{Lookup, tied, barred, unanswered, lookup}
-use Rattle.semantic_model.specs.Tie.{Tie, until_end_of, seen_as, answer, symbol_by, symbol_of, final_flags, header_from, moment, is_at, is_last}
+use Rattle.semantic_model.specs.Tie.{Tie, until_end_of, seen_as, symbol_by, final_flags, header_from, moment, is_at, is_last}
 use Rattle.semantic_model.specs.Outward.{way_of, parent_of}
-use Rattle.semantic_model.specs.Outcome.{Source, Pending, Outcome, means, is_free, waits, source_of, chain, up_to, answer as source_answer, outcome_or, waits_outside, header_outcome, last_outcome}
+use Rattle.semantic_model.specs.Outcome.{Pending, is_free, waits, source_of, chain, up_to, answer as source_answer, outcome_or, waits_outside, header_outcome, last_outcome}
 use Rattle.semantic_model.proofs.Members.{contains_first}
 use Rattle.walk_model.specs.Standing.{Standing}
 use Rattle.walk_model.specs.Walks.{numbers}
 use Rattle.walk_model.proofs.Nested.{AreLinked, Descends}
-use Rattle.walk_model.proofs.Reaching.{head_of}
 use Rattle.walk_model.proofs.Headed.{AllMatch, AreFlagged, AllLess}
 use Rattle.walk_model.proofs.Lookups.{answered_in, answered_among, lookup_alike, NoneInHeader, header_skip, header_none, moment_answered, moment_unanswered}
-use Rattle.walk_model.proofs.Settling.{IsRight, ties, frees, goes_on}
+use Rattle.walk_model.proofs.Settling.{IsRight, frees, goes_on}
 use Rattle.walk_model.proofs.Frozen.{Frozen}
-use Rattle.walk_model.proofs.Sources.{chain_is, parent_is, up_to_is, IsViewed, AllViewed, viewed-append, all_alike, viewed_ending}
+use Rattle.walk_model.proofs.Sources.{chain_is, parent_is, up_to_is, AllViewed, viewed-append, all_alike, viewed_ending}
 use Rattle.walk_model.proofs.HeaderEnds.{At, Waits, looked_up, answers_of, descends_right, past_asked, not_now, answered_now, through_more, right_by, Parts, parted, match_right, linked_right, flagged_right, flagged_prefix, match_past, seg_none, seg_viewed, tail_apart, apart, scopes_of}
 
 module _ (w : Standing) (st final : State) (es : List Event) (stack : List ℕ) (seen calls : List (List ℕ)) (bare : List Scope) (fs : List ℕ) (now_at : At w st stack seen calls bare fs) where
@@ -91,10 +89,10 @@ module _ (w : Standing) (st final : State) (es : List Event) (stack : List ℕ) 
         let none : NoneInHeader p.seg = seg_none c (length seen) aw p.seg p.own p.tail p.number older down m in
         let inside : p.own.in_header ≡ true = (match_right (c ∷ aw) p.seg (p.own ∷ p.tail) m).0 ∙ subst (λ n. contains (c ∷ aw) n ≡ true) (sym p.number) (contains_first c aw) in
         let views : AllViewed st final es x (p.seg ++ p.own ∷ []) =
-          viewed-append st final es x p.seg (p.own ∷ []) (seg_viewed c (length seen) (length seen) st final es x p.seg p.own p.tail p.number (omega arith) down none frozen) (viewed_ending c st final es x p.own p.number inside viewed, tt) in
+        viewed-append st final es x p.seg (p.own ∷ []) (seg_viewed c (length seen) (length seen) st final es x p.seg p.own p.tail p.number (omega arith) down none frozen) (viewed_ending c st final es x p.own p.number inside viewed, tt) in
         let same : lookup x t.reference.way (map (source_answer (source_of w.tables) x) (numbers (p.seg ++ p.own ∷ []))) ≡ looked_up final es t (p.seg ++ p.own ∷ []) =
-          lookup_alike x t.reference.way (map (source_answer (source_of w.tables) x) (numbers (p.seg ++ p.own ∷ []))) (answers_of final es t (p.seg ++ p.own ∷ []))
-          (all_alike (length seen) w st final es x t.reference.way stack seen calls bare fs (p.seg ++ p.own ∷ []) now_at.shows now_at.scopes now_at.flags (flagged_prefix fs p.seg p.own p.tail f) views) in
+        lookup_alike x t.reference.way (map (source_answer (source_of w.tables) x) (numbers (p.seg ++ p.own ∷ []))) (answers_of final es t (p.seg ++ p.own ∷ []))
+        (all_alike (length seen) w st final es x t.reference.way stack seen calls bare fs (p.seg ++ p.own ∷ []) now_at.shows now_at.scopes now_at.flags (flagged_prefix fs p.seg p.own p.tail f) views) in
         let upto : up_to c (numbers (h.next ∷ h.rest)) ≡ numbers (p.seg ++ p.own ∷ []) = ap (λ l. up_to c (numbers l)) p.is ∙ up_to_is c p.seg p.own p.tail p.number p.apart in
         subst (λ l. IsRight W2 st.symbols now t e (outcome_or (waits_outside (source_of w.tables) c) l)) (sym (ap (λ l. lookup x t.reference.way (map (source_answer (source_of w.tables) x) l)) upto ∙ same))
         (right_by W2 now w st (length seen) t e (p.seg ++ p.own ∷ []) (waits_outside (source_of w.tables) c) (looked_up final es t (p.seg ++ p.own ∷ [])) now_at.shows now_at.sound same
@@ -105,7 +103,7 @@ module _ (w : Standing) (st final : State) (es : List Event) (stack : List ℕ) 
     right_end t e h way =
         let ch : chain (source_of w.tables) e.lookup_scope ≡ numbers (h.next ∷ h.rest) = left_chain (c ∷ aw) t e h in
         let outcome : header_outcome (source_of w.tables) c e ≡ cond (contains (numbers (h.next ∷ h.rest)) c) (outcome_or (waits_outside (source_of w.tables) c) (lookup t.reference.name t.reference.way (map (source_answer (source_of w.tables) t.reference.name) (up_to c (numbers (h.next ∷ h.rest)))))) (waits h.next.number) =
-          λ i. cond (contains (ch i) c) (outcome_or (waits_outside (source_of w.tables) c) (lookup (h.name i) (way i) (map (source_answer (source_of w.tables) (h.name i)) (up_to c (ch i))))) (waits (h.scope i)) in
+        λ i. cond (contains (ch i) c) (outcome_or (waits_outside (source_of w.tables) c) (lookup (h.name i) (way i) (map (source_answer (source_of w.tables) (h.name i)) (up_to c (ch i))))) (waits (h.scope i)) in
         subst (λ o. IsRight W2 st.symbols now t e o) (sym outcome) (by (contains (numbers (h.next ∷ h.rest)) c) refl)
       where
         by : (b : Bool) → contains (numbers (h.next ∷ h.rest)) c ≡ b
@@ -153,16 +151,16 @@ module _ (w : Standing) (st final : State) (es : List Event) (stack : List ℕ) 
       let ch : chain (source_of w.tables) e.lookup_scope ≡ numbers left = left_chain [] t e h in
       let none : NoneInHeader left = none_left left h.matches in
       let same : lookup x t.reference.way (map (source_answer (source_of w.tables) x) (numbers left)) ≡ looked_up final es t left =
-        lookup_alike x t.reference.way (map (source_answer (source_of w.tables) x) (numbers left)) (answers_of final es t left)
-        (all_alike (length seen) w st final es x t.reference.way stack seen calls bare fs left now_at.shows now_at.scopes now_at.flags h.flagged (end_viewed x left fin none)) in
+      lookup_alike x t.reference.way (map (source_answer (source_of w.tables) x) (numbers left)) (answers_of final es t left)
+      (all_alike (length seen) w st final es x t.reference.way stack seen calls bare fs left now_at.shows now_at.scopes now_at.flags h.flagged (end_viewed x left fin none)) in
       let outcome : last_outcome (source_of w.tables) e ≡ outcome_or is_free (lookup x t.reference.way (map (source_answer (source_of w.tables) x) (numbers left))) =
-        λ i. outcome_or is_free (lookup (h.name i) (way i) (map (source_answer (source_of w.tables) (h.name i)) (ch i))) in
+      λ i. outcome_or is_free (lookup (h.name i) (way i) (map (source_answer (source_of w.tables) (h.name i)) (ch i))) in
       let whole : t.lookup ≡ looked_up final es t left = past_asked final es t h.asked left h.chain_is h.through h.is_tie in
       subst (λ o. IsRight W3 st.symbols (λ u. is_last (moment u)) t e o) (sym (outcome ∙ ap (outcome_or is_free) same))
       (right_by W3 (λ u. is_last (moment u)) w st (length seen) t e left is_free (looked_up final es t left) now_at.shows now_at.sound same
       (λ d a.
-        let there : contains (numbers left) d ≡ true = subst (λ l. contains l d ≡ true) (scopes_of final es t left) (answered_among x t.reference.way (answers_of final es t left) d a) in
-        let out : contains (numbers h.asked) d ≡ false = apart (length seen) h.asked left d (subst (Descends (length seen)) h.chain_is h.descends) there in
-        let mo : moment t ≡ None = moment_answered t.lookup t.reference.chain d (ap answered_in whole ∙ a) ∙ ap (header_from d) h.chain_is ∙ header_skip d h.asked left out ∙ header_none d left none in
-        (whole, ap is_last mo))
+      let there : contains (numbers left) d ≡ true = subst (λ l. contains l d ≡ true) (scopes_of final es t left) (answered_among x t.reference.way (answers_of final es t left) d a) in
+      let out : contains (numbers h.asked) d ≡ false = apart (length seen) h.asked left d (subst (Descends (length seen)) h.chain_is h.descends) there in
+      let mo : moment t ≡ None = moment_answered t.lookup t.reference.chain d (ap answered_in whole ∙ a) ∙ ap (header_from d) h.chain_is ∙ header_skip d h.asked left out ∙ header_none d left none in
+      (whole, ap is_last mo))
       (λ a. frees (ap is_last (moment_unanswered t.lookup t.reference.chain (ap answered_in whole ∙ a))) (ap symbol_by whole ∙ none_by (looked_up final es t left) a) (way_kept t (looked_up final es t left) whole a)))

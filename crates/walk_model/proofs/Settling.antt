@@ -1,5 +1,5 @@
 -- As references that wait are settled, their entries, uses and free lists become those of their ties.
-use Rattle.std.proofs.Common.{◌≡◌, ℕ, zero, suc, ◌+◌, ◌<◌, ◌≤◌, ◌==◌, List, [], ◌∷◌, ◌++◌, Option, Some, None, Bool, true, false, cond, refl, sym, ap, subst, ◌∙◌, length, map, fold, bytes_eq, slice_index_or, ◌⊎◌, inl, inr, arith}
+use Rattle.std.proofs.Common.{◌≡◌, ℕ, zero, suc, ◌+◌, ◌<◌, ◌≤◌, List, [], ◌∷◌, ◌++◌, Option, Some, None, Bool, true, false, cond, refl, sym, ap, subst, ◌∙◌, length, map, bytes_eq, slice_index_or, inl, inr, arith}
 use Rattle.std.specs.Prelude.{slice_set, filter}
 use Rattle.std.specs.List.{range_with_len}
 use Rattle.std.specs.Option.{unwrap_or}
@@ -11,7 +11,7 @@ use Rattle.indexmap.specs.IndexMap.{insert_entry}
 use Rattle.semantic_syntax.specs.Usable.{settled}
 use Rattle.semantic_syntax.specs.declared.references.Reference.{Reference}
 use Rattle.semantic_syntax.specs.Tables.{Name, Tables, Symbol, FreeLists}
-use Rattle.scoping.specs.Reading.{no_symbol, no_reference, symbol_of, reference_of, uses_of as uses_at, free_of as free_at}
+use Rattle.scoping.specs.Reading.{no_symbol, no_reference, reference_of}
 use Rattle.semantic_model.specs.FreeNames.{add_free}
 use Rattle.semantic_model.specs.Place.{innermost}
 use Rattle.semantic_model.specs.Outcome.{Pending, Outcome, means, is_free, waits}
@@ -102,7 +102,7 @@ uses_set ts t y i zero (suc k) e f l =
 uses_set ts t y i (suc j) (suc k) e f l =
     let first : uses_of ts i ≡ uses_of (ts ++ t ∷ []) i = uses_other ts t y i e (λ q. absurd (omega (arith, q, f))) in
     let rest : slice_set (map (uses_of ts) (range_with_len (i + 1) k)) j (slice_index_or (map (uses_of ts) (range_with_len (i + 1) k)) j [] ++ t.number ∷ []) ≡ map (uses_of (ts ++ t ∷ [])) (range_with_len (i + 1) k) =
-      uses_set ts t y (i + 1) j k e (omega arith) (omega arith) in
+    uses_set ts t y (i + 1) j k e (omega arith) (omega arith) in
     λ m. first m ∷ rest m
 
 uses_free : (ts : List Tie) (t : Tie) (xs : List ℕ) → symbol_tied t ≡ None → map (uses_of ts) xs ≡ map (uses_of (ts ++ t ∷ [])) xs
@@ -216,7 +216,7 @@ module _ (D D2 : Tie → Type 0) (W W2 : Tie → Pending → Type 0) (ys : List 
   settle_tracks ts rs es n m before done u (is_done {t = t} {ts = ts2} {rs = rs2} {es = es2} d tracks) k l z e s h =
       let later : now t ≡ false = done_before t d in
       let rest : Settled D2 W2 (before ++ entry_of t ∷ []) done (filter now ts2) ts2 m (staying es2 (map outcome es2)) (settle u es2 (map outcome es2)) =
-        settle_tracks ts2 rs2 es2 (suc n) m (before ++ entry_of t ∷ []) done u tracks k.1 (push_length before (entry_of t) n l) z (e ∙ push_references before (entry_of t) rs2) s h in
+      settle_tracks ts2 rs2 es2 (suc n) m (before ++ entry_of t ∷ []) done u tracks k.1 (push_length before (entry_of t) n l) z (e ∙ push_references before (entry_of t) rs2) s h in
       subst (λ l2. Settled D2 W2 before done l2 (t ∷ ts2) m (staying es2 (map outcome es2)) (settle u es2 (map outcome es2))) (ap (λ b. cond b (t ∷ filter now ts2) (filter now ts2)) (sym later))
       (more_done before done (filter now ts2) t ts2 m (staying es2 (map outcome es2)) (settle u es2 (map outcome es2)) (stays_done t d) rest)
   settle_tracks ts rs es n m before done u (is_open {t = t} {e = x} {ts = ts2} {rs = rs2} {es = es2} w tracks) k l z e s h =
@@ -233,7 +233,7 @@ module _ (D D2 : Tie → Type 0) (W W2 : Tie → Pending → Type 0) (ys : List 
       by o (ties y a q within f) rest =
           let v : Tables = tie u x.reference y in
           let refs : v.references ≡ (before ++ entry_of t ∷ []) ++ rs2 =
-            subst (λ r. (tie u r y).references ≡ before ++ entry_of t ∷ rs2) (sym number) (tie_references u before rs2 t n y l e s q f) ∙ push_references before (entry_of t) rs2 in
+          subst (λ r. (tie u r y).references ≡ before ++ entry_of t ∷ rs2) (sym number) (tie_references u before rs2 t n y l e s q f) ∙ push_references before (entry_of t) rs2 in
           let lists : Lists (done ++ t ∷ []) m v = tie_lists u done t x.reference y m (sym (named t x w).1) (omega (arith, within, z)) q h in
           shift_done before done (filter now (t ∷ ts2)) t (t ∷ ts2) (filter now ts2) m (staying es2 (map outcome es2)) (settle v es2 (map outcome es2)) (ap (λ b. cond b (t ∷ filter now ts2) (filter now ts2)) a)
           (more_done before (done ++ t ∷ []) (filter now ts2) t ts2 m (staying es2 (map outcome es2)) (settle v es2 (map outcome es2)) (done_now t a) (rest v (entry_of t) (done ++ t ∷ []) refs s lists))

@@ -1,17 +1,14 @@
 -- Scopes of two sides: events that act on one side alone leave what the other binds, and the flags of its symbols.
-use Rattle.std.proofs.Common.{◌≡◌, ℕ, ◌<◌, ◌≤◌, ◌==◌, List, [], ◌∷◌, ◌++◌, Option, Some, None, Bool, true, false, cond, ◌⊎◌, inl, inr, refl, sym, ap, subst, ◌∙◌, length, option_map, arith}
-use Rattle.std.specs.Prelude.{slice_get}
-use Rattle.std.proofs.lemmas.Bool.Decides.{eqb_tells}
-use Rattle.semantic_syntax.specs.Tables.{Name, Symbol, Bindings}
+use Rattle.std.proofs.Common.{◌≡◌, ℕ, List, [], ◌∷◌, Option, Some, None, Bool, true, false, cond, ◌⊎◌, inl, inr, refl, sym, ap, subst, ◌∙◌, length, arith}
+use Rattle.semantic_syntax.specs.Tables.{Name}
 use Rattle.semantic_model.specs.Place.{OpenScope}
 use Rattle.semantic_model.specs.Entries.{Among}
-use Rattle.semantic_model.specs.Binding.{Binding, get, put, remove, move, take_over, bound_by}
+use Rattle.semantic_model.specs.Binding.{Binding, get, put, remove, move, take_over}
 use Rattle.semantic_model.specs.Declaration.{How, plain, hoisted, moved, caught, Declaration, stands_in}
 use Rattle.semantic_model.specs.Event.{Event, declares, takes_over, ends_header}
-use Rattle.semantic_model.specs.Fold.{State, found, update, redeclared, united, in_scope, gets, make, against, declare_in, chosen, flags_of, flags_or_none, or_else, unless_expression, new_symbol}
-use Rattle.semantic_model.specs.Hoist.{Hit, hit, hit_or, counts, asked, against_all, remember, remembering, move_symbol, hoist_by, hoist, move_out, move_function, declare_by, rescoped, act, run}
-use Rattle.semantic_model.proofs.BindingLaws.{same_key, same_key_tells, get-put_other, get-remove_other, get-take_over_other, get_among, among_put, among_remove, among_take_over}
-use Rattle.semantic_model.proofs.SymbolLaws.{get-update, get-push}
+use Rattle.semantic_model.specs.Fold.{State, found, update, redeclared, gets, against, declare_in, chosen, or_else, unless_expression}
+use Rattle.semantic_model.specs.Hoist.{Hit, hit, hit_or, counts, asked, against_all, remember, move_symbol, hoist_by, move_out, declare_by, act}
+use Rattle.semantic_model.proofs.BindingLaws.{get_among, among_put, among_remove, among_take_over}
 
 module _ (inside : ℕ → Bool) (side : ℕ → Bool) where
   -- what is bound is of its scope's side

@@ -132,7 +132,7 @@ steps_as ds w st stack seen (s ∷ more) nested g h =
     rw (run-append (events_of ds s) (flat_map (events_of ds) more) st)
     (steps_as ds (walk.after ds w s) (run st (events_of ds s)) (open_past stack s) (seen_past seen s) more nested.1 g.1 (step_as ds w st stack seen s nested.0 g.0 h))
 
-nothing_as : Represents 0 nothing_made start
+pub nothing_as : Represents 0 nothing_made start
 nothing_as = record {
   shows = record { scopes = refl; bindings = λ c. refl; single = tt; symbols = refl; remembered = refl; conflicts = refl; uses = refl };
   notes = record { pure_is = refl; nodes_are = refl };

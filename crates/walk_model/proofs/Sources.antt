@@ -1,26 +1,25 @@
 -- What the walk's tables tell as a source is what the definitions ask.
-use Rattle.std.proofs.Common.{◌≡◌, ℕ, zero, suc, ◌+◌, ◌<◌, ◌≤◌, ◌==◌, List, [], ◌∷◌, ◌++◌, Option, Some, None, Bool, true, false, cond, ◌&&◌, ◌||◌, not, ◌⊎◌, inl, inr, refl, sym, ap, subst, ◌∙◌, map, length, bytes_eq, slice_index_or, arith}
+use Rattle.std.proofs.Common.{◌≡◌, ℕ, zero, suc, ◌+◌, ◌<◌, ◌==◌, List, [], ◌∷◌, ◌++◌, Option, Some, None, Bool, true, false, cond, ◌&&◌, not, inl, inr, refl, sym, ap, subst, ◌∙◌, map, length, bytes_eq, slice_index_or, arith}
 use Rattle.std.specs.Prelude.{slice_get}
 use Rattle.std.specs.Option.{option_map_or}
-use Rattle.std.specs.Int.RustNames.{bit_and, bit_or}
+use Rattle.std.specs.Int.RustNames.{bit_and}
 use Rattle.std.specs.Int.Bits.{or_zero_r}
 use Rattle.std.proofs.lemmas.Nat.{and_or_apart}
-use Rattle.std.proofs.lemmas.Option.{slice_get_within}
 use Rattle.std.proofs.lemmas.Bool.Decides.{eqb_tells}
 use Rattle.semantic_syntax.specs.declared.scope_flags.TheConstants.ScopeFlags as scope
 use Rattle.semantic_syntax.specs.Sets.{meets, union}
-use Rattle.semantic_syntax.specs.Tables.{Name, Bindings, Tables, Scope}
+use Rattle.semantic_syntax.specs.Tables.{Name, Bindings, Scope}
 use Rattle.scoping.specs.Reading.{no_scope}
 use Rattle.semantic_model.specs.Place.{OpenScope}
 use Rattle.semantic_model.specs.Binding.{Binding, get, bound_by}
 use Rattle.semantic_model.specs.Declaration.{contains}
 use Rattle.semantic_model.specs.Event.{Event}
-use Rattle.semantic_model.specs.Fold.{State, flags_of, start}
+use Rattle.semantic_model.specs.Fold.{State, start}
 use Rattle.semantic_model.specs.Hoist.{run}
-use Rattle.semantic_model.specs.Lookup.{Seen, Asked, Lookup, is_arguments, ends_after}
-use Rattle.semantic_model.specs.Tie.{view, view_by, until_end_of, seen_as, answer}
+use Rattle.semantic_model.specs.Lookup.{is_arguments, ends_after}
+use Rattle.semantic_model.specs.Tie.{until_end_of, seen_as, answer}
 use Rattle.semantic_model.specs.Outward.{bound_to, list_at, bound_in, scope_flags, symbol_flags, parent_at, parent_of, chain_within}
-use Rattle.semantic_model.specs.Outcome.{Source, source_of, chain, up_to, answer as source_answer}
+use Rattle.semantic_model.specs.Outcome.{source_of, chain, up_to, answer as source_answer}
 use Rattle.walk_model.specs.Standing.{Standing}
 use Rattle.walk_model.specs.Walks.{numbers}
 use Rattle.walk_model.proofs.Nested.{AreLinked, Descends}
@@ -29,7 +28,7 @@ use Rattle.walk_model.proofs.Flags.{flagged, flag_if, flagged_parent}
 use Rattle.walk_model.proofs.Reaching.{reached, head_of}
 use Rattle.walk_model.proofs.OpenedScopes.{ShowsScopes, parent_seen, as_many}
 use Rattle.walk_model.proofs.Headed.{AreFlagged}
-use Rattle.walk_model.proofs.Lookups.{Alike, AreAlike}
+use Rattle.walk_model.proofs.Lookups.{AreAlike}
 use Rattle.walk_model.proofs.Frozen.{Frozen}
 
 -- bindings
@@ -76,7 +75,7 @@ pub ends_alike : (x : Name) (way : ℕ) (stack : List ℕ) (seen calls : List (L
     → ends_after x way (scope_flags w.tables s.number) ≡ ends_after x way s.flags
 ends_alike x way stack seen calls bare fs w s h e g =
     let listed : scope_flags w.tables s.number ≡ union s.flags (flag_if (reached stack calls (0 + s.number))) =
-      ap (λ es. slice_index_or (map (λ (f : Scope). f.flags.bits) es) s.number 0) h.scopes ∙ flags_listed (reached stack calls) 0 bare s.number s.flags (subst (λ l. slice_get l s.number ≡ Some s.flags) (sym e) g) in
+    ap (λ es. slice_index_or (map (λ (f : Scope). f.flags.bits) es) s.number 0) h.scopes ∙ flags_listed (reached stack calls) 0 bare s.number s.flags (subst (λ l. slice_get l s.number ≡ Some s.flags) (sym e) g) in
     ap (ends_after x way) listed ∙ ends_flagged x way s.flags (reached stack calls (0 + s.number))
 
 -- the chain by parents

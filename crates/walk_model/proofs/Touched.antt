@@ -1,10 +1,7 @@
 -- Which scopes the events of a step touch: open ones, and no scope from within a header to one outside.
-use Rattle.std.proofs.Common.{◌≡◌, ℕ, suc, ◌<◌, ◌≤◌, List, [], ◌∷◌, ◌++◌, Option, Some, None, Bool, true, false, cond, ◌&&◌, ◌||◌, not, ◌⊎◌, inl, inr, refl, sym, ap, subst, ◌∙◌, map, flat_map, length, nat_lt, if◌then◌else◌, codes, arith}
-use Rattle.std.proofs.lemmas.Bool.{cases_Bool}
+use Rattle.std.proofs.Common.{◌≡◌, ℕ, ◌<◌, ◌≤◌, List, [], ◌∷◌, ◌++◌, Some, Bool, true, false, cond, ◌&&◌, not, ◌⊎◌, inl, inr, refl, sym, ap, subst, ◌∙◌, map, flat_map, nat_lt, if◌then◌else◌, codes, arith}
 use Rattle.std.proofs.lemmas.Bool.Decides.{Decides-ltb}
 use Rattle.semantic_tree.specs.declared.node.Node.{Node}
-use Rattle.semantic_kinds.specs.Kinds.{same_kind}
-use Rattle.semantic_kinds.specs.Roles.{same_role}
 use Rattle.semantic_kinds.specs.declared.kind.AstType.{AstType}
 use Rattle.semantic_kinds.specs.declared.kind.AstType.TheVariants as kind
 use Rattle.semantic_kinds.specs.declared.role.Role.TheVariants as role
@@ -15,17 +12,14 @@ use Rattle.semantic_model.specs.Nodes.{is, has, is_with_text, children_of}
 use Rattle.semantic_model.specs.Names.{bound_names, names_at}
 use Rattle.semantic_model.specs.Namespace.{InstanceState, non_instantiated, const_enum_only, instantiated, instance_state, nodes_around}
 use Rattle.semantic_model.specs.Place.{Place, OpenScope, innermost, outside, parent_holds}
-use Rattle.semantic_model.specs.Declaration.{How, plain, hoisted, moved, caught, Declaration, Route, here, passed_before, first_with, route_from, outward_to, outward_past, standing, stands_in}
-use Rattle.semantic_model.specs.Binder.{Row, declare, declare_here, is_var, is_statement, is_block_function, is_conditional, variable_row, variables_under, function_row, own_function_row, class_row, is_pure_declarator, ids, parameter_excluded, parameters_under, catch_names, enums, member_named, marked_ambient, import_flags, namespace_row, type_parameter_route, type_parameter_row, declared_by, declared_on_entering, declared_inside, declared_on_opening}
-use Rattle.semantic_model.specs.Event.{Event, declares, takes_over, is_barred, staying, placed_by, placed, is_catch_body, taken_over, declares_all, events_of}
-use Rattle.semantic_model.specs.Step.{Step, entering, opening}
-use Rattle.semantic_model.proofs.Clauses.{kind_is, first_holds, second_holds}
+use Rattle.semantic_model.specs.Declaration.{How, plain, hoisted, moved, caught, Declaration, here, first_with, outward_to, outward_past, stands_in}
+use Rattle.semantic_model.specs.Binder.{Row, declare, declare_here, is_var, is_statement, is_block_function, variable_row, variables_under, function_row, class_row, is_pure_declarator, ids, parameter_excluded, parameters_under, catch_names, enums, member_named, marked_ambient, import_flags, namespace_row, type_parameter_route, type_parameter_row, declared_by, declared_on_entering}
+use Rattle.semantic_model.specs.Event.{Event, declares, is_barred, staying, placed_by, placed, declares_all}
 use Rattle.walk_model.proofs.Nested.{Descends}
-use Rattle.walk_model.proofs.Routes.{grounded, IsWay, GoesOut, AllGoOut, HasVar, placed_goes, not_var, target_below}
-use Rattle.walk_model.proofs.Grounds.{IsGrounded}
+use Rattle.walk_model.proofs.Routes.{grounded, GoesOut, AllGoOut, placed_goes, not_var, target_below}
 use Rattle.walk_model.proofs.Sides.{AllOn, ArePassedOn, IsOn}
-use Rattle.walk_model.proofs.Closed.{is_closed, is_loose}
-use Rattle.walk_model.proofs.Headed.{VarAbove, IsSheltered, AllVarAbove}
+use Rattle.walk_model.proofs.Closed.{is_closed}
+use Rattle.walk_model.proofs.Headed.{VarAbove}
 
 -- the event acts on scopes of one side alone
 abbrev pub Touches : (ℕ → Bool) → Bool → Event → Type 0

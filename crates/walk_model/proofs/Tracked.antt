@@ -1,12 +1,10 @@
 -- What the walk tracks of references, from step to step.
-use Rattle.std.proofs.Common.{◌≡◌, ℕ, zero, suc, ◌+◌, ◌<◌, ◌≤◌, ◌==◌, List, [], ◌∷◌, ◌++◌, Option, Some, None, Bool, true, false, cond, ◌||◌, ◌⊎◌, inl, inr, refl, sym, ap, subst, ◌∙◌, map, flat_map, length, slice_index_or, arith}
-use Rattle.std.specs.Prelude.{slice_get, filter, filter_map}
-use Rattle.std.specs.List.{range_with_len, cons_option}
+use Rattle.std.proofs.Common.{◌≡◌, ℕ, zero, suc, ◌+◌, ◌<◌, ◌≤◌, List, [], ◌∷◌, ◌++◌, Option, Some, None, Bool, true, false, cond, inl, inr, refl, sym, ap, subst, ◌∙◌, map, length, slice_index_or, arith}
+use Rattle.std.specs.Prelude.{filter}
+use Rattle.std.specs.List.{cons_option}
 use Rattle.std.proofs.lemmas.Bool.Decides.{eqb_tells}
-use Rattle.std.proofs.lemmas.Option.{slice_get_within}
-use Rattle.std.proofs.lemmas.List.{length-append, append_assoc, append-nil}
+use Rattle.std.proofs.lemmas.List.{length-append, append_assoc}
 use Rattle.semantic_syntax.specs.declared.references.Reference.{Reference}
-use Rattle.semantic_syntax.specs.Tables.{Scope, Tables}
 use Rattle.semantic_kinds.specs.declared.kind.AstType.TheVariants as kind
 use Rattle.semantic_model.specs.Nodes.{is}
 use Rattle.semantic_model.specs.Place.{Place, OpenScope}
@@ -15,16 +13,15 @@ use Rattle.semantic_model.specs.Declaration.{contains}
 use Rattle.semantic_model.specs.Step.{Step, entering, opening, header_ending, closing, leaving}
 use Rattle.semantic_model.specs.Event.{Event, declares, takes_over, ends_header}
 use Rattle.semantic_model.specs.Fold.{State}
-use Rattle.semantic_model.specs.Tie.{Tie, ties, answer, answers, until_end_of, moment, is_at, is_last, settled_at, in_order}
+use Rattle.semantic_model.specs.Tie.{Tie, ties, answers, until_end_of, moment, is_at}
 use Rattle.semantic_model.specs.Lookup as look
-use Rattle.semantic_model.specs.Outward.{way_of}
 use Rattle.semantic_model.specs.Outcome.{Pending}
-use Rattle.semantic_model.specs.TablesOf.{entry_of, uses_of}
+use Rattle.semantic_model.specs.TablesOf.{entry_of}
 use Rattle.walk_model.specs.Walks.{numbers}
-use Rattle.walk_model.proofs.Nested.{AreLinked, Descends, Extends, linked_more, descends_more, IsNestedStep, AreNested, open_past, seen_past}
-use Rattle.walk_model.proofs.Headed.{AllMatch, AreFlagged, AllLess, not_among, ChainLess, match_more, flagged_later, awaiting_past, flags_past, IsHeadedStep, AreHeaded, has_header}
+use Rattle.walk_model.proofs.Nested.{Descends, linked_more, descends_more, IsNestedStep, AreNested, open_past, seen_past}
+use Rattle.walk_model.proofs.Headed.{AllMatch, AllLess, ChainLess, match_more, flagged_later, awaiting_past, flags_past, AreHeaded, has_header}
 use Rattle.walk_model.proofs.Lookups.{in_headers, header_among, not_at}
-use Rattle.walk_model.proofs.Settling.{open_entry, Tracks, none, is_done, is_open, Lists, AreNumbered}
+use Rattle.walk_model.proofs.Settling.{open_entry, Tracks, none, is_done, is_open, AreNumbered}
 use Rattle.walk_model.proofs.HeaderEnds.{Waits}
 
 abbrev pub tie_of : State → List Event → ℕ → Occurrence → Tie
@@ -181,9 +178,9 @@ until_is awaiting n c [] later h = elim (eqb_tells c c) [ inl q ↦ rw q.0 refl 
 until_is awaiting n c (ends_header d ∷ es) later h = elim (eqb_tells c d) [
   | inl q ↦ (let w : true ≡ false = rw q.0 at h.1 in absurd cc)
   | inr q ↦ elim (eqb_tells d c) [
-      | inl r ↦ absurd (q.1 (sym r.1))
-      | inr r ↦ rw r.0 (ap (λ l. ends_header d ∷ l) (until_is awaiting n c es later h.2))
-    ]
+    | inl r ↦ absurd (q.1 (sym r.1))
+    | inr r ↦ rw r.0 (ap (λ l. ends_header d ∷ l) (until_is awaiting n c es later h.2))
+  ]
 ]
 until_is awaiting n c (declares d ∷ es) later h = ap (λ l. declares d ∷ l) (until_is awaiting n c es later h)
 until_is awaiting n c (takes_over a b ∷ es) later h = ap (λ l. takes_over a b ∷ l) (until_is awaiting n c es later h)

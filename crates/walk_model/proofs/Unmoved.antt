@@ -1,22 +1,20 @@
 -- What events on one side leave of the other: its bindings, and the flags of its symbols.
-use Rattle.std.proofs.Common.{◌≡◌, ℕ, zero, suc, ◌<◌, ◌≤◌, ◌==◌, List, [], ◌∷◌, ◌++◌, Option, Some, None, Bool, true, false, cond, ◌⊎◌, inl, inr, refl, sym, ap, subst, ◌∙◌, length, option_map, nat_lt, arith}
+use Rattle.std.proofs.Common.{◌≡◌, ℕ, ◌<◌, ◌≤◌, ◌==◌, List, [], ◌∷◌, Option, Some, None, Bool, true, false, cond, inl, inr, refl, sym, ap, subst, ◌∙◌, length, option_map, nat_lt, arith}
 use Rattle.std.specs.Prelude.{slice_get}
 use Rattle.std.proofs.lemmas.Bool.Decides.{eqb_tells, Decides-ltb}
 use Rattle.std.proofs.lemmas.List.{length-append}
 use Rattle.semantic_syntax.specs.Tables.{Name, Symbol, Bindings}
-use Rattle.semantic_model.specs.Place.{OpenScope}
 use Rattle.semantic_model.specs.Entries.{Among}
-use Rattle.semantic_model.specs.Binding.{Binding, get, put, remove, move, take_over, bound_by}
+use Rattle.semantic_model.specs.Binding.{Binding, get, put, remove, move, bound_by}
 use Rattle.semantic_model.specs.Declaration.{How, plain, hoisted, moved, caught, Declaration, stands_in}
 use Rattle.semantic_model.specs.Event.{Event, declares, takes_over, ends_header}
-use Rattle.semantic_model.specs.Fold.{State, found, update, redeclared, united, in_scope, gets, make, against, declare_in, chosen, flags_of, flags_or_none, new_symbol}
-use Rattle.semantic_model.specs.Hoist.{Hit, hit, asked, against_all, remembering, move_symbol, hoist_by, move_out, move_function, declare_by, rescoped, act, run}
-use Rattle.semantic_model.proofs.Lists.{IsBelow}
-use Rattle.semantic_model.proofs.Bounds.{AllBelow, update_length, Bounded, IsSound, Grows}
-use Rattle.semantic_model.proofs.Growth.{act_grows, rescoped_length}
+use Rattle.semantic_model.specs.Fold.{State, found, update, redeclared, united, in_scope, gets, against, declare_in, chosen, flags_of, flags_or_none, new_symbol}
+use Rattle.semantic_model.specs.Hoist.{Hit, hit, asked, against_all, move_symbol, hoist_by, move_out, declare_by, rescoped, act, run}
+use Rattle.semantic_model.proofs.Bounds.{AllBelow, update_length, IsSound}
+use Rattle.semantic_model.proofs.Growth.{rescoped_length}
 use Rattle.semantic_model.proofs.BindingLaws.{same_key, same_key_tells, get-put_other, get-remove_other, get-take_over_other}
 use Rattle.semantic_model.proofs.SymbolLaws.{get-update, get-push}
-use Rattle.walk_model.proofs.Sides.{AreOf, IsSided, AllOn, ArePassedOn, IsOn, found_side, declared_sided, chosen_side, against_sided, against_symbols, hit_side, act_sided}
+use Rattle.walk_model.proofs.Sides.{IsSided, ArePassedOn, IsOn, found_side, against_sided, against_symbols, hit_side, act_sided}
 
 flags_other : (f : Symbol → Symbol) (ys : List Symbol) (s y : ℕ) → (s ≡ y → ⊥) → flags_or_none (slice_get (update f ys s) y) ≡ flags_or_none (slice_get ys y)
 flags_other f ys s y n = elim (eqb_tells s y) [

@@ -22,3 +22,10 @@ pub record HasDeclared (p : Tree) (w : Standing) : Type 0 where
 pub record HasOpened (p : Tree) (w : Standing) : Type 0 where
   pub scopes : w.tables.scopes ≡ (tables_of p).scopes
   pub nodes : w.nodes.scopes ≡ entries_of (node_tables (steps p)).scopes
+
+-- what is referred to: the references with their symbols, and the lists of uses and of free references
+pub record HasReferred (p : Tree) (w : Standing) : Type 0 where
+  pub references : w.tables.references ≡ (tables_of p).references
+  pub uses : w.tables.uses ≡ (tables_of p).uses
+  pub free : w.tables.free ≡ (tables_of p).free
+  pub nodes : w.nodes.references ≡ entries_of (node_tables (steps p)).references

@@ -1,0 +1,5 @@
+use Rattle.walk_model.proofs.GivesTables.{gives_tables}
+use Rattle.walk_model.proofs.laws.walk_gives_tables.Goals as goal
+
+pub returns : goal.returns
+returns c = λ p h. gives_tables p h
