@@ -35,3 +35,8 @@ pub mod Tracked
 pub mod Referred
 pub mod ReferredSteps
 pub mod GivesTables
+pub mod ChainRows
+pub mod ChainWays
+pub mod Turned
+pub mod Starts
+pub mod KeptStarts
