@@ -1,11 +1,17 @@
 -- Tables that grow, and symbols that are remembered.
-use Rattle.std.proofs.Common.{◌≡◌, ℕ, ◌<◌, ◌≤◌, Bool, true, false, cond, if◌then◌else◌, List, [], ◌∷◌, ◌++◌, length, Option, Some, None, IfSome, All, arith}
+use Rattle.std.proofs.Common.{◌≡◌, ℕ, ◌<◌, ◌≤◌, Bool, true, false, cond, List, [], ◌∷◌, ◌++◌, length, Some, IfSome, All, arith, fold, slice_index_or, refl, ◌∙◌}
 use Rattle.std.proofs.lemmas.List.Elements.{All-nil, All-cons, All-append}
-use Rattle.std.specs.List.{AllByRecursion}
-use Rattle.std.specs.Map.{lookup, values_of}
-use Rattle.indexmap.specs.IndexMap.{insert_entry}
-use Rattle.semantic_syntax.specs.Tables.{Tables}
-use Rattle.semantic.specs.Growth.{Grows}
+use Rattle.std.proofs.lemmas.List.{map-append, length-set}
+use Rattle.std.specs.Map.{values_of}
+use Rattle.semantic_syntax.specs.Tables.{Tables, Name, Symbol}
+use Rattle.scoping.specs.Reading.{bindings_of, no_symbol}
+use Rattle.scoping.specs.Writing.{with_home, taken_over}
+use Rattle.semantic_model.specs.Binding.{Binding, is_of, get, put}
+use Rattle.semantic_model.specs.Outcome.{Pending}
+use Rattle.semantic.specs.Growth.{Grows, Goes}
+use Rattle.walk_model.specs.Standing.{Standing}
+use Rattle.semantic.specs.Made.{AreSymbols}
+use Rattle.semantic.specs.Waiting.{AreWaiting}
 
 pub grows-refl : (t : Tables) → Grows t t
 grows-refl t = record { scopes = omega arith; symbols = omega arith; references = omega arith }
@@ -17,34 +23,55 @@ grows-trans t u v g h = record {
   references = omega (arith, g.references, h.references);
 }
 
--- what is below a number is below a greater one
-pub below-more : (n m : ℕ) (ys : List ℕ) → n ≤ m → AllByRecursion (λ y. y < n) ys → AllByRecursion (λ y. y < m) ys
-below-more n m [] h below = tt
-below-more n m (y ∷ ys) h below = (omega (arith, h, below.0), below-more n m ys h below.1)
+pub goes-refl : (w : Standing) → Goes w w
+goes-refl w = record { tables = grows-refl w.tables; waiting = omega arith }
 
-module _ {K : Type 0} (n : ℕ) where
-  -- a value that is found is one of the values
-  pub below-lookup : (test : K → Bool) (es : List (K × ℕ)) → AllByRecursion (λ y. y < n) (values_of es) → IfSome (lookup test es) (λ y. y < n)
-  below-lookup test [] below = tt
-  below-lookup test (e ∷ es) below = by (test e.0) (below-lookup test es below.1)
+pub goes-trans : (u v w : Standing) → Goes u v → Goes v w → Goes u w
+goes-trans u v w g h = record { tables = grows-trans _ _ _ g.tables h.tables; waiting = omega (arith, g.waiting, h.waiting) }
+
+-- symbols of so many are of more
+pub symbols_more : (n m : ℕ) (bs : List Binding) → n ≤ m → AreSymbols n bs → AreSymbols m bs
+symbols_more n m [] h below = tt
+symbols_more n m (b ∷ bs) h below = (omega (arith, h, below.0), symbols_more n m bs h below.1)
+
+module _ (n s : ℕ) (x : Name) where
+  -- what is got is one of the symbols
+  pub symbols_get : (bs : List Binding) → AreSymbols n bs → IfSome (get bs s x) (λ y. y < n)
+  symbols_get [] below = tt
+  symbols_get (b ∷ bs) below = by (is_of s x b) (symbols_get bs below.1)
     where
-      by : (b : Bool) → IfSome (lookup test es) (λ y. y < n) → IfSome (cond b (Some e.1) (lookup test es)) (λ y. y < n)
+      by : (t : Bool) → IfSome (get bs s x) (λ y. y < n) → IfSome (cond t (Some b.symbol) (get bs s x)) (λ y. y < n)
       by true later = below.0
       by false later = later
 
-  pub below-insert : (eq : K → K → Bool) (es : List (K × ℕ)) (k : K) (v : ℕ) → AllByRecursion (λ y. y < n) (values_of es) → v < n
-      → AllByRecursion (λ y. y < n) (values_of (insert_entry eq es k v))
-  below-insert eq [] k v below within = (within, tt)
-  below-insert eq (e ∷ es) k v below within = by (eq k e.0) (below-insert eq es k v below.1 within)
+  pub symbols_put : (y : ℕ) (bs : List Binding) → y < n → AreSymbols n bs → AreSymbols n (put bs s x y)
+  symbols_put y [] within below = (within, tt)
+  symbols_put y (b ∷ bs) within below = by (is_of s x b) (symbols_put y bs within below.1)
     where
-      by : (b : Bool) → AllByRecursion (λ y. y < n) (values_of (insert_entry eq es k v))
-          → AllByRecursion (λ y. y < n) (values_of (if b then (e.0, v) ∷ es else e ∷ insert_entry eq es k v))
+      by : (t : Bool) → AreSymbols n (put bs s x y) → AreSymbols n (cond t (record b { symbol = y } ∷ bs) (b ∷ put bs s x y))
       by true later = (within, below.1)
       by false later = (below.0, later)
+
+-- references that wait in tables wait in tables that grew
+pub waiting_grows : (t u : Tables) (es : List Pending) → Grows t u → AreWaiting t es → AreWaiting u es
+waiting_grows t u [] g h = tt
+waiting_grows t u (e ∷ es) g h =
+    (record { scope = omega (arith, g.scopes, h.0.scope); reference = omega (arith, g.references, h.0.reference) }, waiting_grows t u es g h.1)
+
+pub waiting_more : (t : Tables) (es : List Pending) (e : Pending) → AreWaiting t es → e.lookup_scope < length t.scopes → e.reference < length t.references
+    → AreWaiting t (es ++ e ∷ [])
+waiting_more t [] e h below exists = (record { scope = below; reference = exists }, tt)
+waiting_more t (d ∷ es) e h below exists = (h.0, waiting_more t es e h.1 below exists)
+
+-- symbols that change their scope stay as many
+pub homes_count : (to : ℕ) (ids : List ℕ) (ys : List Symbol) → length (fold (with_home to) ys ids) ≡ length ys
+homes_count to [] ys = refl
+homes_count to (y ∷ ids) ys = homes_count to ids (with_home to ys y) ∙ length-set ys y (record (slice_index_or ys y no_symbol) { scope = to })
+
+pub taken_grows : (t : Tables) (from to : ℕ) → Grows t (taken_over t from to)
+taken_grows t from to = record { scopes = omega arith; symbols = omega (arith, homes_count to (values_of (bindings_of t from)) t.symbols); references = omega arith }
 
 pub All-push : (n : ℕ) (ys : List ℕ) (y : ℕ) → All (λ z. z < n) ys → y < n → All (λ z. z < n) (ys ++ y ∷ [])
 All-push n ys y h below = All-append (λ z. z < n) ys (y ∷ []) h (All-cons (λ z. z < n) y [] below (All-nil (λ z. z < n)))
 
-pub ruleset growing = (grows-refl, grows-trans, All-push)
-
-pub ruleset remembering = (below-lookup, below-insert)
+pub ruleset growing = (grows-refl, grows-trans, goes-refl, goes-trans, symbols_more, symbols_get, symbols_put, waiting_grows, waiting_more, taken_grows, All-push, map-append)

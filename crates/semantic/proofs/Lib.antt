@@ -1,4 +1,10 @@
 pub mod Outcomes
+pub mod Simple
+pub mod Numbered
+pub mod Ways
+pub mod Passing
 pub mod Growing
 pub mod Unwrapping
 pub mod Waiting
+pub mod Settling
+pub mod Bridging

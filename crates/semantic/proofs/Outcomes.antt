@@ -1,9 +1,9 @@
 -- Over a lawful source each outcome names a symbol or a scope that exists.
-use Rattle.std.proofs.Common.{◌≡◌, ℕ, zero, suc, ◌==◌, ◌<◌, Bool, true, false, cond, if◌then◌else◌, List, [], ◌∷◌, Option, None, Some, IfSome, map, refl, arith, All}
+use Rattle.std.proofs.Common.{ℕ, zero, suc, ◌==◌, ◌<◌, Bool, true, false, if◌then◌else◌, List, [], ◌∷◌, Option, None, Some, IfSome}
 use Rattle.std.specs.List.{AllByRecursion}
 use Rattle.std.specs.Option.{option_map_or}
 use Rattle.semantic_syntax.specs.Tables.{Name}
-use Rattle.scoping.specs.Source.{Source, IsSource, chain, chain_within}
+use Rattle.scoping.specs.Source.{Source, IsSource, chain_within}
 use Rattle.resolver.specs.declared.outcomes.Outcome.{Outcome}
 use Rattle.resolver.specs.declared.outcomes.Outcome.TheVariants.{Tied, Free, Pending}
 use Rattle.resolver.specs.declared.pending.UnresolvedReference.{UnresolvedReference}

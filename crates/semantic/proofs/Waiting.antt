@@ -1,52 +1,24 @@
 -- References that wait, in tables that grow.
-use Rattle.std.proofs.Common.{◌≡◌, ℕ, ◌+◌, ◌<◌, ◌≤◌, List, [], ◌∷◌, ◌++◌, length, take, drop, map, Option, Some, None, IfSome, All, arith, get_or, Result, Ok, Err, IfOk, subst, sym}
-use Rattle.std.proofs.lemmas.List.Elements.{All-append, All-take, All-drop, All-nil, All-cons, All-head, All-tail, All-map}
+use Rattle.std.proofs.Common.{◌≡◌, ℕ, zero, suc, ◌<◌, ◌≤◌, List, [], ◌∷◌, ◌++◌, length, take, drop, map, Option, Some, None, IfSome, All, arith, get_or, Result, Ok, Err, IfOk, subst, sym, refl, ap, slice_get, slice_index_or}
+use Rattle.std.proofs.lemmas.List.Elements.{All-nil, All-cons, All-head, All-tail, All-map}
 use Rattle.scoping.specs.Source.{Source, IsSource}
-use Rattle.scoping.specs.Told.{source_of}
 use Rattle.resolver.specs.Settling.{header_outcome, last_outcome}
 use Rattle.semantic.proofs.Outcomes.{header_outcome-below, last_outcome-below}
 use Rattle.semantic_syntax.specs.Tables.{Tables}
 use Rattle.resolver.specs.declared.outcomes.Outcome.{Outcome}
 use Rattle.resolver.specs.declared.outcomes.Outcome.TheVariants.{Tied, Free, Pending}
 use Rattle.resolver.specs.declared.pending.UnresolvedReference.{UnresolvedReference}
-use Rattle.resolver.specs.Staying.{staying}
-use Rattle.semantic.specs.Growth.{Grows, Standing, Goes}
-use Rattle.semantic.specs.Settled.{IsOutcomeWithin}
+use Rattle.resolver.specs.Staying.{staying as staying_of}
+use Rattle.semantic_model.specs.Outcome.{Pending as Waiting}
+use Rattle.walk_model.specs.Standing.{Standing}
+use Rattle.walk_model.specs.Settles.{staying}
+use Rattle.semantic.specs.Growth.{Grows, Goes}
+use Rattle.semantic.specs.Made.{pending_of}
+use Rattle.semantic.specs.Settled.{IsOutcomeWithin, outcome_of, no_pending}
 use Rattle.semantic.specs.Waiting.{AreWaiting}
 use Rattle.semantic.specs.declared.visit.Turn.{Turn}
 use Rattle.semantic.specs.Turns.{IsTurn}
-use Rattle.semantic.proofs.Growing.{grows-refl, grows-trans}
-
-pub goes-refl : (w : Standing) → Goes w w
-goes-refl w = record { tables = grows-refl w.tables; waiting = omega arith }
-
-pub goes-trans : (u v w : Standing) → Goes u v → Goes v w → Goes u w
-goes-trans u v w g h = record { tables = grows-trans _ _ _ g.tables h.tables; waiting = omega (arith, g.waiting, h.waiting) }
-
-pub waiting-grows : (t u : Tables) (us : List UnresolvedReference) → Grows t u → AreWaiting t us → AreWaiting u us
-waiting-grows t u us g h = record {
-  scopes = λ k d within. omega (arith, g.scopes, h.scopes k d within);
-  references = λ k d within. omega (arith, g.references, h.references k d within);
-}
-
--- the look-up scope, or the reference, stands in the tables
-abbrev scope_exists : Tables → UnresolvedReference → Type 0
-scope_exists t u = u.lookup_scope_id < length t.scopes
-
-abbrev reference_exists : Tables → UnresolvedReference → Type 0
-reference_exists t u = u.reference_id < length t.references
-
-pub waiting-take : (t : Tables) (n : ℕ) (us : List UnresolvedReference) → AreWaiting t us → AreWaiting t (take n us)
-waiting-take t n us h = record { scopes = All-take (scope_exists t) n us h.scopes; references = All-take (reference_exists t) n us h.references }
-
-pub waiting-drop : (t : Tables) (n : ℕ) (us : List UnresolvedReference) → AreWaiting t us → AreWaiting t (drop n us)
-waiting-drop t n us h = record { scopes = All-drop (scope_exists t) n us h.scopes; references = All-drop (reference_exists t) n us h.references }
-
-pub waiting-append : (t : Tables) (us vs : List UnresolvedReference) → AreWaiting t us → AreWaiting t vs → AreWaiting t (us ++ vs)
-waiting-append t us vs h k = record { scopes = All-append (scope_exists t) us vs h.scopes k.scopes; references = All-append (reference_exists t) us vs h.references k.references }
-
-waiting-tail : (t : Tables) (u : UnresolvedReference) (us : List UnresolvedReference) → AreWaiting t (u ∷ us) → AreWaiting t us
-waiting-tail t u us h = record { scopes = All-tail (scope_exists t) u us h.scopes; references = All-tail (reference_exists t) u us h.references }
+use Rattle.semantic.proofs.Growing.{grows-refl, grows-trans, goes-refl, goes-trans, waiting_grows}
 
 turn-goes-own : (m n : ℕ) (own : Option ℕ) → m ≤ n → IfSome own (λ s. s < m) → IfSome own (λ s. s < n)
 turn-goes-own m n None h below = tt
@@ -59,31 +31,75 @@ turn-goes w v turn g h = record {
   start = omega (arith, g.waiting, h.start);
 }
 
-nothing-waits : (t : Tables) → AreWaiting t []
-nothing-waits t = record { scopes = All-nil (scope_exists t); references = All-nil (reference_exists t) }
+pub waiting_drop : (t : Tables) (n : ℕ) (es : List Waiting) → AreWaiting t es → AreWaiting t (drop n es)
+waiting_drop t zero es h = h
+waiting_drop t (suc n) [] h = tt
+waiting_drop t (suc n) (e ∷ es) h = waiting_drop t n es h.1
+
+-- what is said of what waits, of the program's references
+pub scopes_exist : (t : Tables) (us : List UnresolvedReference) → AreWaiting t (map pending_of us) → All (λ u. u.lookup_scope_id < length t.scopes) us
+scopes_exist t [] h = All-nil (λ (u : UnresolvedReference). u.lookup_scope_id < length t.scopes)
+scopes_exist t (u ∷ us) h = All-cons (λ (u : UnresolvedReference). u.lookup_scope_id < length t.scopes) u us h.0.scope (scopes_exist t us h.1)
+
+pub references_exist : (t : Tables) (us : List UnresolvedReference) → AreWaiting t (map pending_of us) → All (λ u. u.reference_id < length t.references) us
+references_exist t [] h = All-nil (λ (u : UnresolvedReference). u.reference_id < length t.references)
+references_exist t (u ∷ us) h = All-cons (λ (u : UnresolvedReference). u.reference_id < length t.references) u us h.0.reference (references_exist t us h.1)
+
+-- the reference at a place
+pub waiting_at : (t : Tables) (us : List UnresolvedReference) (i : ℕ) (u : UnresolvedReference) → slice_get us i ≡ Some u → AreWaiting t (map pending_of us)
+    → u.reference_id < length t.references
+waiting_at t [] i u is h = absurd (cc)
+waiting_at t (e ∷ us) zero u is h = let same : e ≡ u = cc in subst (λ (v : UnresolvedReference). v.reference_id < length t.references) same h.0.reference
+waiting_at t (e ∷ us) (suc i) u is h = waiting_at t us i u is h.1
+
+pub pending_at : (us : List UnresolvedReference) (i : ℕ) (u : UnresolvedReference) → slice_get us i ≡ Some u → slice_index_or (map pending_of us) i no_pending ≡ pending_of u
+pending_at [] i u is = absurd (cc)
+pending_at (e ∷ us) zero u is = let same : e ≡ u = cc in ap pending_of same
+pending_at (e ∷ us) (suc i) u is = pending_at us i u is
+
+pub none_at : (us : List UnresolvedReference) (i : ℕ) → slice_get us i ≡ None → i < length (map pending_of us) → ⊥
+none_at [] i is h = omega arith
+none_at (e ∷ us) zero is h = cc
+none_at (e ∷ us) (suc i) is h = none_at us i is (omega arith)
+
+-- those that wait on
+pub staying_same : (us : List UnresolvedReference) (os : List Outcome) → map pending_of (staying_of us os) ≡ staying (map pending_of us) (map outcome_of os)
+staying_same [] os = refl
+staying_same (u ∷ us) [] = refl
+staying_same (u ∷ us) (Tied y ∷ os) = staying_same us os
+staying_same (u ∷ us) (Free ∷ os) = staying_same us os
+staying_same (u ∷ us) (Pending s ∷ os) = ap (λ es. record (pending_of u) { lookup_scope = s } ∷ es) (staying_same us os)
+
+pub drop_same : (n : ℕ) (us : List UnresolvedReference) → map pending_of (drop n us) ≡ drop n (map pending_of us)
+drop_same zero us = refl
+drop_same (suc n) [] = refl
+drop_same (suc n) (u ∷ us) = drop_same n us
+
+-- references with outcomes from a place on
+pub applied_same : (n : ℕ) (us : List UnresolvedReference) (os : List Outcome)
+    → map pending_of (take n us ++ staying_of (drop n us) os) ≡ take n (map pending_of us) ++ staying (drop n (map pending_of us)) (map outcome_of os)
+applied_same zero us os = staying_same us os
+applied_same (suc n) [] os = refl
+applied_same (suc n) (u ∷ us) os = ap (λ es. pending_of u ∷ es) (applied_same n us os)
 
 -- what the outcome names exists in the tables
 abbrev outcome_exists : Tables → Outcome → Type 0
 outcome_exists t = IsOutcomeWithin (length t.symbols) (length t.scopes)
 
--- what waits on stands too
-pub waiting-staying : (t : Tables) (us : List UnresolvedReference) (os : List Outcome) → AreWaiting t us
-    → All (IsOutcomeWithin (length t.symbols) (length t.scopes)) os → AreWaiting t (staying us os)
-waiting-staying t [] os h w = nothing-waits t
-waiting-staying t (u ∷ us) [] h w = nothing-waits t
-waiting-staying t (u ∷ us) (Tied y ∷ os) h w = waiting-staying t us os (waiting-tail t u us h) (All-tail (outcome_exists t) (Tied y) os w)
-waiting-staying t (u ∷ us) (Free ∷ os) h w = waiting-staying t us os (waiting-tail t u us h) (All-tail (outcome_exists t) Free os w)
-waiting-staying t (u ∷ us) (Pending s ∷ os) h w =
-    let further : AreWaiting t (staying us os) = waiting-staying t us os (waiting-tail t u us h) (All-tail (outcome_exists t) (Pending s) os w) in
-    record {
-      scopes = All-cons (scope_exists t) (record u { lookup_scope_id = s }) (staying us os) (All-head (outcome_exists t) (Pending s) os w) further.scopes;
-      references = All-cons (reference_exists t) (record u { lookup_scope_id = s }) (staying us os) (All-head (reference_exists t) u us h.references) further.references;
-    }
+waiting_staying : (t : Tables) (us : List UnresolvedReference) (os : List Outcome) → AreWaiting t (map pending_of us)
+    → All (IsOutcomeWithin (length t.symbols) (length t.scopes)) os → AreWaiting t (map pending_of (staying_of us os))
+waiting_staying t [] os h w = tt
+waiting_staying t (u ∷ us) [] h w = tt
+waiting_staying t (u ∷ us) (Tied y ∷ os) h w = waiting_staying t us os h.1 (All-tail (outcome_exists t) (Tied y) os w)
+waiting_staying t (u ∷ us) (Free ∷ os) h w = waiting_staying t us os h.1 (All-tail (outcome_exists t) Free os w)
+waiting_staying t (u ∷ us) (Pending s ∷ os) h w =
+    (record { scope = All-head (outcome_exists t) (Pending s) os w; reference = h.0.reference }, waiting_staying t us os h.1 (All-tail (outcome_exists t) (Pending s) os w))
 
--- references with outcomes from a place on
-pub waiting-applied : (t : Tables) (n : ℕ) (us : List UnresolvedReference) (os : List Outcome) → AreWaiting t us
-    → All (IsOutcomeWithin (length t.symbols) (length t.scopes)) os → AreWaiting t (take n us ++ staying (drop n us) os)
-waiting-applied t n us os h w = waiting-append t (take n us) (staying (drop n us) os) (waiting-take t n us h) (waiting-staying t (drop n us) os (waiting-drop t n us h) w)
+pub waiting_applied : (t : Tables) (n : ℕ) (us : List UnresolvedReference) (os : List Outcome) → AreWaiting t (map pending_of us)
+    → All (IsOutcomeWithin (length t.symbols) (length t.scopes)) os → AreWaiting t (map pending_of (take n us ++ staying_of (drop n us) os))
+waiting_applied t zero us os h w = waiting_staying t us os h w
+waiting_applied t (suc n) [] os h w = tt
+waiting_applied t (suc n) (u ∷ us) os h w = (h.0, waiting_applied t n us os h.1 w)
 
 pub outcomes-grow : (t u : Tables) (os : List Outcome) → Grows t u
     → All (IsOutcomeWithin (length t.symbols) (length t.scopes)) os → All (IsOutcomeWithin (length u.symbols) (length u.scopes)) os
@@ -108,25 +124,4 @@ pub if_ok_is : {X E : Type 0} (r : Result X E) (P : X → Type 0) (x : X) → If
 if_ok_is (Ok v) P x e p = subst P (sym e) p
 if_ok_is (Err e) P x h p = tt
 
--- outcomes over tables that are the same
-pub header-settles : (t u : Tables) (law : IsSource (source_of t)) (e : t ≡ u) (scope : ℕ) (us : List UnresolvedReference)
-    → scope < length u.scopes → AreWaiting u us
-    → All (IsOutcomeWithin (length u.symbols) (length u.scopes)) (map (header_outcome (source_of t) scope) us)
-header-settles t u law e scope us within waiting =
-    let P : Tables → Type 0 = λ x. All (IsOutcomeWithin (length x.symbols) (length x.scopes)) (map (header_outcome (source_of t) scope) us) in
-    let Q : Tables → Type 0 = λ x. scope < length x.scopes in
-    let R : Tables → Type 0 = λ x. All (λ u. u.lookup_scope_id < length x.scopes) us in
-    subst P e (header-within (source_of t) law scope us (subst Q (sym e) within) (subst R (sym e) waiting.scopes))
-
-pub last-settles : (t u : Tables) (law : IsSource (source_of t)) (e : t ≡ u) (us : List UnresolvedReference) → AreWaiting u us
-    → All (IsOutcomeWithin (length u.symbols) (length u.scopes)) (map (last_outcome (source_of t)) us)
-last-settles t u law e us waiting =
-    let P : Tables → Type 0 = λ x. All (IsOutcomeWithin (length x.symbols) (length x.scopes)) (map (last_outcome (source_of t)) us) in
-    let R : Tables → Type 0 = λ x. All (λ u. u.lookup_scope_id < length x.scopes) us in
-    subst P e (last-within (source_of t) law us (subst R (sym e) waiting.scopes))
-
--- what waits, in tables that are the same
-pub waiting-same : (t u : Tables) (us : List UnresolvedReference) → t ≡ u → AreWaiting t us → AreWaiting u us
-waiting-same t u us e h = let P : Tables → Type 0 = λ x. AreWaiting x us in subst P e h
-
-pub ruleset going = (goes-refl, goes-trans, waiting-grows, turn-goes, grows-refl, grows-trans)
+pub ruleset going = (goes-refl, goes-trans, waiting_grows, turn-goes, grows-refl, grows-trans)

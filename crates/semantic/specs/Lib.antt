@@ -1,5 +1,12 @@
 pub mod Settled
 pub mod Growth
 pub mod Waiting
-pub mod Standing
 pub mod Turns
+pub mod Seen
+pub mod Made
+pub mod Hits
+pub mod Routes
+pub mod Each
+pub mod Named
+pub mod Conflicting
+pub mod Numbered

@@ -1,8 +1,10 @@
--- Outcomes that name what exists.
-use Rattle.std.specs.Prelude.{ℕ, ◌<◌, Option, None, Some}
-use Rattle.scoping.specs.Source.{Source}
+-- Outcomes that name what exists, in the words of the definitions, and what they settle.
+use Rattle.std.specs.Prelude.{ℕ, ◌<◌, List, [], ◌++◌, take, drop, Option, None, Some}
 use Rattle.resolver.specs.declared.outcomes.Outcome.{Outcome}
 use Rattle.resolver.specs.declared.outcomes.Outcome.TheVariants.{Tied, Free, Pending}
+use Rattle.semantic_model.specs.Outcome as model
+use Rattle.walk_model.specs.Standing.{Standing}
+use Rattle.walk_model.specs.Settles.{settle, staying}
 
 -- the symbol, or the scope, is one of so many
 abbrev pub IsOutcomeWithin : ℕ → ℕ → Outcome → Type 0
@@ -14,3 +16,19 @@ IsOutcomeWithin symbols scopes (Pending s) = s < scopes
 abbrev pub IsAnswerWithin : ℕ → ℕ → Option Outcome → Type 0
 IsAnswerWithin symbols scopes None = Unit {0}
 IsAnswerWithin symbols scopes (Some o) = IsOutcomeWithin symbols scopes o
+
+abbrev pub outcome_of : Outcome → model.Outcome
+outcome_of (Tied y) = model.means y
+outcome_of Free = model.is_free
+outcome_of (Pending s) = model.waits s
+
+-- past the end of the references that wait
+abbrev pub no_pending : model.Pending
+no_pending = record { name = []; reference = 0; lookup_scope = 0 }
+
+-- the references that wait from a place on get their outcomes; the others wait on
+abbrev pub settled_from : Standing → ℕ → List model.Outcome → Standing
+settled_from w start outcomes = record w {
+  tables = settle w.tables (drop start w.waiting) outcomes;
+  waiting = take start w.waiting ++ staying (drop start w.waiting) outcomes;
+}

@@ -1,9 +1,13 @@
 -- References that wait in tables.
-use Rattle.std.specs.Prelude.{ℕ, ◌<◌, List, length, All}
+use Rattle.std.specs.Prelude.{◌<◌, List, length}
+use Rattle.std.specs.List.{AllByRecursion}
 use Rattle.semantic_syntax.specs.Tables.{Tables}
-use Rattle.resolver.specs.declared.pending.UnresolvedReference.{UnresolvedReference}
+use Rattle.semantic_model.specs.Outcome.{Pending}
 
--- the references stand in the tables, and their look-up scopes too
-pub record AreWaiting (t : Tables) (us : List UnresolvedReference) : Type 0 where
-  pub scopes : All (λ u. u.lookup_scope_id < length t.scopes) us
-  pub references : All (λ u. u.reference_id < length t.references) us
+-- the reference stands in the tables, and its look-up scope too
+pub record IsWaiting (t : Tables) (e : Pending) : Type 0 where
+  pub scope : e.lookup_scope < length t.scopes
+  pub reference : e.reference < length t.references
+
+abbrev pub AreWaiting : Tables → List Pending → Type 0
+AreWaiting t es = AllByRecursion (IsWaiting t) es

@@ -106,30 +106,47 @@ impl<'a> Walk<'a> {
     fn bind_function(&mut self, function: AstKind<'a>) -> Result<(), AllocError>
         ensures { OnOk result (Goes self.old self.new) }
     {
-        let row = rows::function_row(
-            function,
-            self.parent(),
-            self.source_type.is_typescript(),
-            self.is_strict(),
-        );
+        let flags = self.scope_flags();
+        let row = rows::function_row(function, self.parent(), self.source_type, flags);
         let is_pure = function.has_mark(Mark::Pure);
-        if self.is_block_function(function) {
-            self.declared
-                .declare_block_functions(function, self.current_scope, row, is_pure)
+        let is_moved = rows::is_statement(function)
+            && rows::is_block_function(function, self.source_type, flags);
+        if is_moved {
+            self.bind_block_function(function, row, is_pure)
         } else {
             self.declared
                 .declare_names(function, function, self.current_scope, row, is_pure)
         }
     }
 
-    /// Whether a function is a plain one in a block of sloppy JavaScript (ECMAScript, Annex B.3.2).
-    fn is_block_function(&self, function: AstKind<'a>) -> bool {
-        let flags = self.declared.scoping().scope_flags(self.current_scope);
-        rows::is_statement(function)
-            && !rows::is_special(function)
-            && !self.source_type.is_typescript()
-            && !flags.is_strict_mode()
-            && !flags.is_var()
+    /// A plain function in a block of sloppy JavaScript.
+    fn bind_block_function(
+        &mut self,
+        function: AstKind<'a>,
+        row: Row,
+        is_pure: bool,
+    ) -> Result<(), AllocError>
+        ensures { OnOk result (Goes self.old self.new) }
+    {
+        for name in function.bound_names() {
+            self.bind_block_name(function, name, row, is_pure)?;
+        }
+        Ok(())
+    }
+
+    /// The name of such a function.
+    fn bind_block_name(
+        &mut self,
+        function: AstKind<'a>,
+        name: AstKind<'a>,
+        row: Row,
+        is_pure: bool,
+    ) -> Result<(), AllocError>
+        ensures { OnOk result (Goes self.old self.new) }
+    {
+        let target = self.target_of_block_function(name.text())?;
+        self.declared
+            .declare_block_function(function, name, self.current_scope, target, row, is_pure)
     }
 
     /// A parameter of a list.
@@ -137,7 +154,7 @@ impl<'a> Walk<'a> {
         ensures { OnOk result (Goes self.old self.new) }
     {
         match self.parent() {
-            Some(list) => self.bind_all(parameter, rows::parameter_row(list, self.is_strict())),
+            Some(list) => self.bind_all(parameter, rows::parameter_row(list, self.scope_flags())),
             None => Ok(()),
         }
     }

@@ -38,6 +38,6 @@ impl SemanticBuilder {
         let mut walk = Walk::new(alloc, program)?;
         walk.visit(program.root(), Role::Root, steps)?;
         walk.end(steps)?;
-        Ok(walk.into_return(program))
+        walk.into_return(program)
     }
 }

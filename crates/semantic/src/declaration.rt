@@ -1,5 +1,9 @@
 //! One name that a node declares.
 
+ghost use Rattle.std.specs.Prelude.{◌≡◌, false};
+ghost use Rattle.semantic_model.specs.Binder.{named_member};
+ghost use Rattle.semantic.specs.Named.{naming, named_by};
+
 use semantic_syntax::{NodeId, Span, SymbolFlags};
 use semantic_tree::AstKind;
 
@@ -33,7 +37,9 @@ impl<'a> Declaration<'a> {
         identifier: AstKind<'a>,
         row: Row,
         is_pure: bool,
-    ) -> Declaration<'a> {
+    ) -> Declaration<'a>
+        ensures { naming result ≡ named_by node.entry.node.now row is_pure identifier.entry.node.now }
+    {
         Declaration {
             node: node.node_id(),
             identifier: identifier.node_id(),
@@ -50,7 +56,9 @@ impl<'a> Declaration<'a> {
         id: AstKind<'_>,
         named: AstKind<'a>,
         row: Row,
-    ) -> Declaration<'a> {
+    ) -> Declaration<'a>
+        ensures { naming result ≡ named_by member.entry.node.now row false (named_member member.entry.node.now id.entry.node.now named.entry.node.now) }
+    {
         Declaration {
             node: member.node_id(),
             identifier: member.node_id(),

@@ -1,99 +1,134 @@
-//! What is declared so far, and how one more declaration comes to its symbol.
+//! What the walk has made so far, and how one more declaration comes to its symbol.
 
-ghost use Rattle.std.specs.Prelude.{◌≡◌, ◌<◌, length, IfSome, IfOk, OnOk};
-ghost use Rattle.semantic.specs.Growth.{Grows};
+ghost use Rattle.std.specs.Prelude.{◌≡◌, ◌<◌, [], true, length, map, option_map, fold, IfSome, IfOk, OnOk};
+ghost use Rattle.std.specs.Str.{bytes_eq};
+ghost use Rattle.std.specs.Map.{lookup};
+ghost use Rattle.scoping.specs.Names.{name_of};
+ghost use Rattle.scoping.specs.Reading.{bindings_of, scope_of};
+ghost use Rattle.semantic_model.specs.Binding.{get};
+ghost use Rattle.semantic_model.specs.Fold.{or_else};
+ghost use Rattle.walk_model.specs.Standing.{nothing_made};
+ghost use Rattle.walk_model.specs.Declares as walked;
+ghost use Rattle.semantic.specs.Growth.{Goes};
+ghost use Rattle.semantic.specs.Named.{naming, named_by};
 
+use crate::conflicts::Conflicts;
 use crate::declaration::{Declaration, Row};
-use crate::namesakes::Namesakes;
 use crate::remembered::Remembered;
-use crate::rows::{caught_row, member_row};
+use resolver::UnresolvedReferences;
 use scoping::{NodeTables, Scoping};
-use semantic_diagnostics::Diagnostics;
-use semantic_diagnostics::makers::names::redeclaration;
 use semantic_syntax::{Ident, ScopeId, SymbolFlags, SymbolId};
-use semantic_tree::{AstKind, AstType, Role};
+use semantic_tree::AstKind;
 use std::alloc::{AllocError, Global};
 use std::marker::Model;
 
-/// Scopes, symbols, bindings and references so far, what belongs to each node, the names that scopes remember, and
-/// the conflicts. Contracts see the tables.
+/// Scopes, symbols, bindings and references so far, what belongs to each node, the names that scopes remember,
+/// the conflicts, and the references that wait to be settled.
 #[derive(Drop)]
-pub struct Declared {
+pub struct Declared<'a> {
     pub(crate) alloc: Global,
     pub(crate) scoping: Scoping,
     pub(crate) tables: NodeTables,
     pub(crate) remembered: Remembered,
-    /// Past which declarations block functions don't move.
-    pub(crate) namesakes: Namesakes,
-    pub(crate) diagnostics: Diagnostics,
+    pub(crate) conflicts: Conflicts<'a>,
+    pub(crate) pending: UnresolvedReferences<'a>,
 }
 
-impl Model for Declared {
-    ghost use Rattle.std.specs.Prelude.{◌<◌, length};
-    ghost use Rattle.std.specs.List.{AllByRecursion};
-    ghost use Rattle.semantic_syntax.specs.Tables.{Tables};
+impl<'a> Model for Declared<'a> {
+    ghost use Rattle.walk_model.specs.Standing.{Standing};
 
-    ghost Value = { Tables };
+    ghost Value = { Standing };
 
-    ghost view = { λ d. d.scoping };
+    ghost use Rattle.semantic.specs.Made.{standing, IsSound};
 
-    ghost invariant = { λ d. AllByRecursion (λ y. y < length d.scoping.symbols) d.remembered };
+    ghost view = { standing };
+
+    ghost invariant = { IsSound };
 }
 
 #[tactic(auto, using(crate::proofs::Growing::growing))]
-impl Declared {
-    /// No scopes.
-    pub fn new(alloc: Global, namesakes: Namesakes) -> Declared {
+impl<'a> Declared<'a> {
+    /// Nothing is made yet.
+    pub fn new(alloc: Global) -> Declared<'a>
+        ensures { result ≡ nothing_made }
+    {
         Declared {
             alloc,
             scoping: Scoping::new(alloc),
             tables: NodeTables::new(alloc),
             remembered: Remembered::new(alloc),
-            namesakes,
-            diagnostics: Diagnostics::new(alloc),
+            conflicts: Conflicts::new(alloc),
+            pending: UnresolvedReferences::new(alloc),
         }
     }
 
     /// The tables.
     pub fn scoping(&self) -> &Scoping
-        ensures { result.now ≡ self.now }
+        ensures { result.now ≡ self.now.tables }
     {
         &self.scoping
     }
 
+    /// How many references wait.
+    pub(crate) fn waiting(&self) -> usize
+        ensures { result ≡ length self.now.waiting }
+    {
+        self.pending.len()
+    }
+
     /// The symbol that the scope binds to the name.
     pub(crate) fn bound(&self, scope: ScopeId, name: Ident<'_>) -> Option<SymbolId>
-        requires { scope < length self.now.scopes }
-        ensures { IfSome result (λ y. y < length self.now.symbols) }
+        requires { scope < length self.now.tables.scopes }
+        ensures value { result ≡ walked.bound_to self.now.tables scope (name_of name.entry) }
+        ensures within { IfSome result (λ y. y < length self.now.tables.symbols) }
     {
         self.scoping.attest();
         self.scoping.get_binding(scope, name)
     }
 
+    /// Whether the scope binds nothing.
+    pub(crate) fn binds_nothing(&self, scope: ScopeId) -> bool
+        requires { scope < length self.now.tables.scopes }
+        ensures { result ≡ true → bindings_of self.now.tables scope ≡ [] }
+    {
+        self.scoping.get_bindings(scope).is_empty()
+    }
+
     /// The scope around the scope.
     pub(crate) fn parent(&self, scope: ScopeId) -> Option<ScopeId>
-        requires { scope < length self.now.scopes }
-        ensures { IfSome result (λ s. s < length self.now.scopes) }
+        requires { scope < length self.now.tables.scopes }
+        ensures value { result ≡ (scope_of self.now.tables scope).parent }
+        ensures within { IfSome result (λ s. s < length self.now.tables.scopes) }
     {
         self.scoping.attest();
         self.scoping.scope_parent_id(scope)
     }
 
+    /// The symbol that the scope remembers for the name.
+    fn recalled(&self, scope: ScopeId, name: Ident<'_>) -> Option<SymbolId>
+        ensures value { result ≡ get self.now.remembered scope (name_of name.entry) }
+        ensures within { IfSome result (λ y. y < length self.now.tables.symbols) }
+    {
+        self.remembered.get(scope, name)
+    }
+
     /// The symbol that the scope binds to the name, else the one that it remembers.
     fn known(&self, scope: ScopeId, name: Ident<'_>) -> Option<SymbolId>
-        requires { scope < length self.now.scopes }
-        ensures { IfSome result (λ y. y < length self.now.symbols) }
+        requires { scope < length self.now.tables.scopes }
+        ensures value { result ≡ or_else (walked.bound_to self.now.tables scope (name_of name.entry)) (get self.now.remembered scope (name_of name.entry)) }
+        ensures within { IfSome result (λ y. y < length self.now.tables.symbols) }
     {
         if let Some(symbol) = self.bound(scope, name) {
             return Some(symbol);
         }
-        self.remembered.get(scope, name)
+        self.recalled(scope, name)
     }
 
     /// The symbol that the scope knows for the name. The own name of a function expression counts as none.
     pub(crate) fn found(&self, scope: ScopeId, name: Ident<'_>) -> Option<SymbolId>
-        requires { scope < length self.now.scopes }
-        ensures { IfSome result (λ y. y < length self.now.symbols) }
+        requires { scope < length self.now.tables.scopes }
+        ensures value { result ≡ walked.found self.now scope (name_of name.entry) }
+        ensures within { IfSome result (λ y. y < length self.now.tables.symbols) }
     {
         let symbol = self.known(scope, name)?;
         let flags = self.scoping.symbol_flags(symbol);
@@ -103,21 +138,21 @@ impl Declared {
         Some(symbol)
     }
 
-    /// Gives a diagnostic where the symbol may not be declared once more in this way.
+    /// Notes a conflict where the symbol may not be declared once more in this way.
     pub(crate) fn note_conflict(
         &mut self,
         symbol: SymbolId,
-        declaration: &Declaration<'_>,
+        declaration: &Declaration<'a>,
     ) -> Result<(), AllocError>
-        requires { symbol < length self.old.symbols }
-        ensures { self.new ≡ self.old }
+        requires { symbol < length self.old.tables.symbols }
+        ensures made { OnOk result (self.new ≡ walked.against self.old (naming declaration.now) symbol) }
+        ensures goes { Goes self.old self.new }
     {
         let flags = self.scoping.symbol_flags(symbol);
         if flags.intersects(declaration.row.excluded) {
             let earlier = self.scoping.symbol_span(symbol);
-            let name = declaration.name;
-            let diagnostic = redeclaration(self.alloc, name, earlier, declaration.span)?;
-            self.diagnostics.push(diagnostic)?;
+            self.conflicts
+                .push(declaration.name, earlier, declaration.span)?;
         }
         Ok(())
     }
@@ -126,11 +161,13 @@ impl Declared {
     pub(crate) fn make(
         &mut self,
         scope: ScopeId,
-        declaration: &Declaration<'_>,
+        declaration: &Declaration<'a>,
     ) -> Result<SymbolId, AllocError>
-        requires { scope < length self.old.scopes }
-        ensures grows { Grows self.old self.new }
-        ensures within { IfOk result (λ y. y < length self.new.symbols) }
+        requires { scope < length self.old.tables.scopes }
+        ensures made { OnOk result (self.new ≡ walked.make self.old scope (naming declaration.now)) }
+        ensures symbol { IfOk result (λ y. y ≡ length self.old.tables.symbols) }
+        ensures goes { Goes self.old self.new }
+        ensures within { IfOk result (λ y. y < length self.new.tables.symbols) }
     {
         check_room(self.scoping.symbols_len())?;
         self.scoping.create_symbol_with_binding(
@@ -147,10 +184,11 @@ impl Declared {
     pub(crate) fn redeclare(
         &mut self,
         symbol: SymbolId,
-        declaration: &Declaration<'_>,
+        declaration: &Declaration<'a>,
     ) -> Result<(), AllocError>
-        requires { symbol < length self.old.symbols }
-        ensures { Grows self.old self.new }
+        requires { symbol < length self.old.tables.symbols }
+        ensures made { OnOk result (self.new ≡ walked.redeclare self.old symbol (naming declaration.now)) }
+        ensures goes { Goes self.old self.new }
     {
         self.scoping.add_symbol_redeclaration(
             symbol,
@@ -164,10 +202,10 @@ impl Declared {
     pub(crate) fn gets(
         &mut self,
         symbol: SymbolId,
-        declaration: &Declaration<'_>,
+        declaration: &Declaration<'a>,
     ) -> Result<(), AllocError>
-        requires { symbol < length self.old.symbols }
-        ensures { Grows self.old self.new }
+        ensures made { OnOk result (self.new ≡ walked.gets self.old symbol (naming declaration.now)) }
+        ensures goes { Goes self.old self.new }
     {
         self.tables.set_symbol(declaration.identifier, symbol)?;
         if declaration.is_pure {
@@ -176,15 +214,24 @@ impl Declared {
         Ok(())
     }
 
+    /// Adds to what the symbol is.
+    fn add_flags(&mut self, symbol: SymbolId, flags: SymbolFlags)
+        requires { symbol < length self.old.tables.symbols }
+        ensures made { self.new ≡ walked.add_flags self.old symbol flags.bits }
+        ensures goes { Goes self.old self.new }
+    {
+        self.scoping.union_symbol_flag(symbol, flags);
+    }
+
     /// The symbol is declared once more, with the flags of the declaration.
-    fn unite(&mut self, symbol: SymbolId, declaration: &Declaration<'_>) -> Result<(), AllocError>
-        requires { symbol < length self.old.symbols }
-        ensures { Grows self.old self.new }
+    fn unite(&mut self, symbol: SymbolId, declaration: &Declaration<'a>) -> Result<(), AllocError>
+        requires { symbol < length self.old.tables.symbols }
+        ensures made { OnOk result (self.new ≡ walked.unite self.old symbol (naming declaration.now)) }
+        ensures goes { Goes self.old self.new }
     {
         self.note_conflict(symbol, declaration)?;
         self.redeclare(symbol, declaration)?;
-        self.scoping
-            .union_symbol_flag(symbol, declaration.row.flags);
+        self.add_flags(symbol, declaration.row.flags);
         Ok(())
     }
 
@@ -193,11 +240,13 @@ impl Declared {
     pub(crate) fn symbol_in(
         &mut self,
         scope: ScopeId,
-        declaration: &Declaration<'_>,
+        declaration: &Declaration<'a>,
     ) -> Result<SymbolId, AllocError>
-        requires { scope < length self.old.scopes }
-        ensures grows { Grows self.old self.new }
-        ensures within { IfOk result (λ y. y < length self.new.symbols) }
+        requires { scope < length self.old.tables.scopes }
+        ensures made { OnOk result (self.new ≡ walked.with_symbol_in self.old scope (naming declaration.now)) }
+        ensures symbol { IfOk result (λ y. y ≡ walked.symbol_in self.old scope (naming declaration.now)) }
+        ensures goes { Goes self.old self.new }
+        ensures within { IfOk result (λ y. y < length self.new.tables.symbols) }
     {
         match self.found(scope, Ident::new(declaration.name)) {
             Some(symbol) => {
@@ -212,75 +261,45 @@ impl Declared {
     pub(crate) fn declare(
         &mut self,
         scope: ScopeId,
-        declaration: &Declaration<'_>,
+        declaration: &Declaration<'a>,
     ) -> Result<(), AllocError>
-        requires { scope < length self.old.scopes }
-        ensures { Grows self.old self.new }
+        requires { scope < length self.old.tables.scopes }
+        ensures made { OnOk result (self.new ≡ walked.declare self.old scope (naming declaration.now)) }
+        ensures goes { Goes self.old self.new }
     {
         let symbol = self.symbol_in(scope, declaration)?;
+        self.gets(symbol, declaration)
+    }
+
+    /// Declares in a scope, always anew.
+    pub(crate) fn declare_anew(
+        &mut self,
+        scope: ScopeId,
+        declaration: &Declaration<'a>,
+    ) -> Result<(), AllocError>
+        requires { scope < length self.old.tables.scopes }
+        ensures made { OnOk result (self.new ≡ walked.declare_anew self.old scope (naming declaration.now)) }
+        ensures goes { Goes self.old self.new }
+    {
+        let symbol = self.make(scope, declaration)?;
         self.gets(symbol, declaration)
     }
 
     /// The node declares the name in a scope.
     pub(crate) fn declare_name(
         &mut self,
-        node: AstKind<'_>,
-        name: AstKind<'_>,
+        node: AstKind<'a>,
+        name: AstKind<'a>,
         scope: ScopeId,
         row: Row,
         is_pure: bool,
     ) -> Result<(), AllocError>
-        requires { scope < length self.old.scopes }
-        ensures { Grows self.old self.new }
+        requires { scope < length self.old.tables.scopes }
+        ensures made { OnOk result (self.new ≡ walked.declare self.old scope (named_by node.entry.node.now row is_pure name.entry.node.now)) }
+        ensures goes { Goes self.old self.new }
     {
         let declaration = Declaration::new(node, name, row, is_pure);
         self.declare(scope, &declaration)
-    }
-
-    /// The member of an enum declares the name that stands in its id.
-    pub(crate) fn declare_member_name(
-        &mut self,
-        member: AstKind<'_>,
-        id: AstKind<'_>,
-        scope: ScopeId,
-    ) -> Result<(), AllocError>
-        requires { scope < length self.old.scopes }
-        ensures { Grows self.old self.new }
-    {
-        match member_name(id) {
-            Some(named) => {
-                let declaration = Declaration::of_member(member, id, named, member_row());
-                self.declare(scope, &declaration)
-            }
-            None => Ok(()),
-        }
-    }
-
-    /// The catch clause declares a plain name.
-    pub(crate) fn declare_caught_name(
-        &mut self,
-        parameter: AstKind<'_>,
-        name: AstKind<'_>,
-        scope: ScopeId,
-    ) -> Result<(), AllocError>
-        requires { scope < length self.old.scopes }
-        ensures { Grows self.old self.new }
-    {
-        let declaration = Declaration::new(parameter, name, caught_row(), false);
-        self.declare_caught(scope, &declaration)
-    }
-
-    /// Declares a plain catch name, which is always new.
-    fn declare_caught(
-        &mut self,
-        scope: ScopeId,
-        declaration: &Declaration<'_>,
-    ) -> Result<(), AllocError>
-        requires { scope < length self.old.scopes }
-        ensures { Grows self.old self.new }
-    {
-        let symbol = self.make(scope, declaration)?;
-        self.gets(symbol, declaration)
     }
 }
 
@@ -293,14 +312,5 @@ pub(crate) fn check_room(count: usize) -> Result<(), AllocError>
         Ok(())
     } else {
         Err(AllocError)
-    }
-}
-
-/// The node whose text names an enum member: its id, or the one piece of a template.
-fn member_name(id: AstKind<'_>) -> Option<AstKind<'_>> {
-    match id.ty() {
-        AstType::IdentifierName | AstType::StringLiteral => Some(id),
-        AstType::TemplateLiteral => id.child(Role::Quasis),
-        _ => None,
     }
 }

@@ -4,6 +4,7 @@
 pub mod ambient;
 pub mod binder;
 pub mod builder;
+pub mod conflicts;
 pub mod coverage;
 pub mod cursor;
 pub mod declaration;

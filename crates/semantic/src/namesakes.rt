@@ -1,9 +1,14 @@
 //! The declarations past which a block function doesn't move, collected before the walk.
 
+ghost use Rattle.std.specs.Prelude.{◌≡◌, length, drop};
+ghost use Rattle.semantic.specs.Routes.{IsRoute};
+
 use crate::inside::{is_inside, is_parameter_decorator};
+use crate::route::Route;
 use crate::rows::{is_statement, is_var_declaration};
+use scoping::Scoping;
 use scoping::name_table::NameTable;
-use semantic_syntax::{Ident, NodeId};
+use semantic_syntax::{Ident, NodeId, ScopeId};
 use semantic_tree::{AstKind, AstType, Program, Role};
 use std::alloc::{AllocError, Global};
 use std::collections::HashSet;
@@ -73,6 +78,16 @@ fn openers_in_child(kind: AstKind<'_>, role: Role, openers: &Openers) -> Openers
     }
 }
 
+/// The scopes that the route passes, but for the one where it begins.
+fn between(route: &Route) -> &[ScopeId]
+    ensures { result.now ≡ drop 1 route.now.passed.items }
+{
+    match route.passed.as_slice().split_first() {
+        Some((_, passed)) => passed,
+        None => &[],
+    }
+}
+
 impl Namesakes {
     /// Those of a program, wherever they are written. Only sloppy JavaScript has block functions that move.
     pub fn of(alloc: Global, program: &Program) -> Result<Namesakes, AllocError> {
@@ -97,6 +112,19 @@ impl Namesakes {
             Some(number) => self.written.contains(&(opener, number)),
             None => false,
         }
+    }
+
+    /// Whether such a declaration of the name stands in a scope strictly between the one where the route begins and
+    /// its target.
+    pub(crate) fn stand_on(&self, route: &Route, scoping: &Scoping, name: Ident<'_>) -> bool
+        requires { IsRoute (length scoping.now.scopes) route.now }
+    {
+        for scope in between(route) {
+            if self.has(scoping.get_node_id(*scope), name) {
+                return true;
+            }
+        }
+        false
     }
 
     /// Collects the names of one node that counts.

@@ -1,7 +1,8 @@
 //! Names that a scope doesn't bind, but knows of.
 
-ghost use Rattle.std.specs.Prelude.{◌≡◌, ℕ, ◌<◌, [], IfSome};
-ghost use Rattle.std.specs.List.{AllByRecursion};
+ghost use Rattle.std.specs.Prelude.{◌≡◌, [], OnOk, OnErr};
+ghost use Rattle.scoping.specs.Names.{name_of};
+ghost use Rattle.semantic_model.specs.Binding.{get, put};
 
 use indexmap::IndexMap;
 use scoping::name_table::NameTable;
@@ -9,7 +10,7 @@ use semantic_syntax::{Ident, ScopeId, SymbolId};
 use std::alloc::{AllocError, Global};
 use std::marker::Model;
 
-/// The names that scopes remember, each with its symbol. Contracts see the symbols.
+/// The names that scopes remember, each with its symbol.
 #[derive(Drop)]
 pub struct Remembered {
     names: NameTable,
@@ -17,12 +18,16 @@ pub struct Remembered {
 }
 
 impl Model for Remembered {
-    ghost use Rattle.std.specs.Prelude.{ℕ, List};
-    ghost use Rattle.indexmap.specs.IndexMap.{values};
+    ghost use Rattle.std.specs.Prelude.{List};
+    ghost use Rattle.semantic_model.specs.Binding.{Binding};
 
-    ghost Value = { List ℕ };
+    ghost Value = { List Binding };
 
-    ghost view = { λ r. values r.symbols };
+    ghost use Rattle.semantic.specs.Numbered.{remembered, IsNumbered};
+
+    ghost view = { remembered };
+
+    ghost invariant = { IsNumbered };
 }
 
 impl Remembered {
@@ -37,9 +42,8 @@ impl Remembered {
     }
 
     /// The symbol that the scope remembers for the name.
-    #[tactic(auto, using(crate::proofs::Growing::remembering))]
     pub fn get(&self, scope: ScopeId, name: Ident<'_>) -> Option<SymbolId>
-        ensures { (n : ℕ) → AllByRecursion (λ y. y < n) self.now → IfSome result (λ y. y < n) }
+        ensures { result ≡ get self.now scope (name_of name.entry) }
     {
         let number = self.names.find(name)?;
         let symbol = self.symbols.get(&(scope, number))?;
@@ -47,14 +51,14 @@ impl Remembered {
     }
 
     /// The scope remembers the name with the symbol. After want of memory all is as before.
-    #[tactic(auto, using(crate::proofs::Growing::remembering))]
     pub fn put(
         &mut self,
         scope: ScopeId,
         name: Ident<'_>,
         symbol: SymbolId,
     ) -> Result<(), AllocError>
-        ensures { (n : ℕ) → AllByRecursion (λ y. y < n) self.old → symbol < n → AllByRecursion (λ y. y < n) self.new }
+        ensures ok { OnOk result (self.new ≡ put self.old scope (name_of name.entry) symbol) }
+        ensures err { OnErr result (self.new ≡ self.old) }
     {
         let number = self.names.intern(name)?;
         self.symbols.insert((scope, number), symbol)?;

@@ -1,7 +1,8 @@
 //! A way outward through scopes.
 
-ghost use Rattle.std.specs.Prelude.{◌<◌, length, IfOk, IfSome};
-ghost use Rattle.semantic.specs.Growth.{IsRoute};
+ghost use Rattle.std.specs.Prelude.{◌≡◌, ◌<◌, length, IfOk, IfSome};
+ghost use Rattle.scoping.specs.Reading.{scope_of};
+ghost use Rattle.semantic.specs.Routes.{IsRoute, IsWay, way_from};
 
 use scoping::Scoping;
 use semantic_syntax::{ScopeFlags, ScopeId};
@@ -17,7 +18,8 @@ pub struct Route {
 /// The scope around the scope.
 fn parent(scoping: &Scoping, scope: ScopeId) -> Option<ScopeId>
     requires { scope < length scoping.now.scopes }
-    ensures { IfSome result (λ s. s < length scoping.now.scopes) }
+    ensures value { result ≡ (scope_of scoping.now scope).parent }
+    ensures within { IfSome result (λ s. s < length scoping.now.scopes) }
 {
     scoping.attest();
     scoping.scope_parent_id(scope)
@@ -34,7 +36,8 @@ impl Route {
         flags: ScopeFlags,
     ) -> Result<Route, AllocError>
         requires { from < length scoping.now.scopes }
-        ensures { IfOk result (λ route. IsRoute (length scoping.now.scopes) route) }
+        ensures way { IfOk result (λ route. IsWay (way_from scoping.now from flags.bits) route) }
+        ensures within { IfOk result (λ route. IsRoute (length scoping.now.scopes) route) }
     {
         let mut passed = Vec::new(alloc);
         let mut scope = from;

@@ -1,10 +1,14 @@
 //! The flags of a scope, by the node that opens it.
 
-ghost use Rattle.std.specs.Prelude.{◌≡◌};
-ghost use Rattle.std.specs.Prelude.{codes};
-ghost use Rattle.semantic_kinds.specs.declared.kind.AstType.TheVariants.{Directive as directive};
+ghost use Rattle.std.specs.Prelude.{◌≡◌, None, codes, cond};
+ghost use Rattle.semantic_kinds.specs.Roles.{same_role};
+ghost use Rattle.semantic_kinds.specs.declared.kind.AstType.TheVariants.{Directive as directive, Function as function_kind, Program as program_kind};
+ghost use Rattle.semantic_kinds.specs.declared.role.Role.TheVariants.{Value as value_role, Root as root_role};
+ghost use Rattle.semantic_syntax.specs.declared.scope_flags.TheConstants.ScopeFlags as scope;
+ghost use Rattle.semantic_syntax.specs.Sets.{union};
+ghost use Rattle.semantic.specs.Seen.{path_of, in_role};
 ghost use Rattle.semantic_model.specs.Nodes.{is_with_text, has_use_strict as uses_strict};
-ghost use Rattle.semantic_model.specs.ScopeKind.{strict_if as strict_bits, strict_by_body as body_bits, accessor as accessor_bits, value_of};
+ghost use Rattle.semantic_model.specs.ScopeKind.{strict_if as strict_bits, strict_by_body as body_bits, accessor as accessor_bits, value_of, method_flags as method_bits, flags_of_kind};
 
 use crate::questions::reads;
 use semantic_syntax::{ScopeFlags, SourceType};
@@ -86,17 +90,40 @@ fn value_flags(parent: AstKind<'_>, function: AstKind<'_>) -> ScopeFlags
     }
 }
 
-/// The flags of a function's scope.
-fn function_flags(function: AstKind<'_>, role: Role, parent: Option<AstKind<'_>>) -> ScopeFlags {
-    let flags = ScopeFlags::Function.union(strict_by_body(function));
+/// What a function in its role is as the value of its parent.
+fn method_flags(function: AstKind<'_>, role: Role, parent: Option<AstKind<'_>>) -> ScopeFlags
+    ensures { result.bits ≡ cond (same_role role value_role) (method_bits (path_of parent.entry) function.entry.node.now) 0 }
+{
     match parent {
-        Some(parent) if role == Role::Value => flags.union(value_flags(parent, function)),
-        _ => flags,
+        Some(parent) if role == Role::Value => value_flags(parent, function),
+        _ => ScopeFlags::empty(),
     }
 }
 
+/// The flags of a function's scope.
+fn function_flags(
+    function: AstKind<'_>,
+    role: Role,
+    parent: Option<AstKind<'_>>,
+    source_type: SourceType,
+) -> ScopeFlags
+    ensures { result.bits ≡ flags_of_kind function_kind (in_role source_type role function.entry parent.entry) }
+{
+    let method = method_flags(function, role, parent);
+    ScopeFlags::Function.union(strict_by_body(function).union(method))
+}
+
+/// The flags of an arrow's scope.
+fn arrow_flags(arrow: AstKind<'_>) -> ScopeFlags
+    ensures { result.bits ≡ union scope.Function.bits (union scope.Arrow.bits (body_bits arrow.entry.node.now)) }
+{
+    ScopeFlags::Function.union(ScopeFlags::Arrow.union(strict_by_body(arrow)))
+}
+
 /// The flags of the root's scope.
-pub fn root_flags(root: AstKind<'_>, source_type: SourceType) -> ScopeFlags {
+pub fn root_flags(root: AstKind<'_>, source_type: SourceType) -> ScopeFlags
+    ensures { result.bits ≡ flags_of_kind program_kind (in_role source_type root_role root.entry None) }
+{
     ScopeFlags::Top.union(strict_if(source_type.is_strict() || has_use_strict(root)))
 }
 
@@ -107,14 +134,14 @@ pub fn flags_of(
     role: Role,
     parent: Option<AstKind<'_>>,
     source_type: SourceType,
-) -> ScopeFlags {
+) -> ScopeFlags
+    ensures { result.bits ≡ flags_of_kind kind.entry.node.now.kind (in_role source_type role kind.entry parent.entry) }
+{
     match kind.ty() {
         AstType::Program => root_flags(kind, source_type),
         AstType::Class => ScopeFlags::StrictMode,
-        AstType::Function => function_flags(kind, role, parent),
-        AstType::ArrowFunctionExpression => ScopeFlags::Function
-            .union(ScopeFlags::Arrow)
-            .union(strict_by_body(kind)),
+        AstType::Function => function_flags(kind, role, parent, source_type),
+        AstType::ArrowFunctionExpression => arrow_flags(kind),
         AstType::WithStatement => ScopeFlags::With,
         AstType::CatchClause => ScopeFlags::CatchClause,
         AstType::StaticBlock => ScopeFlags::ClassStaticBlock,

@@ -1,22 +1,25 @@
 //! References that are settled.
 
-ghost use Rattle.std.specs.Prelude.{◌≡◌, ◌<◌, length, option_copied, All};
+ghost use Rattle.std.specs.Prelude.{◌≡◌, ◌+◌, ◌<◌, ◌≤◌, length, map, drop, slice_index_or, All, IfOk, OnOk};
+ghost use Rattle.semantic_model.specs.Outcome.{source_of, header_outcome, last_outcome};
+ghost use Rattle.walk_model.specs.Settles as walked;
 ghost use Rattle.semantic.specs.Growth.{Grows};
-ghost use Rattle.semantic.specs.Settled.{IsOutcomeWithin, IsAnswerWithin};
-ghost use Rattle.semantic.specs.Waiting.{AreWaiting};
+ghost use Rattle.semantic.specs.Made.{pending_of};
+ghost use Rattle.semantic.specs.Settled.{IsOutcomeWithin, outcome_of, settled_from, no_pending};
 
 use crate::declared::Declared;
-use resolver::{Outcome, Outcomes, UnresolvedReference, UnresolvedReferences, settled};
-use semantic_syntax::{Reference, ReferenceId, SymbolId};
+use resolver::{Outcome, Outcomes, UnresolvedReference, resolve_all, resolve_header, settled};
+use semantic_syntax::{Reference, ReferenceId, ScopeId, Steps, SymbolId};
 use std::alloc::AllocError;
 
 #[tactic(auto, using(crate::proofs::Growing::growing))]
-impl Declared {
+impl<'a> Declared<'a> {
     /// Ties a reference to a symbol: it has the settled flags, and stands last in the symbol's uses.
     fn tie(&mut self, reference: ReferenceId, symbol: SymbolId) -> Result<(), AllocError>
-        requires reference { reference < length self.old.references }
-        requires symbol { symbol < length self.old.symbols }
-        ensures { Grows self.old self.new }
+        requires reference { reference < length self.old.tables.references }
+        requires symbol { symbol < length self.old.tables.symbols }
+        ensures made { OnOk result (self.new ≡ record self.old { tables = walked.tie self.old.tables reference symbol }) }
+        ensures grows { Grows self.old.tables self.new.tables }
     {
         let symbol_flags = self.scoping.symbol_flags(symbol);
         self.scoping.add_resolved_reference(symbol, reference)?;
@@ -30,6 +33,16 @@ impl Declared {
         Ok(())
     }
 
+    /// The reference stands last in the free list of its name.
+    fn set_free(&mut self, entry: &UnresolvedReference<'_>) -> Result<(), AllocError>
+        requires { entry.now.reference_id < length self.old.tables.references }
+        ensures made { OnOk result (self.new ≡ record self.old { tables = walked.set_free self.old.tables (pending_of entry.now) }) }
+        ensures grows { Grows self.old.tables self.new.tables }
+    {
+        self.scoping
+            .add_root_unresolved_reference(entry.name, entry.reference_id)
+    }
+
     /// Gives one reference its outcome: it is tied to its symbol, or stands last in the free list of its name, or
     /// waits on.
     fn settle_one(
@@ -37,51 +50,115 @@ impl Declared {
         entry: &UnresolvedReference<'_>,
         outcome: Outcome,
     ) -> Result<(), AllocError>
-        requires reference { entry.now.reference_id < length self.old.references }
-        requires outcome { IsOutcomeWithin (length self.old.symbols) (length self.old.scopes) outcome }
-        ensures { Grows self.old self.new }
+        requires reference { entry.now.reference_id < length self.old.tables.references }
+        requires outcome { IsOutcomeWithin (length self.old.tables.symbols) (length self.old.tables.scopes) outcome }
+        ensures made { OnOk result (self.new ≡ record self.old { tables = walked.settle_one self.old.tables (pending_of entry.now) (outcome_of outcome) }) }
+        ensures grows { Grows self.old.tables self.new.tables }
     {
         match outcome {
             Outcome::Tied(symbol) => self.tie(entry.reference_id, symbol),
-            Outcome::Free => self
-                .scoping
-                .add_root_unresolved_reference(entry.name, entry.reference_id),
+            Outcome::Free => self.set_free(entry),
             Outcome::Pending(_) => Ok(()),
         }
     }
 
-    /// Gives the reference at the place its outcome, if there are both.
-    fn settle_at(
-        &mut self,
-        pending: &UnresolvedReferences<'_>,
-        place: usize,
-        outcome: Option<&Outcome>,
-    ) -> Result<(), AllocError>
-        requires waiting { AreWaiting self.old pending.now }
-        requires outcome { IsAnswerWithin (length self.old.symbols) (length self.old.scopes) (option_copied outcome) }
-        ensures { Grows self.old self.new }
+    /// Gives the reference at the place its outcome.
+    fn settle_at(&mut self, place: usize, outcome: Outcome) -> Result<(), AllocError>
+        requires place { place < length self.old.waiting }
+        requires outcome { IsOutcomeWithin (length self.old.tables.symbols) (length self.old.tables.scopes) outcome }
+        ensures made { OnOk result (self.new ≡ record self.old { tables = walked.settle_one self.old.tables (slice_index_or self.old.waiting place no_pending) (outcome_of outcome) }) }
+        ensures grows { Grows self.old.tables self.new.tables }
     {
-        match (pending.get(place), outcome) {
-            (Some(entry), Some(outcome)) => self.settle_one(&entry, *outcome),
-            (_, _) => Ok(()),
+        match self.pending.get(place) {
+            Some(entry) => self.settle_one(&entry, outcome),
+            None => Ok(()),
         }
     }
 
-    /// Gives the references from the place `start` on their outcomes.
-    pub(crate) fn settle(
-        &mut self,
-        pending: &UnresolvedReferences<'_>,
-        start: usize,
-        outcomes: &Outcomes,
-    ) -> Result<(), AllocError>
-        requires waiting { AreWaiting self.old pending.now }
-        requires outcomes { All (IsOutcomeWithin (length self.old.symbols) (length self.old.scopes)) outcomes.now }
-        ensures { Grows self.old self.new }
+    /// Gives the references from the place `start` on their outcomes, in the tables.
+    fn settle_all(&mut self, start: usize, outcomes: &Outcomes) -> Result<(), AllocError>
+        requires count { start + length outcomes.now ≡ length self.old.waiting }
+        requires outcomes { All (IsOutcomeWithin (length self.old.tables.symbols) (length self.old.tables.scopes)) outcomes.now }
+        ensures made { OnOk result (self.new ≡ record self.old { tables = walked.settle self.old.tables (drop start self.old.waiting) (map outcome_of outcomes.now) }) }
+        ensures grows { Grows self.old.tables self.new.tables }
     {
-        let outcomes = outcomes.as_slice();
-        for place in start..pending.len() {
-            self.settle_at(pending, place, outcomes.get(place - start))?;
+        let items = outcomes.as_slice();
+        for place in start..self.waiting() {
+            self.settle_at(place, items[place - start])?;
         }
         Ok(())
+    }
+
+    /// Gives the references from the place `start` on their outcomes.
+    fn settle(&mut self, start: usize, outcomes: &Outcomes) -> Result<(), AllocError>
+        requires count { start + length outcomes.now ≡ length self.old.waiting }
+        requires outcomes { All (IsOutcomeWithin (length self.old.tables.symbols) (length self.old.tables.scopes)) outcomes.now }
+        ensures made { OnOk result (self.new ≡ settled_from self.old start (map outcome_of outcomes.now)) }
+        ensures grows { Grows self.old.tables self.new.tables }
+        ensures waiting { OnOk result (start ≤ length self.new.waiting) }
+    {
+        self.settle_all(start, outcomes)?;
+        self.pending.apply(start, outcomes);
+        Ok(())
+    }
+
+    /// What becomes, at the end of a header, of the references that wait from its start on.
+    fn header_outcomes<L>(
+        &self,
+        scope: ScopeId,
+        start: usize,
+        steps: &mut Steps<L>,
+    ) -> Result<Outcomes, AllocError>
+        requires scope { scope < length self.now.tables.scopes }
+        requires start { start ≤ length self.now.waiting }
+        ensures outcomes { IfOk result (λ o. map outcome_of o ≡ map (header_outcome (source_of self.now.tables) scope) (drop start self.now.waiting)) }
+        ensures within { IfOk result (λ o. All (IsOutcomeWithin (length self.now.tables.symbols) (length self.now.tables.scopes)) o) }
+        ensures count { IfOk result (λ o. start + length o ≡ length self.now.waiting) }
+    {
+        self.scoping.attest();
+        resolve_header(
+            self.alloc,
+            &self.pending,
+            start,
+            scope,
+            &self.scoping,
+            steps,
+        )
+    }
+
+    /// What becomes, in the end, of the references that wait.
+    fn last_outcomes<L>(&self, steps: &mut Steps<L>) -> Result<Outcomes, AllocError>
+        ensures outcomes { IfOk result (λ o. map outcome_of o ≡ map (last_outcome (source_of self.now.tables)) self.now.waiting) }
+        ensures within { IfOk result (λ o. All (IsOutcomeWithin (length self.now.tables.symbols) (length self.now.tables.scopes)) o) }
+        ensures count { IfOk result (λ o. length o ≡ length self.now.waiting) }
+    {
+        self.scoping.attest();
+        resolve_all(self.alloc, &self.pending, &self.scoping, steps)
+    }
+
+    /// At the end of a header the references that wait since its start are looked up as far as its scope.
+    pub(crate) fn end_header<L>(
+        &mut self,
+        scope: ScopeId,
+        start: usize,
+        steps: &mut Steps<L>,
+    ) -> Result<(), AllocError>
+        requires scope { scope < length self.old.tables.scopes }
+        requires start { start ≤ length self.old.waiting }
+        ensures made { OnOk result (self.new ≡ settled_from self.old start (map (header_outcome (source_of self.old.tables) scope) (drop start self.old.waiting))) }
+        ensures grows { Grows self.old.tables self.new.tables }
+        ensures waiting { OnOk result (start ≤ length self.new.waiting) }
+    {
+        let outcomes = self.header_outcomes(scope, start, steps)?;
+        self.settle(start, &outcomes)
+    }
+
+    /// After the walk every reference that waits is settled.
+    pub(crate) fn settle_rest<L>(&mut self, steps: &mut Steps<L>) -> Result<(), AllocError>
+        ensures made { OnOk result (self.new ≡ walked.settle_rest self.old) }
+        ensures grows { Grows self.old.tables self.new.tables }
+    {
+        let outcomes = self.last_outcomes(steps)?;
+        self.settle(0, &outcomes)
     }
 }

@@ -50,7 +50,7 @@ impl<'a> Walk<'a> {
     /// Before the first child of a node. The root's scope is open already.
     fn turn(&self, kind: AstType) -> Turn
         ensures stands { IsTurn self.now result }
-        ensures start { result.header_start ≡ self.now.waiting }
+        ensures start { result.header_start ≡ length self.now.waiting }
     {
         Turn {
             outer: self.current_scope,
@@ -60,7 +60,7 @@ impl<'a> Walk<'a> {
             } else {
                 None
             },
-            header_start: self.pending.len(),
+            header_start: self.waiting(),
         }
     }
 
@@ -92,7 +92,7 @@ impl<'a> Walk<'a> {
         ensures start { OnOk result (turn.old.header_start ≤ turn.new.header_start) }
     {
         if turn.own.is_none() && is_inside(parent.ty(), role) {
-            turn.header_start = self.pending.len();
+            turn.header_start = self.waiting();
             turn.own = Some(self.open(parent, parent_role)?);
         }
         Ok(())

@@ -1,7 +1,7 @@
 //! The walker's state, and what each step of the walk does to it.
 
-ghost use Rattle.std.specs.Prelude.{◌≡◌, ◌+◌, ◌<◌, ◌≤◌, length, IfOk, OnOk, All};
-ghost use Rattle.semantic.specs.Settled.{IsOutcomeWithin};
+ghost use Rattle.std.specs.Prelude.{◌≡◌, ◌<◌, ◌≤◌, length, IfSome, IfOk, OnOk};
+ghost use Rattle.walk_model.specs.Settles.{settle_rest};
 ghost use Rattle.semantic.specs.Growth.{Grows, Goes};
 
 use crate::binder::Binder;
@@ -9,26 +9,25 @@ use crate::cursor;
 use crate::declared::Declared;
 use crate::namesakes::Namesakes;
 use crate::questions::reads;
+use crate::route::Route;
 use crate::rows::is_statement;
 use crate::scope_kind::{flags_of, root_flags};
 use crate::semantic::{Semantic, SemanticBuilderReturn};
-use resolver::{Outcomes, UnresolvedReference, UnresolvedReferences, resolve_all, resolve_header};
-use semantic_syntax::{ReferenceFlags, ScopeId, SourceType, Steps};
+use semantic_syntax::{Ident, ReferenceFlags, ScopeFlags, ScopeId, SourceType, Steps};
 use semantic_tree::{AstKind, AstType, Mark, Program, Role};
 use std::alloc::{AllocError, Global};
 use std::marker::Model;
 
-/// The walker's state: what is declared so far, the references that wait to be settled, and where the walk
-/// stands. Contracts see the tables and how many references wait.
+/// The walker's state: what the walk has made so far, and where it stands. Contracts see what is made.
 #[derive(Drop)]
 pub struct Walk<'a> {
     pub(crate) alloc: Global,
     pub(crate) source_type: SourceType,
     /// How many nodes the program has.
     pub(crate) node_count: u32,
-    pub(crate) declared: Declared,
-    /// The references that aren't settled.
-    pub(crate) pending: UnresolvedReferences<'a>,
+    pub(crate) declared: Declared<'a>,
+    /// Past which declarations block functions don't move.
+    pub(crate) namesakes: Namesakes,
     /// The nodes from the root to the one that is visited.
     pub(crate) path: Vec<AstKind<'a>>,
     pub(crate) current_scope: ScopeId,
@@ -39,16 +38,14 @@ pub struct Walk<'a> {
 }
 
 impl<'a> Model for Walk<'a> {
-    ghost use Rattle.std.specs.Prelude.{length};
-    ghost use Rattle.semantic.specs.Growth.{Standing};
+    ghost use Rattle.std.specs.Prelude.{◌<◌, length};
+    ghost use Rattle.walk_model.specs.Standing.{Standing};
 
     ghost Value = { Standing };
 
-    ghost use Rattle.semantic.specs.Standing.{IsStanding};
+    ghost view = { λ w. w.declared };
 
-    ghost view = { λ w. record { tables = w.declared; waiting = length w.pending } };
-
-    ghost invariant = { IsStanding };
+    ghost invariant = { λ w. w.current_scope < length w.declared.tables.scopes };
 }
 
 /// Whether the node declares in its own scope, which is open then: a function or class expression, and a mapped
@@ -81,14 +78,15 @@ impl<'a> Walk<'a> {
     pub(crate) fn new(alloc: Global, program: &'a Program) -> Result<Walk<'a>, AllocError> {
         let source_type = program.source_type();
         let root = program.root();
-        let mut declared = Declared::new(alloc, Namesakes::of(alloc, program)?);
+        let namesakes = Namesakes::of(alloc, program)?;
+        let mut declared = Declared::new(alloc);
         let scope = declared.open_root(root, root_flags(root, source_type))?;
         Ok(Walk {
             alloc,
             source_type,
             node_count: program.node_count(),
             declared,
-            pending: UnresolvedReferences::new(alloc),
+            namesakes,
             path: Vec::new(alloc),
             current_scope: scope,
             cursor: ReferenceFlags::empty(),
@@ -103,12 +101,9 @@ impl<'a> Walk<'a> {
         Some(*parent)
     }
 
-    /// Whether the code where the walk stands is strict.
-    pub(crate) fn is_strict(&self) -> bool {
-        self.declared
-            .scoping()
-            .scope_flags(self.current_scope)
-            .is_strict_mode()
+    /// The flags of the scope where the walk stands.
+    pub(crate) fn scope_flags(&self) -> ScopeFlags {
+        self.declared.scoping().scope_flags(self.current_scope)
     }
 
     /// Steps to a node.
@@ -165,12 +160,7 @@ impl<'a> Walk<'a> {
         ensures { OnOk result (Goes self.old self.new) }
     {
         let way = cursor::way_of(self.cursor);
-        let id = self.declared.refer(kind, self.current_scope, way)?;
-        self.pending.push(UnresolvedReference {
-            name: kind.text(),
-            reference_id: id,
-            lookup_scope_id: self.current_scope,
-        })
+        self.declared.refer(kind, self.current_scope, way)
     }
 
     /// Makes the scope of the node in its role.
@@ -196,28 +186,50 @@ impl<'a> Walk<'a> {
         ensures within { IfOk result (λ s. s < length self.new.tables.scopes) }
     {
         let scope = self.make_scope(kind, role)?;
-        self.take_over(kind, scope)?;
+        self.take_over(kind, role, scope)?;
         self.go_to(scope);
         self.declare(kind, true)?;
         Ok(scope)
     }
 
+    /// Whether the node in its role is the body of a catch clause.
+    fn is_catch_body(&self, kind: AstKind<'a>, role: Role) -> bool {
+        let is_in_clause = match self.parent() {
+            Some(parent) => parent.ty() == AstType::CatchClause,
+            None => false,
+        };
+        kind.ty() == AstType::BlockStatement && role == Role::Body && is_in_clause
+    }
+
     /// The scope of a catch clause's body takes over what the clause binds.
-    fn take_over(&mut self, kind: AstKind<'a>, scope: ScopeId) -> Result<(), AllocError>
-        requires { scope < length self.old.tables.scopes }
+    fn take_over(&mut self, kind: AstKind<'a>, role: Role, scope: ScopeId) -> Result<(), AllocError>
+        requires scope { scope < length self.old.tables.scopes }
         ensures { OnOk result (Goes self.old self.new) }
     {
-        let clause = match self.parent() {
-            Some(parent) if parent.ty() == AstType::CatchClause => parent,
-            _ => return Ok(()),
-        };
-        match clause.child(Role::Param) {
-            Some(parameter) if kind.ty() == AstType::BlockStatement => {
-                self.declared
-                    .take_over(parameter, self.current_scope, scope)
-            }
-            _ => Ok(()),
+        let is_new = self.current_scope != scope && self.declared.binds_nothing(scope);
+        if self.is_catch_body(kind, role) && is_new {
+            return self.declared.take_over(self.current_scope, scope);
         }
+        Ok(())
+    }
+
+    /// Where a function in a block of sloppy code moves: to the nearest function, unless a namesake stands between,
+    /// wherever that is written.
+    pub(crate) fn target_of_block_function(
+        &self,
+        name: Ident<'_>,
+    ) -> Result<Option<ScopeId>, AllocError>
+        ensures { IfOk result (λ o. IfSome o (λ s. s < length self.now.tables.scopes)) }
+    {
+        let block = self.current_scope;
+        let scoping = self.declared.scoping();
+        let route = Route::outward(self.alloc, scoping, block, ScopeFlags::Var)?;
+        let target = route.target;
+        Ok(if self.namesakes.stand_on(&route, scoping, name) {
+            None
+        } else {
+            Some(target)
+        })
     }
 
     /// Closes the scope.
@@ -236,45 +248,6 @@ impl<'a> Walk<'a> {
         let _left = self.path.pop();
     }
 
-    /// What becomes, at the end of a header, of the references that wait from its start on.
-    fn header_outcomes<L>(
-        &self,
-        scope: ScopeId,
-        start: usize,
-        steps: &mut Steps<L>,
-    ) -> Result<Outcomes, AllocError>
-        requires scope { scope < length self.now.tables.scopes }
-        requires start { start ≤ self.now.waiting }
-        ensures within { IfOk result (λ o. All (IsOutcomeWithin (length self.now.tables.symbols) (length self.now.tables.scopes)) o) }
-        ensures count { IfOk result (λ o. start + length o ≡ self.now.waiting) }
-    {
-        let scoping = self.declared.scoping();
-        scoping.attest();
-        resolve_header(self.alloc, &self.pending, start, scope, scoping, steps)
-    }
-
-    /// What becomes, in the end, of the references that wait.
-    fn last_outcomes<L>(&self, steps: &mut Steps<L>) -> Result<Outcomes, AllocError>
-        ensures within { IfOk result (λ o. All (IsOutcomeWithin (length self.now.tables.symbols) (length self.now.tables.scopes)) o) }
-        ensures count { IfOk result (λ o. length o ≡ self.now.waiting) }
-    {
-        let scoping = self.declared.scoping();
-        scoping.attest();
-        resolve_all(self.alloc, &self.pending, scoping, steps)
-    }
-
-    /// Gives the references that wait from a place on their outcomes.
-    fn settle(&mut self, start: usize, outcomes: &Outcomes) -> Result<(), AllocError>
-        requires within { All (IsOutcomeWithin (length self.old.tables.symbols) (length self.old.tables.scopes)) outcomes.now }
-        requires count { start + length outcomes.now ≡ self.old.waiting }
-        ensures grows { OnOk result (Grows self.old.tables self.new.tables) }
-        ensures waiting { OnOk result (start ≤ self.new.waiting) }
-    {
-        self.declared.settle(&self.pending, start, outcomes)?;
-        self.pending.apply(start, outcomes);
-        Ok(())
-    }
-
     /// At the end of a header the references that wait since its start are looked up as far as its scope.
     pub(crate) fn end_header<L>(
         &mut self,
@@ -283,30 +256,41 @@ impl<'a> Walk<'a> {
         steps: &mut Steps<L>,
     ) -> Result<(), AllocError>
         requires scope { scope < length self.old.tables.scopes }
-        requires start { start ≤ self.old.waiting }
+        requires start { start ≤ length self.old.waiting }
         ensures grows { OnOk result (Grows self.old.tables self.new.tables) }
-        ensures waiting { OnOk result (start ≤ self.new.waiting) }
+        ensures waiting { OnOk result (start ≤ length self.new.waiting) }
     {
-        let outcomes = self.header_outcomes(scope, start, steps)?;
-        self.settle(start, &outcomes)
+        self.declared.end_header(scope, start, steps)
     }
 
     /// After the walk every reference that waits is settled.
-    pub(crate) fn end<L>(&mut self, steps: &mut Steps<L>) -> Result<(), AllocError> {
-        let outcomes = self.last_outcomes(steps)?;
-        self.settle(0, &outcomes)
+    pub(crate) fn end<L>(&mut self, steps: &mut Steps<L>) -> Result<(), AllocError>
+        ensures { OnOk result (self.new ≡ settle_rest self.old) }
+    {
+        self.declared.settle_rest(steps)
+    }
+
+    /// How many references wait.
+    pub(crate) fn waiting(&self) -> usize
+        ensures { result ≡ length self.now.waiting }
+    {
+        self.declared.waiting()
     }
 
     /// What the walk has made.
-    pub(crate) fn into_return(self, program: &'a Program) -> SemanticBuilderReturn<'a> {
+    pub(crate) fn into_return(
+        self,
+        program: &'a Program,
+    ) -> Result<SemanticBuilderReturn<'a>, AllocError> {
         let declared = self.declared;
-        SemanticBuilderReturn {
+        let diagnostics = declared.conflicts.diagnostics(declared.alloc)?;
+        Ok(SemanticBuilderReturn {
             semantic: Semantic {
                 program,
                 scoping: declared.scoping,
                 tables: declared.tables,
             },
-            diagnostics: declared.diagnostics,
-        }
+            diagnostics,
+        })
     }
 }

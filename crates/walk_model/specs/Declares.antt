@@ -60,6 +60,7 @@ redeclare w y d = record w { tables = with_symbol w.tables y (redeclared d (symb
 abbrev pub with_flags : ℕ → Symbol → Symbol
 with_flags flags y = record y { flags = record { bits = bit_or y.flags.bits flags } }
 
+-- what the symbol is grows
 abbrev pub add_flags : Standing → ℕ → ℕ → Standing
 add_flags w y flags = record w { tables = with_symbol w.tables y (with_flags flags (symbol_of w.tables y)) }
 

@@ -25,6 +25,7 @@ abbrev pub hit : Standing → List ℕ → Name → Option Hit
 hit w [] x = None
 hit w (s ∷ ss) x = hit_or s (counting w.tables (found w s x)) (hit w ss x)
 
+-- a symbol that is found may be a conflict
 abbrev pub against_found : Standing → Naming → Option ℕ → Standing
 against_found w d None = w
 against_found w d (Some y) = against w d y
@@ -68,10 +69,12 @@ abbrev pub remember_all : Standing → List ℕ → Name → ℕ → Standing
 remember_all w [] x y = w
 remember_all w (s ∷ ss) x y = remember_all (remember w s x y) ss x y
 
+-- the symbol of the passed scope moves to the target, else the name is declared there
 abbrev pub hoisted_by : Standing → ℕ → Naming → Option Hit → Standing
 hoisted_by w target d None = with_symbol_in w target d
 hoisted_by w target d (Some h) = move_symbol (redeclare w h.symbol d) h.scope target h.symbol d.name
 
+-- its symbol
 abbrev pub hoisted_symbol : Standing → ℕ → Naming → Option Hit → ℕ
 hoisted_symbol w target d None = symbol_in w target d
 hoisted_symbol w target d (Some h) = h.symbol

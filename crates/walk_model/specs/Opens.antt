@@ -5,7 +5,7 @@ use Rattle.indexmap.specs.IndexMap.{insert_entry}
 use Rattle.semantic_kinds.specs.declared.kind.AstType.TheVariants as kind
 use Rattle.semantic_syntax.specs.declared.scope_flags.TheConstants.ScopeFlags as scope
 use Rattle.semantic_syntax.specs.Sets.{meets, union}
-use Rattle.semantic_syntax.specs.Tables.{Scope}
+use Rattle.semantic_syntax.specs.Tables.{Name, Scope}
 use Rattle.scoping.specs.Reading.{scope_of}
 use Rattle.scoping.specs.Writing.{with_scope}
 use Rattle.semantic_model.specs.Nodes.{is}
@@ -25,16 +25,23 @@ add_eval w s = record w { tables = with_scope w.tables s (with_eval (scope_of w.
 abbrev pub note_eval : Standing → Place → Standing
 note_eval w p = cond (is_direct_eval p.node) (add_eval w (at p)) w
 
+-- the node is a reference in the scope, in the way
+abbrev pub with_reference_at : Standing → (node scope way : ℕ) → Standing
+with_reference_at w node s way = record w {
+  tables = record w.tables {
+    references = w.tables.references ++ record { node_id = node; scope_id = s; flags = record { bits = way }; symbol_id = None } ∷ [];
+  };
+  nodes = record w.nodes { references = insert_entry nat_eq w.nodes.references node (length w.tables.references) };
+}
+
+-- it refers to the name, and waits in the scope
+abbrev pub refer_to : Standing → (node : ℕ) → Name → (scope way : ℕ) → Standing
+refer_to w node name s way = record (with_reference_at w node s way) {
+  waiting = w.waiting ++ record { name = name; reference = length w.tables.references; lookup_scope = s } ∷ [];
+}
+
 abbrev pub refer : Standing → Place → Standing
-refer w p =
-    let r : ℕ = length w.tables.references in
-    record w {
-      tables = record w.tables {
-        references = w.tables.references ++ record { node_id = p.node.node_id; scope_id = at p; flags = record { bits = way_of p.cursor }; symbol_id = None } ∷ [];
-      };
-      nodes = record w.nodes { references = insert_entry nat_eq w.nodes.references p.node.node_id r };
-      waiting = w.waiting ++ record { name = p.node.text; reference = r; lookup_scope = at p } ∷ [];
-    }
+refer w p = refer_to w p.node.node_id p.node.text (at p) (way_of p.cursor)
 
 -- a node that is a reference is noted, and waits where it stands
 abbrev pub note_reference : Standing → Place → Standing
@@ -44,15 +51,19 @@ abbrev pub number_of : List OpenScope → Option ℕ
 number_of [] = None
 number_of (s ∷ ss) = Some s.number
 
--- the scope of the place opens
-abbrev pub open_scope : Standing → Place → OpenScope → Standing
-open_scope w p s = record w {
+-- the node opens a scope with the number and the flags, in another one or in none
+abbrev pub open_in : Standing → Option ℕ → (node number flags : ℕ) → Standing
+open_in w parent node number flags = record w {
   tables = record w.tables {
-    scopes = w.tables.scopes ++ record { parent = number_of p.chain; node = s.opener; flags = record { bits = s.flags } } ∷ [];
+    scopes = w.tables.scopes ++ record { parent = parent; node = node; flags = record { bits = flags } } ∷ [];
     bindings = w.tables.bindings ++ [] ∷ [];
   };
-  nodes = record w.nodes { scopes = insert_entry nat_eq w.nodes.scopes s.opener s.number };
+  nodes = record w.nodes { scopes = insert_entry nat_eq w.nodes.scopes node number };
 }
+
+-- the scope of the place opens
+abbrev pub open_scope : Standing → Place → OpenScope → Standing
+open_scope w p s = open_in w (number_of p.chain) s.opener s.number s.flags
 
 -- a call of `eval` in the scope is one in the scope around it, too
 abbrev pub close_scope : Standing → ℕ → Standing

@@ -1,5 +1,15 @@
-use Rattle.semantic.specs.Growth.{Grows}
+use Rattle.std.proofs.Common.{◌≡◌, map, flat_map}
+use Rattle.semantic_tree.specs.ChildIter.{left_of}
+use Rattle.semantic.specs.Growth.{Goes}
+use Rattle.semantic.specs.Named.{named_by}
+use Rattle.std.proofs.Common.{false}
+use Rattle.semantic.specs.Each.{declare_each, names_of, names_under}
 use Rattle.semantic.proofs.declared.Declared.declare_under.Given as goal
 
+-- to declare what is left is to declare all
 abbrev pub invariant-loop-part : goal.invariant-loop-part
-invariant-loop-part l = Grows l.initial.self l.self
+invariant-loop-part l = record {
+  rest : declare_each l.self l.scope (map (named_by l.node.node.now l.row false) (flat_map names_of (left_of l.part-iterator)))
+      ≡ declare_each l.initial.self l.scope (map (named_by l.node.node.now l.row false) (names_under l.fn.role l.node.node.now));
+  goes : Goes l.initial.self l.self;
+}

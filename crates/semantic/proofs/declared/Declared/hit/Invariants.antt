@@ -1,5 +1,14 @@
-use Rattle.std.proofs.Common.{◌≡◌}
+use Rattle.std.proofs.Common.{◌≡◌, drop}
+use Rattle.walk_model.specs.Hoists.{against_way, hit}
+use Rattle.semantic.specs.Growth.{Goes}
+use Rattle.semantic.specs.Named.{naming}
 use Rattle.semantic.proofs.declared.Declared.hit.Given as goal
 
+-- to ask from here on is to ask all
 abbrev pub invariant-loop-scope : goal.invariant-loop-scope
-invariant-loop-scope l = l.self ≡ l.initial.self
+invariant-loop-scope l = record {
+  items : l.scope-items ≡ l.route.passed.items;
+  noted : against_way l.self (naming l.declaration) (drop l.scope-index l.scope-items) ≡ against_way l.initial.self (naming l.declaration) l.route.passed.items;
+  asked : hit l.self (drop l.scope-index l.scope-items) (naming l.declaration).name ≡ hit l.initial.self l.route.passed.items (naming l.declaration).name;
+  goes : Goes l.initial.self l.self;
+}

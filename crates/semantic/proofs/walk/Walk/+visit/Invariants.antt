@@ -19,5 +19,5 @@ invariant-loop-child_role g l =
       left : count (forest_of l.left) ≤ count l.kind.node.now.children;
       turn : IsTurn l.self l.turn;
       goes : Goes l.initial.self l.self;
-      start : l.initial.self.waiting ≤ l.turn.header_start;
+      start : length l.initial.self.waiting ≤ l.turn.header_start;
     }

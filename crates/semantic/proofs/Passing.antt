@@ -1,0 +1,62 @@
+-- Steps of loops over scopes that are passed.
+use Rattle.std.proofs.Common.{◌≡◌, ℕ, ◌+◌, ◌<◌, ◌≤◌, List, [], ◌∷◌, length, get_or, drop, map, flat_map, ◌++◌, Option, None, Some, refl, sym}
+use Rattle.std.proofs.Math.ListN.{drop_of_length-le}
+use Rattle.std.proofs.Math.Seq.{drop-cons}
+use Rattle.std.proofs.Math.Numerals.{add-one}
+use Rattle.semantic_syntax.specs.Tables.{Name}
+use Rattle.semantic_tree.specs.declared.node.Node.{Node}
+use Rattle.std.proofs.lemmas.List.{map-append}
+use Rattle.walk_model.specs.Standing.{Standing}
+use Rattle.walk_model.specs.Naming.{Naming}
+use Rattle.walk_model.specs.Declares.{found, declare}
+use Rattle.semantic.specs.Each.{declare_each, names_of}
+use Rattle.walk_model.specs.Hoists.{counting, hit, against_found, against_way, remember, remember_all}
+
+pub drop_here : {A : Type 0} (items : List A) (i : ℕ) (here : A) → i < length items → here ≡ get_or items i here → drop i items ≡ here ∷ drop (i + 1) items
+drop_here items i here h e = rw (drop-cons items i here h, ← e, add-one) refl
+
+pub remember_turn : (w : Standing) (x : Name) (y : ℕ) (items : List ℕ) (i here : ℕ) → i < length items → here ≡ get_or items i here
+    → remember_all w (drop i items) x y ≡ remember_all (remember w here x y) (drop (i + 1) items) x y
+remember_turn w x y items i here h e = rw (drop_here items i here h e) refl
+
+pub remember_end : (w : Standing) (x : Name) (y : ℕ) (items : List ℕ) (i : ℕ) → length items ≤ i → remember_all w (drop i items) x y ≡ w
+remember_end w x y items i h = rw (drop_of_length-le items h) refl
+
+-- conflicts don't change what is hit
+hit-against : (w : Standing) (d : Naming) (o : Option ℕ) (ss : List ℕ) (x : Name) → hit (against_found w d o) ss x ≡ hit w ss x
+hit-against w d None ss x = refl
+hit-against w d (Some y) [] x = refl
+hit-against w d (Some y) (s ∷ ss) x = rw (hit-against w d (Some y) ss x) refl
+
+module _ (w : Standing) (d : Naming) (items : List ℕ) (i here : ℕ) (within : i < length items) (is : here ≡ get_or items i here) where
+  pub way_on : counting w.tables (found w here d.name) ≡ None
+      → against_way w d (drop i items) ≡ against_way (against_found w d (found w here d.name)) d (drop (i + 1) items)
+  way_on none = rw (drop_here items i here within is, none) refl
+
+  pub way_off : (y : ℕ) → counting w.tables (found w here d.name) ≡ Some y → against_way w d (drop i items) ≡ against_found w d (found w here d.name)
+  way_off y some = rw (drop_here items i here within is, some) refl
+
+  pub hit_on : counting w.tables (found w here d.name) ≡ None
+      → hit w (drop i items) d.name ≡ hit (against_found w d (found w here d.name)) (drop (i + 1) items) d.name
+  hit_on none = rw (drop_here items i here within is, none) (sym (hit-against w d (found w here d.name) (drop (i + 1) items) d.name))
+
+  pub hit_off : (y : ℕ) → counting w.tables (found w here d.name) ≡ Some y → hit w (drop i items) d.name ≡ Some (record { scope = here; symbol = y })
+  hit_off y some = rw (drop_here items i here within is, some) refl
+
+pub way_end : (w : Standing) (d : Naming) (items : List ℕ) (i : ℕ) → length items ≤ i → against_way w d (drop i items) ≡ w
+way_end w d items i h = rw (drop_of_length-le items h) refl
+
+pub hit_end : (w : Standing) (x : Name) (items : List ℕ) (i : ℕ) → length items ≤ i → hit w (drop i items) x ≡ None
+hit_end w x items i h = rw (drop_of_length-le items h) refl
+
+declare_each_append : (ds es : List Naming) (w : Standing) (s : ℕ) → declare_each w s (ds ++ es) ≡ declare_each (declare_each w s ds) s es
+declare_each_append [] es w s = refl
+declare_each_append (d ∷ ds) es w s = declare_each_append ds es (declare w s d) s
+
+-- the names of all parts that are left are those of the first, and those of the rest
+pub parts_turn : (f : Node → Naming) (w : Standing) (s : ℕ) (part : Node) (before after : List Node) → before ≡ part ∷ after
+    → declare_each w s (map f (flat_map names_of before)) ≡ declare_each (declare_each w s (map f (names_of part))) s (map f (flat_map names_of after))
+parts_turn f w s part before after is =
+    rw (is, map-append f (names_of part) (flat_map names_of after)) (declare_each_append (map f (names_of part)) (map f (flat_map names_of after)) w s)
+
+pub ruleset passing = (remember_turn, remember_end, way_end, hit_end)
