@@ -40,3 +40,4 @@ pub mod ChainWays
 pub mod Turned
 pub mod Starts
 pub mod KeptStarts
+pub mod TurnParts
