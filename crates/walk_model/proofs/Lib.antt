@@ -41,3 +41,4 @@ pub mod Turned
 pub mod Starts
 pub mod KeptStarts
 pub mod TurnParts
+pub mod RootSteps
