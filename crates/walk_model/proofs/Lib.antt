@@ -42,3 +42,4 @@ pub mod Starts
 pub mod KeptStarts
 pub mod TurnParts
 pub mod RootSteps
+pub mod NodeIds

@@ -8,7 +8,7 @@ use Rattle.semantic_model.specs.Hoist.{run}
 use Rattle.semantic_model.specs.TablesOf.{tables_of}
 use Rattle.semantic_model.specs.NodeTable.{node_tables}
 use Rattle.walk_model.specs.Standing.{Standing}
-use Rattle.walk_model.specs.Noted.{entries_of}
+use Rattle.walk_model.specs.Noted.{entries_of, pairs_of}
 
 -- what is declared: bindings, symbols, conflicts
 pub record HasDeclared (p : Tree) (w : Standing) : Type 0 where
@@ -29,3 +29,8 @@ pub record HasReferred (p : Tree) (w : Standing) : Type 0 where
   pub uses : w.tables.uses ≡ (tables_of p).uses
   pub free : w.tables.free ≡ (tables_of p).free
   pub nodes : w.nodes.references ≡ entries_of (node_tables (steps p)).references
+
+-- no node opens two scopes or is two references
+pub record NotesOnce (p : Tree) (w : Standing) : Type 0 where
+  pub scopes : w.nodes.scopes ≡ pairs_of (node_tables (steps p)).scopes
+  pub references : w.nodes.references ≡ pairs_of (node_tables (steps p)).references

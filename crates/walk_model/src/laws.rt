@@ -1,10 +1,10 @@
 //! Laws over the walk. Each holds of every program without a fault.
 ghost use Rattle.std.specs.Prelude.{◌≡◌, None};
 ghost use Rattle.semantic_tree.specs.Faults.{first_fault};
-ghost use Rattle.semantic_tree.specs.Tree.{Tree};
+ghost use Rattle.semantic_tree.specs.Tree.{Tree, IsNumbered};
 ghost use Rattle.semantic_model.specs.TablesOf.{tables_of};
 ghost use Rattle.walk_model.specs.Walks.{walked};
-ghost use Rattle.walk_model.specs.Agreement.{HasDeclared, HasOpened, HasReferred};
+ghost use Rattle.walk_model.specs.Agreement.{HasDeclared, HasOpened, HasReferred, NotesOnce};
 
 /// The walk declares what the definitions say.
 /// Its bindings, symbols and symbols without side effects are those of the program's tables, and it notes the same
@@ -29,4 +29,9 @@ pub fn walk_refers()
 /// The walk gives the tables of the program, whole.
 pub fn walk_gives_tables()
     ensures { (p : Tree) → first_fault p ≡ None → (walked p).tables ≡ tables_of p }
+{}
+
+/// In a numbered program each scope and each reference has a node of its own, and the walk notes it once.
+pub fn walk_notes_once()
+    ensures { (p : Tree) → first_fault p ≡ None → IsNumbered p.root → NotesOnce p (walked p) }
 {}
