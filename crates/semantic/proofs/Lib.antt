@@ -8,3 +8,4 @@ pub mod Unwrapping
 pub mod Waiting
 pub mod Settling
 pub mod Bridging
+pub mod Outside

@@ -1,5 +1,6 @@
 -- Outcomes that name what exists, in the words of the definitions, and what they settle.
-use Rattle.std.specs.Prelude.{ℕ, ◌<◌, List, [], ◌++◌, take, drop, Option, None, Some}
+use Rattle.std.specs.Prelude.{◌≡◌, ℕ, ◌<◌, false, List, [], ◌++◌, take, drop, Option, None, Some}
+use Rattle.std.specs.List.{AllByRecursion}
 use Rattle.resolver.specs.declared.outcomes.Outcome.{Outcome}
 use Rattle.resolver.specs.declared.outcomes.Outcome.TheVariants.{Tied, Free, Pending}
 use Rattle.semantic_model.specs.Outcome as model
@@ -32,3 +33,7 @@ settled_from w start outcomes = record w {
   tables = settle w.tables (drop start w.waiting) outcomes;
   waiting = take start w.waiting ++ staying (drop start w.waiting) outcomes;
 }
+
+-- the references wait neither in the scope nor below it
+abbrev pub AreOutside : model.Source → ℕ → List model.Pending → Type 0
+AreOutside source c es = AllByRecursion (λ e. model.is_below source c e ≡ false) es

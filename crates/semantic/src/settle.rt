@@ -1,11 +1,11 @@
 //! References that are settled.
 
-ghost use Rattle.std.specs.Prelude.{◌≡◌, ◌+◌, ◌<◌, ◌≤◌, length, map, drop, slice_index_or, All, IfOk, OnOk};
+ghost use Rattle.std.specs.Prelude.{◌≡◌, ◌+◌, ◌<◌, ◌≤◌, length, map, take, drop, slice_index_or, All, IfOk, OnOk};
 ghost use Rattle.semantic_model.specs.Outcome.{source_of, header_outcome, last_outcome};
 ghost use Rattle.walk_model.specs.Settles as walked;
 ghost use Rattle.semantic.specs.Growth.{Grows};
 ghost use Rattle.semantic.specs.Made.{pending_of};
-ghost use Rattle.semantic.specs.Settled.{IsOutcomeWithin, outcome_of, settled_from, no_pending};
+ghost use Rattle.semantic.specs.Settled.{IsOutcomeWithin, outcome_of, settled_from, no_pending, AreOutside};
 
 use crate::declared::Declared;
 use resolver::{Outcome, Outcomes, UnresolvedReference, resolve_all, resolve_header, settled};
@@ -137,6 +137,7 @@ impl<'a> Declared<'a> {
     }
 
     /// At the end of a header the references that wait since its start are looked up as far as its scope.
+    #[tactic(auto, using(crate::proofs::Growing::growing, crate::proofs::Outside::outside))]
     pub(crate) fn end_header<L>(
         &mut self,
         scope: ScopeId,
@@ -146,6 +147,7 @@ impl<'a> Declared<'a> {
         requires scope { scope < length self.old.tables.scopes }
         requires start { start ≤ length self.old.waiting }
         ensures made { OnOk result (self.new ≡ settled_from self.old start (map (header_outcome (source_of self.old.tables) scope) (drop start self.old.waiting))) }
+        ensures whole { AreOutside (source_of self.old.tables) scope (take start self.old.waiting) → OnOk result (self.new ≡ walked.end_header self.old scope) }
         ensures grows { Grows self.old.tables self.new.tables }
         ensures waiting { OnOk result (start ≤ length self.new.waiting) }
     {
