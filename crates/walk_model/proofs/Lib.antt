@@ -43,3 +43,4 @@ pub mod KeptStarts
 pub mod TurnParts
 pub mod RootSteps
 pub mod NodeIds
+pub mod Seats
