@@ -44,3 +44,4 @@ pub mod TurnParts
 pub mod RootSteps
 pub mod NodeIds
 pub mod Seats
+pub mod WalkTurns
