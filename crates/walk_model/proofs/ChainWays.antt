@@ -107,3 +107,14 @@ clause_shown t s ss h = h.0.flags flag.CatchClause.bits refl
 
 pub conditional_shown : (t : Tables) (s : OpenScope) (ss : List OpenScope) → ShowsChain t (s ∷ ss) → meets (scope_of t s.number).flags.bits flag.TsConditional.bits ≡ meets s.flags flag.TsConditional.bits
 conditional_shown t s ss h = h.0.flags flag.TsConditional.bits refl
+
+-- the same of the innermost scope of a chain
+pub flags_at : (t : Tables) (bits : ℕ) (chain : List OpenScope) → IsOther bits → ShowsChain t chain → (chain ≡ [] → ⊥) → meets (scope_of t (innermost chain).number).flags.bits bits ≡ meets (innermost chain).flags bits
+flags_at t bits [] o h f = absurd (f refl)
+flags_at t bits (s ∷ ss) o h f = h.0.flags bits o
+
+-- and of the way from there
+pub way_at : (t : Tables) (bits : ℕ) (chain : List OpenScope) → IsOther bits → ShowsChain t chain → (chain ≡ [] → ⊥)
+    → SameWay (outward_to (has bits) (map (open_row t) (reading.chain t.scopes (innermost chain).number))) (outward_to (has bits) chain)
+way_at t bits [] o h f = absurd (f refl)
+way_at t bits (s ∷ ss) o h f = way_shown t bits s ss o h

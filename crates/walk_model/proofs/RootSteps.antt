@@ -10,10 +10,12 @@ use Rattle.semantic_model.specs.Place.{Place, OpenScope}
 use Rattle.semantic_model.specs.ScopeKind.{opened_scope}
 use Rattle.semantic_model.specs.Cursor.{on_entering}
 use Rattle.semantic_model.specs.Declaration.{Declaration}
+use Rattle.semantic_model.specs.Event.{written_declarations}
 use Rattle.semantic_model.specs.Step.{entering, opening, steps_below, root_place, steps}
 use Rattle.walk_model.specs.Standing.{Standing, nothing_made}
+use Rattle.walk_model.specs.Settles.{settle_rest}
 use Rattle.walk_model.specs.Opens.{number_of, close_scope}
-use Rattle.walk_model.specs.Walks.{after, after_all}
+use Rattle.walk_model.specs.Walks.{after, after_all, walked}
 use Rattle.walk_model.proofs.ChainRows.{ShowsChain, opening_chain, after_count}
 use Rattle.walk_model.proofs.Turned.{StandsAt, node_turn}
 use Rattle.walk_model.proofs.Starts.{GoesOn, opening_goes}
@@ -70,3 +72,9 @@ root_holds ds program =
     let p : Place = root_place program in
     let g : GoesOn 0 nothing_made (root_made ds p) = opening_goes ds 0 nothing_made p (root_scope p) tt (omega arith) nothing_sound in
     record { sound = g.sound; header = record { enough = omega arith; below = tt } }
+
+-- the whole walk
+pub root_walked : (program : Tree) → program.root.kind ≡ kind.Program
+    → walked program
+    ≡ settle_rest (after_all (written_declarations (steps program)) (root_made (written_declarations (steps program)) (root_place program)) (steps_below (root_place program) (Some (root_scope (root_place program))) 1 (on_entering program.root.kind 0) program.root.children))
+root_walked program e = ap settle_rest (root_steps (written_declarations (steps program)) program e)

@@ -4,12 +4,14 @@ use Rattle.std.specs.Option.{unwrap_or}
 use Rattle.semantic_tree.specs.Forest.{Forest}
 use Rattle.semantic_tree.specs.declared.node.Node.{Node}
 use Rattle.semantic_kinds.specs.declared.role.Role.{Role}
+use Rattle.semantic_syntax.specs.declared.scope_flags.TheConstants.ScopeFlags as flag
+use Rattle.semantic_syntax.specs.Sets.{meets, union}
 use Rattle.semantic_syntax.specs.Tables.{Tables}
 use Rattle.scoping.specs.Reading.{scope_of}
 use Rattle.semantic_model.specs.Nodes.{has_role}
 use Rattle.semantic_model.specs.Place.{Place, OpenScope, at, innermost, outside}
 use Rattle.semantic_model.specs.Inside.{opens, is_inside, any_inside, header_roles, is_in_header, is_parameter_decorator}
-use Rattle.semantic_model.specs.ScopeKind.{opened_scope}
+use Rattle.semantic_model.specs.ScopeKind.{opened_scope, flags_of_kind, strict_if}
 use Rattle.semantic_model.specs.Declaration.{Declaration}
 use Rattle.semantic_model.specs.Outcome.{Outcome, header_outcome, source_of}
 use Rattle.semantic_model.specs.Step.{opening, header_ending, closing, opening_at, ending_after, opening_last, child_place, chain_within}
@@ -17,6 +19,7 @@ use Rattle.walk_model.specs.Standing.{Standing}
 use Rattle.walk_model.specs.Settles.{settle, staying, end_header}
 use Rattle.walk_model.specs.Opens.{number_of, close_scope}
 use Rattle.walk_model.specs.Walks.{after, after_all}
+use Rattle.walk_model.proofs.ChainWays.{flags_at}
 use Rattle.walk_model.proofs.ChainRows.{ShowsChain}
 use Rattle.walk_model.proofs.Starts.{settled_since}
 use Rattle.walk_model.proofs.KeptStarts.{HoldsAt}
@@ -120,3 +123,7 @@ at_within t p z h = go p.chain refl h
     go : (chain : List OpenScope) → p.chain ≡ chain → ShowsChain t chain → at p < length t.scopes
     go [] e k = rw e z
     go (s ∷ ss) e k = rw e k.0.within
+
+-- a scope that opens is strict where the row of the scope around it is
+pub opened_flags : (t : Tables) (p : Place) (n : ℕ) → ShowsChain t p.chain → (p.chain ≡ [] → ⊥) → (opened_scope p n).flags ≡ union (flags_of_kind p.node.kind p) (strict_if (meets (scope_of t (at p)).flags.bits flag.StrictMode.bits))
+opened_flags t p n h f = ap (λ b. union (flags_of_kind p.node.kind p) (strict_if b)) (sym (flags_at t flag.StrictMode.bits p.chain refl h f))

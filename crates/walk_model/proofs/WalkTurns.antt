@@ -11,11 +11,11 @@ use Rattle.semantic_model.specs.Inside.{opens, is_inside, scopes_in}
 use Rattle.semantic_model.specs.ScopeKind.{opened_scope}
 use Rattle.semantic_model.specs.Cursor.{on_entering}
 use Rattle.semantic_model.specs.Declaration.{Declaration}
-use Rattle.semantic_model.specs.Step.{entering, steps_of, opening_at, ending_after, scope_at, next_at, child_place, cursor_past, root_place}
+use Rattle.semantic_model.specs.Step.{entering, steps_below, steps_of, opening_at, ending_after, scope_at, next_at, child_place, cursor_past, root_place}
 use Rattle.walk_model.specs.Standing.{Standing}
 use Rattle.walk_model.specs.Walks.{after, after_all}
 use Rattle.walk_model.proofs.Routes.{HasVar}
-use Rattle.walk_model.proofs.Turned.{StandsAt, stands_entering, stands_opening, stands_child, stands_past, stands_ending}
+use Rattle.walk_model.proofs.Turned.{StandsAt, first_turn, stands_entering, stands_opening, stands_child, stands_past, stands_ending}
 use Rattle.walk_model.proofs.Starts.{IsSound}
 use Rattle.walk_model.proofs.KeptStarts.{HoldsAt, start_at, holds_entering, holds_opening, holds_past, holds_ending}
 use Rattle.walk_model.proofs.RootSteps.{root_scope, root_made, root_stands, root_holds}
@@ -82,6 +82,10 @@ module _ (ds : List Declaration) (w : Standing) (p : Place) (own : Option OpenSc
 
   abbrev pub next_past : ℕ
   next_past = next_here + cond (opens child.1.kind) 1 0 + scopes_in child.1.children
+
+  -- to go on from there is to do the steps of all that are left
+  pub turn_is : after_all ds w (steps_below p own n cursor (forest_of (child ∷ rest))) ≡ after_all ds ended_here (steps_below p scope_here next_past (cursor_past p child.0 cursor place_here) (forest_of rest))
+  turn_is = first_turn ds w p own n cursor child rest
 
   next_some : 0 < n → 0 < next_here
   next_some z = by own
