@@ -26,8 +26,8 @@ use Rattle.walk_model.proofs.Shapes.{HoldParts, holds_below, tree_holds}
 use Rattle.walk_model.proofs.Grounds.{IsGrounded, AllGrounded, all_grounded}
 use Rattle.walk_model.proofs.RootSteps.{root_scope}
 
-abbrev pub no_program : AstType → Role → AstType → Bool
-no_program k r k2 = not (same_kind k2 kind.Program)
+abbrev pub no_program : AstType → Role → AstType → List ℕ → Bool
+no_program k r k2 text = not (same_kind k2 kind.Program)
 
 -- no part of a node may be a program
 abbrev holds_none : List ℕ → Part → Bool
@@ -105,8 +105,8 @@ first_seated p own n cursor child rest h =
     let es : List Step = ending_after p child.0 scope (forest_of rest) in
     let ws : List Step = steps_below p scope (next + cond (opens child.1.kind) 1 0 + scopes_in child.1.children) (cursor_past p child.0 cursor place) (forest_of rest) in
     let mine : AllGrounded zs = grounded_right xs zs (grounded_left (xs ++ zs) es (grounded_left (xs ++ zs ++ es) ws h.grounded)) in
-    let free_here : no_program p.node.kind child.0 child.1.kind ≡ true = first_holds (no_program p.node.kind child.0 child.1.kind) (holds_below no_program child.1.kind child.1.children && holds_below no_program p.node.kind (forest_of rest)) h.free in
-    let free_both : (holds_below no_program child.1.kind child.1.children && holds_below no_program p.node.kind (forest_of rest)) ≡ true = second_holds (no_program p.node.kind child.0 child.1.kind) (holds_below no_program child.1.kind child.1.children && holds_below no_program p.node.kind (forest_of rest)) h.free in
+    let free_here : no_program p.node.kind child.0 child.1.kind child.1.text ≡ true = first_holds (no_program p.node.kind child.0 child.1.kind child.1.text) (holds_below no_program child.1.kind child.1.children && holds_below no_program p.node.kind (forest_of rest)) h.free in
+    let free_both : (holds_below no_program child.1.kind child.1.children && holds_below no_program p.node.kind (forest_of rest)) ≡ true = second_holds (no_program p.node.kind child.0 child.1.kind child.1.text) (holds_below no_program child.1.kind child.1.children && holds_below no_program p.node.kind (forest_of rest)) h.free in
     record {
       here = record {
         var = grounded_var place (not_program child.1.kind free_here) mine.0;
