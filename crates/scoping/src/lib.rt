@@ -25,3 +25,8 @@ pub use semantic_syntax::Redeclaration;
 pub use source::BindingSource;
 pub use symbol_iterators::{Declarations, SymbolIds, SymbolNames};
 pub use unresolved::{FreeLists, UnresolvedIter, UnresolvedReferences};
+
+#[cfg(test)]
+mod edits;
+#[cfg(test)]
+mod tests;
