@@ -63,6 +63,17 @@ chain_below t (suc rounds) s c f l =
     further None h below = refl
     further (Some p) h below = below p (omega (arith, h, l))
 
+outside_below : (t : Tables) (c : ℕ) (e : Pending) → ParentsFall t.scopes → WaitsBelow c e → is_below (source_of t) c e ≡ false
+outside_below t c e f l = chain_below t (length t.scopes) e.lookup_scope c f l
+
+all_outside : (t : Tables) (c : ℕ) (es : List Pending) → ParentsFall t.scopes → AllByRecursion (WaitsBelow c) es → AllByRecursion (λ e. is_below (source_of t) c e ≡ false) es
+all_outside t c [] f h = tt
+all_outside t c (e ∷ es) f h = (outside_below t c e f h.0, all_outside t c es f h.1)
+
+-- the first ones wait neither in the scope nor below it
+pub first_outside : (w : Standing) (c start : ℕ) → IsSound w → FirstBelow c start w → AllByRecursion (λ e. is_below (source_of w.tables) c e ≡ false) (take start w.waiting)
+first_outside w c start s h = all_outside w.tables c (take start w.waiting) s.falls h.below
+
 -- so what waits there stays
 pub outcome_stays : (t : Tables) (c : ℕ) (e : Pending) → ParentsFall t.scopes → WaitsBelow c e → header_outcome (source_of t) c e ≡ waits e.lookup_scope
 outcome_stays t c e f l = rw (chain_below t (length t.scopes) e.lookup_scope c f l) refl

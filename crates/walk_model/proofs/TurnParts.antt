@@ -1,6 +1,8 @@
 -- What the steps before and behind a child do: a scope opens, a header ends, a scope closes, or nothing happens.
 use Rattle.std.proofs.Common.{◌≡◌, ℕ, ◌<◌, List, [], ◌∷◌, ◌++◌, Option, Some, None, Bool, true, false, cond, ◌&&◌, not, refl, sym, ap, ◌∙◌, length, map, take, drop}
+use Rattle.std.specs.Prelude.{nat_eq}
 use Rattle.std.specs.Option.{unwrap_or}
+use Rattle.indexmap.specs.IndexMap.{insert_entry}
 use Rattle.semantic_tree.specs.Forest.{Forest}
 use Rattle.semantic_tree.specs.declared.node.Node.{Node}
 use Rattle.semantic_kinds.specs.declared.role.Role.{Role}
@@ -17,7 +19,7 @@ use Rattle.semantic_model.specs.Outcome.{Outcome, header_outcome, source_of}
 use Rattle.semantic_model.specs.Step.{opening, header_ending, closing, opening_at, ending_after, opening_last, child_place, chain_within}
 use Rattle.walk_model.specs.Standing.{Standing}
 use Rattle.walk_model.specs.Settles.{settle, staying, end_header}
-use Rattle.walk_model.specs.Opens.{number_of, close_scope}
+use Rattle.walk_model.specs.Opens.{number_of, open_scope, close_scope}
 use Rattle.walk_model.specs.Walks.{after, after_all}
 use Rattle.walk_model.proofs.ChainWays.{flags_at}
 use Rattle.walk_model.proofs.ChainRows.{ShowsChain}
@@ -127,3 +129,25 @@ at_within t p z h = go p.chain refl h
 -- a scope that opens is strict where the row of the scope around it is
 pub opened_flags : (t : Tables) (p : Place) (n : ℕ) → ShowsChain t p.chain → (p.chain ≡ [] → ⊥) → (opened_scope p n).flags ≡ union (flags_of_kind p.node.kind p) (strict_if (meets (scope_of t (at p)).flags.bits flag.StrictMode.bits))
 opened_flags t p n h f = ap (λ b. union (flags_of_kind p.node.kind p) (strict_if b)) (sym (flags_at t flag.StrictMode.bits p.chain refl h f))
+
+-- so a scope opens in the innermost one, by its row
+pub opened_as : (w : Standing) (p : Place) (n : ℕ) → n ≡ length w.tables.scopes → ShowsChain w.tables p.chain → (p.chain ≡ [] → ⊥)
+    → ◌≡◌ {A = Standing} (open_scope w p (opened_scope p n))
+    (record w {
+      tables = record w.tables {
+        scopes = w.tables.scopes ++ record {
+          parent = Some (at p);
+          node = p.node.node_id;
+          flags = record { bits = union (flags_of_kind p.node.kind p) (strict_if (meets (scope_of w.tables (at p)).flags.bits flag.StrictMode.bits)) };
+        } ∷ [];
+        bindings = w.tables.bindings ++ [] ∷ [];
+      };
+      nodes = record w.nodes { scopes = insert_entry nat_eq w.nodes.scopes p.node.node_id (length w.tables.scopes) };
+    })
+opened_as w p n e h f = λ i. record w {
+  tables = record w.tables {
+    scopes = w.tables.scopes ++ record { parent = opens_within p.chain f i; node = p.node.node_id; flags = record { bits = opened_flags w.tables p n h f i } } ∷ [];
+    bindings = w.tables.bindings ++ [] ∷ [];
+  };
+  nodes = record w.nodes { scopes = insert_entry nat_eq w.nodes.scopes p.node.node_id (e i) };
+}

@@ -1,13 +1,15 @@
 -- What a recursion over a program's tree knows, before a node, and between its children.
-use Rattle.std.proofs.Common.{◌≡◌, ℕ, suc, ◌+◌, ◌<◌, ◌≤◌, List, ◌∷◌, Option, Some, None, Bool, true, false, cond, length, arith}
+use Rattle.std.proofs.Common.{◌≡◌, ℕ, suc, ◌+◌, ◌<◌, ◌≤◌, List, ◌∷◌, Option, Some, None, Bool, true, false, cond, length, arith, refl, sym, ◌∙◌}
+use Rattle.std.specs.Option.{unwrap_or}
 use Rattle.semantic_kinds.specs.declared.role.Role.{Role}
+use Rattle.scoping.specs.Reading.{scope_of}
 use Rattle.semantic_tree.specs.Forest.{Forest}
 use Rattle.semantic_tree.specs.Children.{forest_of}
 use Rattle.semantic_tree.specs.Tree.{Tree}
 use Rattle.semantic_tree.specs.Faults.{first_fault}
 use Rattle.semantic_tree.specs.declared.node.Node.{Node}
-use Rattle.semantic_model.specs.Place.{Place, OpenScope}
-use Rattle.semantic_model.specs.Inside.{opens, is_inside, scopes_in}
+use Rattle.semantic_model.specs.Place.{Place, OpenScope, at, innermost, outside}
+use Rattle.semantic_model.specs.Inside.{opens, is_inside, is_parameter_decorator, scopes_in}
 use Rattle.semantic_model.specs.ScopeKind.{opened_scope}
 use Rattle.semantic_model.specs.Cursor.{on_entering}
 use Rattle.semantic_model.specs.Declaration.{Declaration}
@@ -18,8 +20,9 @@ use Rattle.walk_model.proofs.Routes.{HasVar}
 use Rattle.walk_model.proofs.Turned.{StandsAt, first_turn, stands_entering, stands_opening, stands_child, stands_past, stands_ending}
 use Rattle.walk_model.proofs.Starts.{IsSound}
 use Rattle.walk_model.proofs.KeptStarts.{HoldsAt, start_at, holds_entering, holds_opening, holds_past, holds_ending}
+use Rattle.walk_model.proofs.TurnParts.{within_at, child_at, around_at}
 use Rattle.walk_model.proofs.RootSteps.{root_scope, root_made, root_stands, root_holds}
-use Rattle.walk_model.proofs.Seats.{IsSeated, IsSeat, FirstSeated, first_seated, root_seated}
+use Rattle.walk_model.proofs.Seats.{IsSeated, IsSeat, decorated_within, FirstSeated, first_seated, root_seated}
 
 -- before a node below the root
 pub record IsReady (w : Standing) (p : Place) (n : ℕ) : Type 0 where
@@ -138,3 +141,16 @@ module _ (ds : List Declaration) (w : Standing) (p : Place) (own : Option OpenSc
         seated = first.later;
         inside = inside_on own h.inside;
       }
+
+  -- where the child stands, by the rows
+  pub child_stands_at : IsBetween w p own n cursor start (forest_of (child ∷ rest))
+      → at place_here ≡ cond (is_parameter_decorator p.node.kind child.0) (unwrap_or (scope_of opened_here.tables (at p)).parent (at p)) (within_at p child.0 scope_here)
+  child_stands_at h =
+      let ready : IsReady opened_here place_here next_here = child_ready h in
+      let stands : StandsAt opened_here p scope_here next_here = opened_stands h in
+      child_at p scope_here cursor child.0 child.1 ∙ by (is_parameter_decorator p.node.kind child.0) refl stands ready.seat.var
+    where
+      by : (b : Bool) → is_parameter_decorator p.node.kind child.0 ≡ b → StandsAt opened_here p scope_here next_here → HasVar place_here.chain
+          → cond b (innermost (outside p.chain)).number (within_at p child.0 scope_here) ≡ cond b (unwrap_or (scope_of opened_here.tables (at p)).parent (at p)) (within_at p child.0 scope_here)
+      by true e s v = sym (around_at opened_here.tables p.chain s.chain (decorated_within p scope_here cursor child.0 child.1 e v))
+      by false e s v = refl
