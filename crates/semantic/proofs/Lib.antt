@@ -1,3 +1,9 @@
+pub mod Nested
+pub mod Marks
+pub mod Closing
+pub mod Descending
+pub mod Adding
+pub mod Entered
 pub mod Outcomes
 pub mod Simple
 pub mod Numbered

@@ -1,3 +1,8 @@
+pub mod Chains
+pub mod InstanceStates
+pub mod Rounds
+pub mod WrittenNames
+pub mod Descents
 pub mod Settled
 pub mod Growth
 pub mod Waiting

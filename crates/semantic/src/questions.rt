@@ -3,6 +3,8 @@
 ghost use Rattle.std.specs.Prelude.{◌≡◌, true};
 ghost use Rattle.std.specs.Str.{bytes_eq};
 ghost use Rattle.semantic_kinds.specs.Classes.{is_ascii_text};
+ghost use Rattle.semantic_tree.specs.declared.node.Node.{Node};
+ghost use Rattle.semantic_model.specs.Namespace.{is_list};
 
 use semantic_kinds::class::is_word;
 use semantic_tree::{AstKind, AstType};
@@ -16,7 +18,9 @@ pub fn reads(kind: AstKind<'_>, word: &str) -> bool
 }
 
 /// Whether a node of the kind is a list of statements.
-pub fn is_statement_list(kind: AstType) -> bool {
+pub fn is_statement_list(kind: AstType) -> bool
+    ensures { (node : Node) → node.kind ≡ kind → result ≡ is_list node }
+{
     matches!(
         kind,
         AstType::TSModuleBlock | AstType::BlockStatement | AstType::Program

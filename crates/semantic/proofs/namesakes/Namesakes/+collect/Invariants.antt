@@ -1,5 +1,16 @@
+use Rattle.std.proofs.Common.{◌≡◌, drop}
 use Rattle.semantic_tree.specs.Forest.{count}
+use Rattle.semantic_tree.specs.Children.{forest_of}
+use Rattle.semantic.specs.WrittenNames.{written_below}
+use Rattle.semantic.proofs.Adding.{Rests}
 use Rattle.semantic.proofs.namesakes.Namesakes.+collect.Given as goal
+
+-- with what is written in the children that are left, all below the node is added
+abbrev pub invariant-loop-role : goal.invariant-loop-role
+invariant-loop-role l = record {
+  items : forest_of l.role-items ≡ l.kind.node.now.children;
+  rest : Rests l.self (written_below l.kind.node.now l.openers (forest_of (drop l.role-index l.role-items))) l.initial.self (written_below l.kind.node.now l.openers l.kind.node.now.children);
+}
 
 -- how many nodes are below
 abbrev pub decreases-collect : goal.decreases-collect
