@@ -45,3 +45,4 @@ pub mod RootSteps
 pub mod NodeIds
 pub mod Seats
 pub mod WalkTurns
+pub mod RowsActed
