@@ -11,6 +11,7 @@ pub mod Ways
 pub mod Passing
 pub mod Growing
 pub mod Unwrapping
+pub mod Parents
 pub mod Waiting
 pub mod Settling
 pub mod Bridging

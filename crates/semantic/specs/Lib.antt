@@ -9,6 +9,8 @@ pub mod Waiting
 pub mod Turns
 pub mod Seen
 pub mod Made
+pub mod Walker
+pub mod Binds
 pub mod Hits
 pub mod Routes
 pub mod Each

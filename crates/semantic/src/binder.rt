@@ -1,6 +1,12 @@
 //! What each node declares, and where.
 
-ghost use Rattle.std.specs.Prelude.{OnOk};
+ghost use Rattle.std.specs.Prelude.{◌≡◌, false, map, OnOk};
+ghost use Rattle.semantic_kinds.specs.declared.role.Role.TheVariants.{Pattern as pattern_role, Id as id_role};
+ghost use Rattle.semantic_syntax.specs.declared.scope_flags.TheConstants.ScopeFlags as scope;
+ghost use Rattle.semantic_tree.specs.Views.{all_in};
+ghost use Rattle.semantic.specs.Named.{named_by};
+ghost use Rattle.semantic.specs.Each.{names_of, names_under, declare_patterns, declare_members};
+ghost use Rattle.semantic.specs.Binds.{declaring, hoisting};
 ghost use Rattle.semantic.specs.Growth.{Goes};
 
 use crate::declaration::Row;
@@ -17,7 +23,7 @@ pub trait Binder<'a> {
     /// Declares what the node declares, by its binder row, in the scope where the walk stands. For want of memory
     /// the walk is given up.
     fn bind(&self, walk: &mut Walk<'a>) -> Result<(), AllocError>
-        ensures { OnOk result (Goes walk.old walk.new) };
+        ensures { OnOk result (Goes walk.old.made walk.new.made) };
 }
 
 impl<'a> Binder<'a> for AstKind<'a> {
@@ -50,7 +56,8 @@ impl<'a> Binder<'a> for AstKind<'a> {
 impl<'a> Walk<'a> {
     /// Declares all that the node binds, in the current scope.
     fn bind_all(&mut self, node: AstKind<'a>, row: Row) -> Result<(), AllocError>
-        ensures { OnOk result (Goes self.old self.new) }
+        ensures made { OnOk result (self.new ≡ declaring self.old (map (named_by node.entry.node.now row false) (names_of node.entry.node.now))) }
+        ensures goes { OnOk result (Goes self.old.made self.new.made) }
     {
         self.declared
             .declare_names(node, node, self.current_scope, row, false)
@@ -58,7 +65,8 @@ impl<'a> Walk<'a> {
 
     /// Declares the names under one role of the node, in the current scope.
     fn bind_at(&mut self, node: AstKind<'a>, role: Role, row: Row) -> Result<(), AllocError>
-        ensures { OnOk result (Goes self.old self.new) }
+        ensures made { OnOk result (self.new ≡ declaring self.old (map (named_by node.entry.node.now row false) (names_under role node.entry.node.now))) }
+        ensures goes { OnOk result (Goes self.old.made self.new.made) }
     {
         self.declared
             .declare_under(node, role, self.current_scope, row)
@@ -66,7 +74,7 @@ impl<'a> Walk<'a> {
 
     /// A declarator: a `var` goes out to the nearest function, the other kinds stay.
     fn bind_variables(&mut self, declarator: AstKind<'a>) -> Result<(), AllocError>
-        ensures { OnOk result (Goes self.old self.new) }
+        ensures { OnOk result (Goes self.old.made self.new.made) }
     {
         let is_pure = rows::is_pure_declarator(declarator);
         match self.parent() {
@@ -91,7 +99,8 @@ impl<'a> Walk<'a> {
         row: Row,
         is_pure: bool,
     ) -> Result<(), AllocError>
-        ensures { OnOk result (Goes self.old self.new) }
+        ensures made { OnOk result (self.new ≡ hoisting self.old scope.Var.bits (map (named_by declarator.entry.node.now row is_pure) (names_of declarator.entry.node.now))) }
+        ensures goes { OnOk result (Goes self.old.made self.new.made) }
     {
         let route = Route::outward(
             self.alloc,
@@ -104,7 +113,7 @@ impl<'a> Walk<'a> {
 
     /// A function: a plain one in a block of sloppy JavaScript may move out of its block.
     fn bind_function(&mut self, function: AstKind<'a>) -> Result<(), AllocError>
-        ensures { OnOk result (Goes self.old self.new) }
+        ensures { OnOk result (Goes self.old.made self.new.made) }
     {
         let flags = self.scope_flags();
         let row = rows::function_row(function, self.parent(), self.source_type, flags);
@@ -126,7 +135,7 @@ impl<'a> Walk<'a> {
         row: Row,
         is_pure: bool,
     ) -> Result<(), AllocError>
-        ensures { OnOk result (Goes self.old self.new) }
+        ensures { OnOk result (Goes self.old.made self.new.made) }
     {
         for name in function.bound_names() {
             self.bind_block_name(function, name, row, is_pure)?;
@@ -142,7 +151,7 @@ impl<'a> Walk<'a> {
         row: Row,
         is_pure: bool,
     ) -> Result<(), AllocError>
-        ensures { OnOk result (Goes self.old self.new) }
+        ensures { OnOk result (Goes self.old.made self.new.made) }
     {
         let target = self.target_of_block_function(name.text())?;
         self.declared
@@ -151,7 +160,7 @@ impl<'a> Walk<'a> {
 
     /// A parameter of a list.
     fn bind_parameter(&mut self, parameter: AstKind<'a>) -> Result<(), AllocError>
-        ensures { OnOk result (Goes self.old self.new) }
+        ensures { OnOk result (Goes self.old.made self.new.made) }
     {
         match self.parent() {
             Some(list) => self.bind_all(parameter, rows::parameter_row(list, self.scope_flags())),
@@ -161,7 +170,7 @@ impl<'a> Walk<'a> {
 
     /// A rest element directly in a list of parameters.
     fn bind_rest(&mut self, rest: AstKind<'a>) -> Result<(), AllocError>
-        ensures { OnOk result (Goes self.old self.new) }
+        ensures { OnOk result (Goes self.old.made self.new.made) }
     {
         match self.parent() {
             Some(list) if list.ty() == AstType::FormalParameters => {
@@ -173,7 +182,8 @@ impl<'a> Walk<'a> {
 
     /// What a catch clause catches.
     fn bind_caught(&mut self, parameter: AstKind<'a>) -> Result<(), AllocError>
-        ensures { OnOk result (Goes self.old self.new) }
+        ensures made { OnOk result (self.new ≡ record self.old { made = declare_patterns self.old.made self.old.current parameter.entry.node.now (all_in pattern_role parameter.entry.node.now) }) }
+        ensures goes { OnOk result (Goes self.old.made self.new.made) }
     {
         self.declared
             .declare_catch_names(parameter, self.current_scope)
@@ -181,7 +191,7 @@ impl<'a> Walk<'a> {
 
     /// An imported name.
     fn bind_import(&mut self, specifier: AstKind<'a>) -> Result<(), AllocError>
-        ensures { OnOk result (Goes self.old self.new) }
+        ensures { OnOk result (Goes self.old.made self.new.made) }
     {
         let row = rows::import_row(specifier, self.parent());
         self.bind_at(specifier, Role::Local, row)
@@ -189,14 +199,15 @@ impl<'a> Walk<'a> {
 
     /// A member of an enum.
     fn bind_member(&mut self, member: AstKind<'a>) -> Result<(), AllocError>
-        ensures { OnOk result (Goes self.old self.new) }
+        ensures made { OnOk result (self.new ≡ record self.old { made = declare_members self.old.made self.old.current member.entry.node.now (all_in id_role member.entry.node.now) }) }
+        ensures goes { OnOk result (Goes self.old.made self.new.made) }
     {
         self.declared.declare_member(member, self.current_scope)
     }
 
     /// A namespace: one that is nothing but types is no value.
     fn bind_namespace(&mut self, namespace: AstKind<'a>) -> Result<(), AllocError>
-        ensures { OnOk result (Goes self.old self.new) }
+        ensures { OnOk result (Goes self.old.made self.new.made) }
     {
         let path = self.path.as_slice();
         let state = instance_state(self.alloc, namespace, path, self.node_count)?;
@@ -205,7 +216,7 @@ impl<'a> Walk<'a> {
 
     /// A type parameter. What `infer` declares goes out to the conditional type.
     fn bind_type_parameter(&mut self, parameter: AstKind<'a>) -> Result<(), AllocError>
-        ensures { OnOk result (Goes self.old self.new) }
+        ensures { OnOk result (Goes self.old.made self.new.made) }
     {
         match self.parent() {
             Some(parent) if parent.ty() == AstType::TSInferType => {

@@ -89,7 +89,7 @@ impl<'a> Declared<'a> {
     /// Whether the scope binds nothing.
     pub(crate) fn binds_nothing(&self, scope: ScopeId) -> bool
         requires { scope < length self.now.tables.scopes }
-        ensures { result ≡ true → bindings_of self.now.tables scope ≡ [] }
+        ensures { (result ≡ true → bindings_of self.now.tables scope ≡ []) × (bindings_of self.now.tables scope ≡ [] → result ≡ true) }
     {
         self.scoping.get_bindings(scope).is_empty()
     }

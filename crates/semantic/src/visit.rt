@@ -1,8 +1,13 @@
 //! The recursion over the tree.
 
 ghost use Rattle.std.specs.Prelude.{◌≡◌, ◌<◌, ◌≤◌, length, IfOk, OnOk};
+ghost use Rattle.semantic_tree.specs.Children.{forest_of};
+ghost use Rattle.semantic_model.specs.Nodes.{has_role};
+ghost use Rattle.semantic_model.specs.Inside.{any_inside, header_roles};
+ghost use Rattle.semantic_model.specs.Ambient.{ambient_inside, ambient_round};
+ghost use Rattle.semantic_model.specs.Cursor.{cursor_before, cursor_behind};
 ghost use Rattle.semantic.specs.Growth.{Grows, Goes};
-ghost use Rattle.semantic.specs.Turns.{IsTurn};
+ghost use Rattle.semantic.specs.Turns.{IsTurn, child_scope};
 
 use crate::ambient::{is_ambient_in_child, is_ambient_inside};
 use crate::cursor::{before_child, behind_child};
@@ -26,7 +31,9 @@ pub struct Turn {
 }
 
 /// Whether one of the children stands inside the scope of a parent of the kind.
-fn any_inside(parent: AstType, children: &[(Role, Node)]) -> bool {
+fn any_inside(parent: AstType, children: &[(Role, Node)]) -> bool
+    ensures { result ≡ any_inside parent (forest_of children.now) }
+{
     for (role, _) in children {
         if is_inside(parent, *role) {
             return true;
@@ -36,7 +43,9 @@ fn any_inside(parent: AstType, children: &[(Role, Node)]) -> bool {
 }
 
 /// Whether one of the children is a part of the header of a parent of the kind.
-fn any_in_header(parent: AstType, children: &[(Role, Node)]) -> bool {
+fn any_in_header(parent: AstType, children: &[(Role, Node)]) -> bool
+    ensures { result ≡ has_role (header_roles parent) (forest_of children.now) }
+{
     for (role, _) in children {
         if is_in_header(parent, *role) {
             return true;
@@ -49,8 +58,8 @@ fn any_in_header(parent: AstType, children: &[(Role, Node)]) -> bool {
 impl<'a> Walk<'a> {
     /// Before the first child of a node. The root's scope is open already.
     fn turn(&self, kind: AstType) -> Turn
-        ensures stands { IsTurn self.now result }
-        ensures start { result.header_start ≡ length self.now.waiting }
+        ensures stands { IsTurn self.now.made result }
+        ensures start { result.header_start ≡ length self.now.made.waiting }
     {
         Turn {
             outer: self.current_scope,
@@ -66,8 +75,9 @@ impl<'a> Walk<'a> {
 
     /// The scope where a child in the role stands.
     fn scope_of_child(&self, turn: &Turn, parent: AstType, role: Role) -> ScopeId
-        requires { IsTurn self.now turn.now }
-        ensures { result < length self.now.tables.scopes }
+        requires { IsTurn self.now.made turn.now }
+        ensures value { result ≡ child_scope self.now.made.tables turn.now parent role }
+        ensures within { result < length self.now.made.tables.scopes }
     {
         if is_parameter_decorator(parent, role) {
             return self.declared.around(turn.outer);
@@ -86,9 +96,9 @@ impl<'a> Walk<'a> {
         turn: &mut Turn,
         role: Role,
     ) -> Result<(), AllocError>
-        requires { IsTurn self.old turn.old }
-        ensures goes { OnOk result (Goes self.old self.new) }
-        ensures stands { OnOk result (IsTurn self.new turn.new) }
+        requires { IsTurn self.old.made turn.old }
+        ensures goes { OnOk result (Goes self.old.made self.new.made) }
+        ensures stands { OnOk result (IsTurn self.new.made turn.new) }
         ensures start { OnOk result (turn.old.header_start ≤ turn.new.header_start) }
     {
         if turn.own.is_none() && is_inside(parent.ty(), role) {
@@ -100,8 +110,13 @@ impl<'a> Walk<'a> {
 
     /// Comes to a child: scope, ambience and cursor are the child's.
     fn come_to(&mut self, parent: AstKind<'a>, turn: &Turn, role: Role, child: AstKind<'a>)
-        requires { IsTurn self.old turn.now }
-        ensures { Goes self.old self.new }
+        requires { IsTurn self.old.made turn.now }
+        ensures made { self.new ≡ record self.old {
+          current = child_scope self.old.made.tables turn.now parent.entry.node.now.kind role;
+          cursor = cursor_before parent.entry.node.now (ambient_inside parent.entry.node.now turn.now.is_ambient) role child.entry.node.now self.old.cursor;
+          is_ambient = ambient_round parent.entry.node.now turn.now.is_ambient role;
+        } }
+        ensures goes { Goes self.old.made self.new.made }
     {
         let inside = is_ambient_inside(parent.node(), turn.is_ambient);
         self.current_scope = self.scope_of_child(turn, parent.ty(), role);
@@ -111,8 +126,9 @@ impl<'a> Walk<'a> {
 
     /// Comes back from a child: scope and ambience are the node's again.
     fn come_back(&mut self, turn: &Turn)
-        requires { IsTurn self.old turn.now }
-        ensures { Goes self.old self.new }
+        requires { IsTurn self.old.made turn.now }
+        ensures made { self.new ≡ record self.old { current = turn.now.outer; is_ambient = turn.now.is_ambient } }
+        ensures goes { Goes self.old.made self.new.made }
     {
         self.current_scope = turn.outer;
         self.is_ambient = turn.is_ambient;
@@ -127,9 +143,9 @@ impl<'a> Walk<'a> {
         rest: &[(Role, Node)],
         steps: &mut Steps<L>,
     ) -> Result<(), AllocError>
-        requires { IsTurn self.old turn.now }
-        ensures grows { OnOk result (Grows self.old.tables self.new.tables) }
-        ensures stands { OnOk result (IsTurn self.new turn.now) }
+        requires { IsTurn self.old.made turn.now }
+        ensures grows { OnOk result (Grows self.old.made.tables self.new.made.tables) }
+        ensures stands { OnOk result (IsTurn self.new.made turn.now) }
     {
         if let Some(own) = turn.own {
             if is_in_header(parent, role) && !any_in_header(parent, rest) {
@@ -144,8 +160,8 @@ impl<'a> Walk<'a> {
 
     /// A scope without any child inside opens, and closes at once, behind all children.
     fn open_last(&mut self, kind: AstKind<'a>, role: Role, turn: &Turn) -> Result<(), AllocError>
-        requires { IsTurn self.old turn.now }
-        ensures { OnOk result (Goes self.old self.new) }
+        requires { IsTurn self.old.made turn.now }
+        ensures { OnOk result (Goes self.old.made self.new.made) }
     {
         if turn.own.is_none() && opens(kind.ty()) {
             let own = self.open(kind, role)?;
@@ -156,13 +172,16 @@ impl<'a> Walk<'a> {
     }
 
     /// The cursor of the walk.
-    fn cursor(&self) -> ReferenceFlags {
+    fn cursor(&self) -> ReferenceFlags
+        ensures { result.bits ≡ self.now.cursor }
+    {
         self.cursor
     }
 
     /// Behind a child the cursor may be what it was before, or empty.
     fn turn_cursor(&mut self, parent: AstType, role: Role, before: ReferenceFlags)
-        ensures { Goes self.old self.new }
+        ensures made { self.new ≡ record self.old { cursor = cursor_behind parent role before.bits self.old.cursor } }
+        ensures goes { Goes self.old.made self.new.made }
     {
         self.cursor = behind_child(parent, role, before, self.cursor);
     }
@@ -175,7 +194,7 @@ impl<'a> Walk<'a> {
         role: Role,
         steps: &mut Steps<L>,
     ) -> Result<(), AllocError>
-        ensures { OnOk result (Goes self.old self.new) }
+        ensures { OnOk result (Goes self.old.made self.new.made) }
     {
         self.enter(kind)?;
         let mut turn = self.turn(kind.ty());

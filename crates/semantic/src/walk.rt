@@ -1,7 +1,22 @@
 //! The walker's state, and what each step of the walk does to it.
 
-ghost use Rattle.std.specs.Prelude.{◌≡◌, ◌<◌, ◌≤◌, length, IfSome, IfOk, OnOk};
+ghost use Rattle.std.specs.Prelude.{◌≡◌, ◌==◌, ◌&&◌, ◌<◌, ◌≤◌, ◌-◌, [], ◌∷◌, ◌++◌, true, false, codes, cond, length, map, take, drop, IfSome, IfOk, OnOk};
+ghost use Rattle.semantic_kinds.specs.declared.kind.AstType.TheVariants.{IdentifierReference as identifier_reference, CatchClause as catch_clause};
+ghost use Rattle.scoping.specs.Reading.{bindings_of, scope_of};
+ghost use Rattle.semantic_kinds.specs.declared.role.Role.TheVariants.{Callee as callee_role};
+ghost use Rattle.semantic_model.specs.Inner.{inner_expression};
+ghost use Rattle.semantic_model.specs.Nodes.{is, holds, child_of, reads as reads_word};
+ghost use Rattle.semantic_model.specs.Place.{Place, OpenScope, parent_holds};
+ghost use Rattle.semantic_model.specs.Cursor.{on_entering, on_leaving};
+ghost use Rattle.semantic_model.specs.Binder.{declared_on_entering, declared_on_opening};
+ghost use Rattle.semantic_model.specs.Event.{is_catch_body};
+ghost use Rattle.semantic_model.specs.TablesOf.{is_direct_eval};
+ghost use Rattle.semantic_model.specs.Outcome.{source_of, header_outcome};
 ghost use Rattle.walk_model.specs.Settles.{settle_rest};
+ghost use Rattle.walk_model.specs.Opens.{add_eval, close_scope};
+ghost use Rattle.semantic.specs.Settled.{settled_from};
+ghost use Rattle.semantic.specs.Seen.{path_of};
+ghost use Rattle.semantic.specs.Walker.{parent_in, place_in, referring, opening_in, taking_over};
 ghost use Rattle.semantic.specs.Growth.{Grows, Goes};
 
 use crate::binder::Binder;
@@ -18,7 +33,7 @@ use semantic_tree::{AstKind, AstType, Mark, Program, Role};
 use std::alloc::{AllocError, Global};
 use std::marker::Model;
 
-/// The walker's state: what the walk has made so far, and where it stands. Contracts see what is made.
+/// The walker's state: what the walk has made so far, and where it stands.
 #[derive(Drop)]
 pub struct Walk<'a> {
     pub(crate) alloc: Global,
@@ -39,18 +54,25 @@ pub struct Walk<'a> {
 
 impl<'a> Model for Walk<'a> {
     ghost use Rattle.std.specs.Prelude.{◌<◌, length};
-    ghost use Rattle.walk_model.specs.Standing.{Standing};
+    ghost use Rattle.std.specs.Coded.{codes};
+    ghost use Rattle.semantic_tree.specs.contracts.node.Node as node;
+    ghost use Rattle.semantic.specs.Walker.{Walker, walker};
 
-    ghost Value = { Standing };
+    ghost Value = { Walker };
 
-    ghost view = { λ w. w.declared };
+    ghost coded = { Prim.hlevel (codes, node.the_row.coded) };
+
+    ghost view = { walker };
 
     ghost invariant = { λ w. w.current_scope < length w.declared.tables.scopes };
 }
 
 /// Whether the node declares in its own scope, which is open then: a function or class expression, and a mapped
 /// type.
-fn declares_inside(kind: AstKind<'_>) -> bool {
+fn declares_inside(kind: AstKind<'_>) -> bool
+    ensures entering { (p : Place) → p.node ≡ kind.entry.node.now → result ≡ true → declared_on_entering p ≡ [] }
+    ensures opening { (p : Place) (own : OpenScope) → p.node ≡ kind.entry.node.now → result ≡ false → declared_on_opening p own ≡ [] }
+{
     match kind.ty() {
         AstType::Function | AstType::Class => !is_statement(kind),
         AstType::TSMappedType => true,
@@ -58,18 +80,30 @@ fn declares_inside(kind: AstKind<'_>) -> bool {
     }
 }
 
-/// Whether the node is a call of `eval` by its name (ECMAScript 13.3.6.1).
-fn is_direct_eval(kind: AstKind<'_>) -> bool {
-    if kind.ty() != AstType::CallExpression || kind.has_mark(Mark::Optional) {
-        return false;
-    }
+/// Whether the expression is the name `eval`, maybe in parentheses or under a type.
+#[tactic(auto, using(crate::proofs::Unwrapping::unwrapping))]
+fn is_eval_name(callee: AstKind<'_>) -> bool
+    ensures { result ≡ (is identifier_reference (inner_expression callee.entry.node.now) && reads_word (codes "eval") (inner_expression callee.entry.node.now)) }
+{
+    let inner = callee.get_inner_expression();
+    inner.ty() == AstType::IdentifierReference && reads(inner, "eval")
+}
+
+/// Whether the callee of a node is the name `eval`.
+fn calls_eval(kind: AstKind<'_>) -> bool
+    ensures { result ≡ holds (λ callee. is identifier_reference (inner_expression callee) && reads_word (codes "eval") (inner_expression callee)) (child_of callee_role kind.entry.node.now) }
+{
     match kind.child(Role::Callee) {
-        Some(callee) => {
-            let inner = callee.get_inner_expression();
-            inner.ty() == AstType::IdentifierReference && reads(inner, "eval")
-        }
+        Some(callee) => is_eval_name(callee),
         None => false,
     }
+}
+
+/// Whether the node is a call of `eval` by its name (ECMAScript 13.3.6.1).
+fn is_direct_eval(kind: AstKind<'_>) -> bool
+    ensures { result ≡ is_direct_eval kind.entry.node.now }
+{
+    kind.ty() == AstType::CallExpression && !kind.has_mark(Mark::Optional) && calls_eval(kind)
 }
 
 #[tactic(auto, using(crate::proofs::Waiting::going))]
@@ -95,20 +129,27 @@ impl<'a> Walk<'a> {
     }
 
     /// The parent of the node that is visited.
-    pub(crate) fn parent(&self) -> Option<AstKind<'a>> {
+    #[tactic(auto, using(crate::proofs::Parents::parents))]
+    pub(crate) fn parent(&self) -> Option<AstKind<'a>>
+        ensures { path_of result ≡ parent_in self.now.path }
+    {
         let above = self.path.len().checked_sub(2)?;
         let parent = self.path.get(above)?;
         Some(*parent)
     }
 
     /// The flags of the scope where the walk stands.
-    pub(crate) fn scope_flags(&self) -> ScopeFlags {
+    pub(crate) fn scope_flags(&self) -> ScopeFlags
+        ensures { result ≡ (scope_of self.now.made.tables self.now.current).flags }
+    {
         self.declared.scoping().scope_flags(self.current_scope)
     }
 
     /// Steps to a node.
+    #[tactic(auto, using(crate::proofs::Waiting::going, crate::proofs::Growing::growing))]
     fn step_to(&mut self, kind: AstKind<'a>) -> Result<(), AllocError>
-        ensures { OnOk result (Goes self.old self.new) }
+        ensures made { OnOk result (self.new ≡ record self.old { path = self.old.path ++ kind.entry.node.now ∷ []; cursor = on_entering kind.entry.node.now.kind self.old.cursor }) }
+        ensures goes { OnOk result (Goes self.old.made self.new.made) }
     {
         self.path.push(kind)?;
         self.cursor = cursor::on_entering(kind.ty(), self.cursor);
@@ -117,7 +158,8 @@ impl<'a> Walk<'a> {
 
     /// Notes the reference that an identifier reference is.
     fn note_reference(&mut self, kind: AstKind<'a>) -> Result<(), AllocError>
-        ensures { OnOk result (Goes self.old self.new) }
+        ensures made { OnOk result (self.new ≡ cond (is identifier_reference kind.entry.node.now) (referring self.old kind.entry.node.now) self.old) }
+        ensures goes { OnOk result (Goes self.old.made self.new.made) }
     {
         match kind.ty() {
             AstType::IdentifierReference => self.refer(kind),
@@ -127,7 +169,8 @@ impl<'a> Walk<'a> {
 
     /// Notes a call of `eval` by its name.
     fn note_eval(&mut self, kind: AstKind<'a>)
-        ensures { Goes self.old self.new }
+        ensures made { self.new ≡ cond (is_direct_eval kind.entry.node.now) (record self.old { made = add_eval self.old.made self.old.current }) self.old }
+        ensures goes { Goes self.old.made self.new.made }
     {
         if is_direct_eval(kind) {
             self.declared.add_direct_eval(self.current_scope);
@@ -136,7 +179,7 @@ impl<'a> Walk<'a> {
 
     /// Declares what the node declares, if it declares inside its own scope, or if it declares outside.
     fn declare(&mut self, kind: AstKind<'a>, inside: bool) -> Result<(), AllocError>
-        ensures { OnOk result (Goes self.old self.new) }
+        ensures { OnOk result (Goes self.old.made self.new.made) }
     {
         if declares_inside(kind) == inside {
             kind.bind(self)
@@ -147,7 +190,7 @@ impl<'a> Walk<'a> {
 
     /// Enters a node: what it declares outside of its own scope is declared, and a reference is noted.
     pub(crate) fn enter(&mut self, kind: AstKind<'a>) -> Result<(), AllocError>
-        ensures { OnOk result (Goes self.old self.new) }
+        ensures { OnOk result (Goes self.old.made self.new.made) }
     {
         self.step_to(kind)?;
         self.note_reference(kind)?;
@@ -157,7 +200,8 @@ impl<'a> Walk<'a> {
 
     /// Notes a reference, which waits in the current scope.
     fn refer(&mut self, kind: AstKind<'a>) -> Result<(), AllocError>
-        ensures { OnOk result (Goes self.old self.new) }
+        ensures made { OnOk result (self.new ≡ referring self.old kind.entry.node.now) }
+        ensures goes { OnOk result (Goes self.old.made self.new.made) }
     {
         let way = cursor::way_of(self.cursor);
         self.declared.refer(kind, self.current_scope, way)
@@ -165,8 +209,10 @@ impl<'a> Walk<'a> {
 
     /// Makes the scope of the node in its role.
     fn make_scope(&mut self, kind: AstKind<'a>, role: Role) -> Result<ScopeId, AllocError>
-        ensures goes { OnOk result (Goes self.old self.new) }
-        ensures within { IfOk result (λ s. s < length self.new.tables.scopes) }
+        ensures made { OnOk result (self.new ≡ record self.old { made = opening_in self.old role kind.entry.node.now }) }
+        ensures number { IfOk result (λ s. s ≡ length self.old.made.tables.scopes) }
+        ensures goes { OnOk result (Goes self.old.made self.new.made) }
+        ensures within { IfOk result (λ s. s < length self.new.made.tables.scopes) }
     {
         let flags = flags_of(kind, role, self.parent(), self.source_type);
         self.declared.open(kind, self.current_scope, flags)
@@ -174,16 +220,16 @@ impl<'a> Walk<'a> {
 
     /// Goes into the scope.
     pub(crate) fn go_to(&mut self, scope: ScopeId)
-        requires { scope < length self.old.tables.scopes }
-        ensures { self.new ≡ self.old }
+        requires { scope < length self.old.made.tables.scopes }
+        ensures { self.new ≡ record self.old { current = scope } }
     {
         self.current_scope = scope;
     }
 
     /// Opens the scope of the node in its role.
     pub(crate) fn open(&mut self, kind: AstKind<'a>, role: Role) -> Result<ScopeId, AllocError>
-        ensures goes { OnOk result (Goes self.old self.new) }
-        ensures within { IfOk result (λ s. s < length self.new.tables.scopes) }
+        ensures goes { OnOk result (Goes self.old.made self.new.made) }
+        ensures within { IfOk result (λ s. s < length self.new.made.tables.scopes) }
     {
         let scope = self.make_scope(kind, role)?;
         self.take_over(kind, role, scope)?;
@@ -193,24 +239,34 @@ impl<'a> Walk<'a> {
     }
 
     /// Whether the node in its role is the body of a catch clause.
-    fn is_catch_body(&self, kind: AstKind<'a>, role: Role) -> bool {
-        let is_in_clause = match self.parent() {
+    fn is_catch_body(&self, kind: AstKind<'a>, role: Role) -> bool
+        ensures { result ≡ is_catch_body (place_in self.now role kind.entry.node.now) }
+    {
+        kind.ty() == AstType::BlockStatement && role == Role::Body && self.is_in_clause()
+    }
+
+    /// Whether the parent of the node that is visited is a catch clause.
+    fn is_in_clause(&self) -> bool
+        ensures { result ≡ parent_holds (is catch_clause) (parent_in self.now.path) }
+    {
+        match self.parent() {
             Some(parent) => parent.ty() == AstType::CatchClause,
             None => false,
-        };
-        kind.ty() == AstType::BlockStatement && role == Role::Body && is_in_clause
+        }
     }
 
     /// The scope of a catch clause's body takes over what the clause binds.
     fn take_over(&mut self, kind: AstKind<'a>, role: Role, scope: ScopeId) -> Result<(), AllocError>
-        requires scope { scope < length self.old.tables.scopes }
-        ensures { OnOk result (Goes self.old self.new) }
+        requires scope { scope < length self.old.made.tables.scopes }
+        ensures made { (self.old.current == scope) ≡ false → bindings_of self.old.made.tables scope ≡ [] → OnOk result (self.new ≡ cond (is_catch_body (place_in self.old role kind.entry.node.now)) (taking_over self.old scope) self.old) }
+        ensures goes { OnOk result (Goes self.old.made self.new.made) }
     {
         let is_new = self.current_scope != scope && self.declared.binds_nothing(scope);
         if self.is_catch_body(kind, role) && is_new {
-            return self.declared.take_over(self.current_scope, scope);
+            self.declared.take_over(self.current_scope, scope)
+        } else {
+            Ok(())
         }
-        Ok(())
     }
 
     /// Where a function in a block of sloppy code moves: to the nearest function, unless a namesake stands between,
@@ -219,7 +275,7 @@ impl<'a> Walk<'a> {
         &self,
         name: Ident<'_>,
     ) -> Result<Option<ScopeId>, AllocError>
-        ensures { IfOk result (λ o. IfSome o (λ s. s < length self.now.tables.scopes)) }
+        ensures { IfOk result (λ o. IfSome o (λ s. s < length self.now.made.tables.scopes)) }
     {
         let block = self.current_scope;
         let scoping = self.declared.scoping();
@@ -234,15 +290,17 @@ impl<'a> Walk<'a> {
 
     /// Closes the scope.
     pub(crate) fn close(&mut self, scope: ScopeId)
-        requires { scope < length self.old.tables.scopes }
-        ensures { Goes self.old self.new }
+        requires { scope < length self.old.made.tables.scopes }
+        ensures made { self.new ≡ record self.old { made = close_scope self.old.made scope } }
+        ensures goes { Goes self.old.made self.new.made }
     {
         self.declared.close(scope);
     }
 
     /// Leaves the node that is visited.
     pub(crate) fn leave(&mut self, kind: AstKind<'a>)
-        ensures { Goes self.old self.new }
+        ensures made { self.new ≡ record self.old { path = take (length self.old.path - 1) self.old.path; cursor = on_leaving kind.entry.node.now.kind self.old.cursor } }
+        ensures goes { Goes self.old.made self.new.made }
     {
         self.cursor = cursor::on_leaving(kind.ty(), self.cursor);
         let _left = self.path.pop();
@@ -255,24 +313,25 @@ impl<'a> Walk<'a> {
         start: usize,
         steps: &mut Steps<L>,
     ) -> Result<(), AllocError>
-        requires scope { scope < length self.old.tables.scopes }
-        requires start { start ≤ length self.old.waiting }
-        ensures grows { OnOk result (Grows self.old.tables self.new.tables) }
-        ensures waiting { OnOk result (start ≤ length self.new.waiting) }
+        requires scope { scope < length self.old.made.tables.scopes }
+        requires start { start ≤ length self.old.made.waiting }
+        ensures made { OnOk result (self.new ≡ record self.old { made = settled_from self.old.made start (map (header_outcome (source_of self.old.made.tables) scope) (drop start self.old.made.waiting)) }) }
+        ensures grows { OnOk result (Grows self.old.made.tables self.new.made.tables) }
+        ensures waiting { OnOk result (start ≤ length self.new.made.waiting) }
     {
         self.declared.end_header(scope, start, steps)
     }
 
     /// After the walk every reference that waits is settled.
     pub(crate) fn end<L>(&mut self, steps: &mut Steps<L>) -> Result<(), AllocError>
-        ensures { OnOk result (self.new ≡ settle_rest self.old) }
+        ensures { OnOk result (self.new ≡ record self.old { made = settle_rest self.old.made }) }
     {
         self.declared.settle_rest(steps)
     }
 
     /// How many references wait.
     pub(crate) fn waiting(&self) -> usize
-        ensures { result ≡ length self.now.waiting }
+        ensures { result ≡ length self.now.made.waiting }
     {
         self.declared.waiting()
     }

@@ -17,7 +17,7 @@ abbrev pub invariant-loop-child_role : goal.invariant-loop-child_role
 invariant-loop-child_role g l =
     record {
       left : count (forest_of l.left) ≤ count l.kind.node.now.children;
-      turn : IsTurn l.self l.turn;
-      goes : Goes l.initial.self l.self;
-      start : length l.initial.self.waiting ≤ l.turn.header_start;
+      turn : IsTurn l.self.made l.turn;
+      goes : Goes l.initial.self.made l.self.made;
+      start : length l.initial.self.made.waiting ≤ l.turn.header_start;
     }
