@@ -9,10 +9,7 @@ use Rattle.semantic_syntax.specs.declared.scope_flags.ScopeFlags.{ScopeFlags}
 use Rattle.semantic_tree.specs.declared.node.Node.{Node}
 use Rattle.semantic_tree.specs.declared.view.AstKind.{AstKind}
 use Rattle.semantic_model.specs.Place.{Place, no_scope}
-use Rattle.semantic_model.specs.Namespace.{InstanceState, non_instantiated, instantiated, const_enum_only}
 use Rattle.semantic.specs.declared.declaration.Row.{Row}
-use Rattle.semantic.specs.declared.instance_state.ModuleInstanceState.{ModuleInstanceState}
-use Rattle.semantic.specs.declared.instance_state.ModuleInstanceState.TheVariants.{NonInstantiated, Instantiated, ConstEnumOnly}
 
 -- a parent alone, as a path
 abbrev pub path_of : Option AstKind → List Node
@@ -44,9 +41,3 @@ in_role source_type r kind parent = record (under kind parent) { source_type = s
 pub record IsRow (row : Row) (bits barred : ℕ) : Type 0 where
   pub flags : row.flags.bits ≡ bits
   pub excluded : row.excluded.bits ≡ barred
-
--- the state of a namespace, as the definition has it
-abbrev pub state_of : ModuleInstanceState → InstanceState
-state_of NonInstantiated = non_instantiated
-state_of Instantiated = instantiated
-state_of ConstEnumOnly = const_enum_only

@@ -8,7 +8,8 @@ ghost use Rattle.semantic_syntax.specs.Sets.{union};
 ghost use Rattle.semantic_model.specs.Nodes.{is, has, is_with_text};
 ghost use Rattle.semantic_model.specs.Place.{Place, no_scope, parent_holds};
 ghost use Rattle.semantic_model.specs.Binder as binder;
-ghost use Rattle.semantic.specs.Seen.{IsRow, seen, under, path_of, state_of};
+ghost use Rattle.semantic.specs.Seen.{IsRow, seen, under, path_of};
+ghost use Rattle.semantic.specs.InstanceStates.{state_of};
 
 use crate::declaration::Row;
 use crate::instance_state::ModuleInstanceState;
