@@ -109,20 +109,20 @@ has_referred p h =
     let here : List Tie = ties final es 0 rs in
     let here_is : here ≡ all = ap (ties final es 0) (referred_are [] (steps p)) in
     let now : Tie → Bool = λ t. is_last (moment t) in
-    let W0 : Tie → Pending → Type 0 = λ t x. ⊥ in
-    let W1 : Tie → Pending → Type 0 = λ t x. Waits [] seen fs final es t x × (slice_index_or (map (λ (r : Reference). r.flags.bits) w.tables.references) t.number 0 ≡ t.reference.way) in
-    let D0 : Tie → Type 0 = λ t. Unit {0} in
+    let NoWait : Tie → Pending → Type 0 = λ t x. ⊥ in
+    let WithWay : Tie → Pending → Type 0 = λ t x. Waits [] seen fs final es t x × (slice_index_or (map (λ (r : Reference). r.flags.bits) w.tables.references) t.number 0 ≡ t.reference.way) in
+    let Anything : Tie → Type 0 = λ t. Unit {0} in
     let at_w : At w final stack seen calls bare fs = record { shows = i.represents.shows; scopes = i.scopes; flags = i.flags; sound = i.sound } in
-    let ways : Tracks (IsDone [] (length seen)) W1 here w.tables.references w.waiting = with_ways (IsDone [] (length seen)) (Waits [] seen fs final es) w.tables.references here w.tables.references w.waiting 0 [] i.tracks (numbered final es 0 rs) refl refl in
-    let last : Settled D0 W0 [] (flat_map (settled_at all) es) (filter now here) here (length final.symbols) (staying w.waiting (map (last_outcome (source_of w.tables)) w.waiting)) (settle w.tables w.waiting (map (last_outcome (source_of w.tables)) w.waiting)) =
-    settle_tracks (IsDone [] (length seen)) D0 W1 W0 final.symbols now (last_outcome (source_of w.tables))
+    let ways : Tracks (IsDone [] (length seen)) WithWay here w.tables.references w.waiting = with_ways (IsDone [] (length seen)) (Waits [] seen fs final es) w.tables.references here w.tables.references w.waiting 0 [] i.tracks (numbered final es 0 rs) refl refl in
+    let last : Settled Anything NoWait [] (flat_map (settled_at all) es) (filter now here) here (length final.symbols) (staying w.waiting (map (last_outcome (source_of w.tables)) w.waiting)) (settle w.tables w.waiting (map (last_outcome (source_of w.tables)) w.waiting)) =
+    settle_tracks (IsDone [] (length seen)) Anything WithWay NoWait final.symbols now (last_outcome (source_of w.tables))
     (λ t d. tt) (λ t q. tt) (λ t d. ap is_last d.is) (λ t x y. (y.0.name, y.0.number))
-    (λ t x y. right_last w final final es stack seen calls bare fs at_w t x refl W0 y.0 (ap (λ m. slice_index_or (map (λ (r : Reference). r.flags.bits) w.tables.references) m 0) y.0.number ∙ y.1))
+    (λ t x y. right_last w final final es stack seen calls bare fs at_w t x refl NoWait y.0 (ap (λ m. slice_index_or (map (λ (r : Reference). r.flags.bits) w.tables.references) m 0) y.0.number ∙ y.1))
     here w.tables.references w.waiting 0 (length final.symbols) [] (flat_map (settled_at all) es) w.tables ways (numbered final es 0 rs) refl refl refl i.represents.shows.symbols i.lists in
     let ordered : Lists (in_order es all) (length final.symbols) (walk.walked p).tables =
     subst (λ l. Lists (flat_map (settled_at all) es ++ filter now l) (length final.symbols) (walk.walked p).tables) here_is last.lists in
     record {
-      references = last.references ∙ all_settled D0 here last.entries (staying w.waiting (map (last_outcome (source_of w.tables)) w.waiting)) last.tracks ∙ ap (map entry_of) here_is;
+      references = last.references ∙ all_settled Anything here last.entries (staying w.waiting (map (last_outcome (source_of w.tables)) w.waiting)) last.tracks ∙ ap (map entry_of) here_is;
       uses = ordered.uses;
       free = ordered.free;
       nodes = i.nodes ∙ ap (λ (l : List Occurrence). entries_of (numbered_from 0 (map (λ r. r.node) l))) (referred_are [] (steps p));

@@ -202,10 +202,10 @@ module _ (ds : List Declaration) (all : List Tie) (final : State) (es : List Eve
       let still : Frozen c n st final = subst (Frozen c n st) (sym final_run) (frozen c n st evs i.sided.0 i.within i.sound touch) in
       let view_is : run start (until_end_of c es) ≡ st = ap (λ l. run start (until_end_of c l)) es_is ∙ ap (run start) (until_is aw n c done evs i.ends) ∙ sym st_is in
       let at_w : At w st (c ∷ around) seen calls bare fs = record { shows = i.represents.shows; scopes = i.scopes; flags = i.flags; sound = i.sound } in
-      let W1 : Tie → Pending → Type 0 = λ t x. Waits (c ∷ aw) seen fs final es t x × (slice_index_or (map (λ (r : Reference). r.flags.bits) w.tables.references) t.number 0 ≡ t.reference.way) in
-      let ways : Tracks (IsDone (c ∷ aw) n) W1 here w.tables.references w.waiting = with_ways (IsDone (c ∷ aw) n) (Waits (c ∷ aw) seen fs final es) w.tables.references here w.tables.references w.waiting 0 [] i.tracks (numbered final es 0 rs) refl refl in
+      let WithWay : Tie → Pending → Type 0 = λ t x. Waits (c ∷ aw) seen fs final es t x × (slice_index_or (map (λ (r : Reference). r.flags.bits) w.tables.references) t.number 0 ≡ t.reference.way) in
+      let ways : Tracks (IsDone (c ∷ aw) n) WithWay here w.tables.references w.waiting = with_ways (IsDone (c ∷ aw) n) (Waits (c ∷ aw) seen fs final es) w.tables.references here w.tables.references w.waiting 0 [] i.tracks (numbered final es 0 rs) refl refl in
       let done2 : Settled (IsDone aw n) (Waits aw seen fs final es) [] (flat_map (settled_at all) done) (filter now here) here (length st.symbols) (staying w.waiting (map (header_outcome (source_of w.tables) c) w.waiting)) (settle w.tables w.waiting (map (header_outcome (source_of w.tables) c) w.waiting)) =
-      settle_tracks (IsDone (c ∷ aw) n) (IsDone aw n) W1 (Waits aw seen fs final es) st.symbols now (header_outcome (source_of w.tables) c)
+      settle_tracks (IsDone (c ∷ aw) n) (IsDone aw n) WithWay (Waits aw seen fs final es) st.symbols now (header_outcome (source_of w.tables) c)
       (λ t d. done_ending c aw n t d)
       (λ t q. record { header = c; is = at_is c (moment t) q; ended = not_among aw c c (omega arith) i.old.0; older = i.less.0 })
       (λ t d. done_not c aw n t d)

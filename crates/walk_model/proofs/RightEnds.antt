@@ -34,8 +34,8 @@ module _ (w : Standing) (st final : State) (es : List Event) (stack : List ℕ) 
       ∙ chain_is stack seen calls bare w h.next h.rest now_at.scopes h.linked (descends_right (length seen) h.asked (h.next ∷ h.rest) (subst (Descends (length seen)) h.chain_is h.descends))
 
   module _ (c : ℕ) (aw : List ℕ) (first : ℕ) (others : List ℕ) (frozen : Frozen c (length seen) st final) (viewed : run start (until_end_of c es) ≡ st) (older : AllLess aw c) (inner : slice_get seen c ≡ Some (first ∷ others)) where
-    abbrev W2 : Tie → Pending → Type 0
-    W2 t e = Waits aw seen fs final es t e
+    abbrev WaitsThen : Tie → Pending → Type 0
+    WaitsThen t e = Waits aw seen fs final es t e
 
     abbrev now : Tie → Bool
     now t = is_at c (moment t)
@@ -45,7 +45,7 @@ module _ (w : Standing) (st final : State) (es : List Event) (stack : List ℕ) 
 
     -- nothing so far: it waits outside the header's scope
     waits_on : (t : Tie) (e : Pending) (h : Waits (c ∷ aw) seen fs final es t e) (seg : List OpenScope) (own : OpenScope) (tail : List OpenScope) → h.next ∷ h.rest ≡ seg ++ own ∷ tail → own.number ≡ c → answered_in (looked_up final es t (seg ++ own ∷ [])) ≡ None
-        → IsRight W2 st.symbols now t e (waits_outside (source_of w.tables) c)
+        → IsRight WaitsThen st.symbols now t e (waits_outside (source_of w.tables) c)
     waits_on t e h seg own [] p q a =
         let l : AreLinked seen (seg ++ own ∷ []) = subst (AreLinked seen) p h.linked in
         let k : slice_get seen c ≡ Some [] = subst (λ m. slice_get seen m ≡ Some []) q (linked_right seen seg (own ∷ []) l).0 in
@@ -60,7 +60,7 @@ module _ (w : Standing) (st final : State) (es : List Event) (stack : List ℕ) 
         let outer : contains (numbers (t2 ∷ ts)) c ≡ false = subst (λ n. contains (numbers (t2 ∷ ts)) n ≡ false) q (tail_apart (length seen) seg own (t2 ∷ ts) (descends_right (length seen) h.asked (seg ++ own ∷ t2 ∷ ts) down)) in
         let none : answered_in (looked_up final es t (h.asked ++ (seg ++ own ∷ []))) ≡ None = through_more final es t h.asked (seg ++ own ∷ []) h.through a in
         let parent : parent_of w.tables c ≡ Some t2.number = parent_is stack seen calls bare w c (numbers (t2 ∷ ts)) now_at.scopes (subst (λ n. slice_get seen n ≡ Some (numbers (t2 ∷ ts))) q l.0) in
-        subst (λ o. IsRight W2 st.symbols now t e (option_map_or waits o is_free)) (sym parent)
+        subst (λ o. IsRight WaitsThen st.symbols now t e (option_map_or waits o is_free)) (sym parent)
         (goes_on t2.number (not_now final es t (length seen) c (h.asked ++ (seg ++ own ∷ [])) (t2 ∷ ts) split none h.is_tie h.descends outer) (record {
           asked = h.asked ++ (seg ++ own ∷ []);
           next = t2;
@@ -79,7 +79,7 @@ module _ (w : Standing) (st final : State) (es : List Event) (stack : List ℕ) 
 
     -- the header's scope is among those left
     right_inside : (t : Tie) (e : Pending) (h : Waits (c ∷ aw) seen fs final es t e) → Parts c (h.next ∷ h.rest)
-        → IsRight W2 st.symbols now t e (outcome_or (waits_outside (source_of w.tables) c) (lookup t.reference.name t.reference.way (map (source_answer (source_of w.tables) t.reference.name) (up_to c (numbers (h.next ∷ h.rest))))))
+        → IsRight WaitsThen st.symbols now t e (outcome_or (waits_outside (source_of w.tables) c) (lookup t.reference.name t.reference.way (map (source_answer (source_of w.tables) t.reference.name) (up_to c (numbers (h.next ∷ h.rest))))))
     right_inside t e h p =
         let x : Name = t.reference.name in
         let whole : t.reference.chain ≡ h.asked ++ (p.seg ++ p.own ∷ p.tail) = h.chain_is ∙ ap (λ l. h.asked ++ l) p.is in
@@ -94,20 +94,20 @@ module _ (w : Standing) (st final : State) (es : List Event) (stack : List ℕ) 
         lookup_alike x t.reference.way (map (source_answer (source_of w.tables) x) (numbers (p.seg ++ p.own ∷ []))) (answers_of final es t (p.seg ++ p.own ∷ []))
         (all_alike (length seen) w st final es x t.reference.way stack seen calls bare fs (p.seg ++ p.own ∷ []) now_at.shows now_at.scopes now_at.flags (flagged_prefix fs p.seg p.own p.tail f) views) in
         let upto : up_to c (numbers (h.next ∷ h.rest)) ≡ numbers (p.seg ++ p.own ∷ []) = ap (λ l. up_to c (numbers l)) p.is ∙ up_to_is c p.seg p.own p.tail p.number p.apart in
-        subst (λ l. IsRight W2 st.symbols now t e (outcome_or (waits_outside (source_of w.tables) c) l)) (sym (ap (λ l. lookup x t.reference.way (map (source_answer (source_of w.tables) x) l)) upto ∙ same))
-        (right_by W2 now w st (length seen) t e (p.seg ++ p.own ∷ []) (waits_outside (source_of w.tables) c) (looked_up final es t (p.seg ++ p.own ∷ [])) now_at.shows now_at.sound same
+        subst (λ l. IsRight WaitsThen st.symbols now t e (outcome_or (waits_outside (source_of w.tables) c) l)) (sym (ap (λ l. lookup x t.reference.way (map (source_answer (source_of w.tables) x) l)) upto ∙ same))
+        (right_by WaitsThen now w st (length seen) t e (p.seg ++ p.own ∷ []) (waits_outside (source_of w.tables) c) (looked_up final es t (p.seg ++ p.own ∷ [])) now_at.shows now_at.sound same
         (λ d a. let r : (t.lookup ≡ looked_up final es t (p.seg ++ p.own ∷ [])) × (moment t ≡ Some p.own.number) = answered_now final es t (length seen) d h.asked p.seg p.own p.tail whole h.through h.is_tie h.descends none inside a in (r.0, at_own t p.own.number r.1 p.number))
         (λ a. waits_on t e h p.seg p.own p.tail p.is p.number a))
 
-    pub right_end : (t : Tie) (e : Pending) → Waits (c ∷ aw) seen fs final es t e → way_of w.tables e.reference ≡ t.reference.way → IsRight W2 st.symbols now t e (header_outcome (source_of w.tables) c e)
+    pub right_end : (t : Tie) (e : Pending) → Waits (c ∷ aw) seen fs final es t e → way_of w.tables e.reference ≡ t.reference.way → IsRight WaitsThen st.symbols now t e (header_outcome (source_of w.tables) c e)
     right_end t e h way =
         let ch : chain (source_of w.tables) e.lookup_scope ≡ numbers (h.next ∷ h.rest) = left_chain (c ∷ aw) t e h in
         let outcome : header_outcome (source_of w.tables) c e ≡ cond (contains (numbers (h.next ∷ h.rest)) c) (outcome_or (waits_outside (source_of w.tables) c) (lookup t.reference.name t.reference.way (map (source_answer (source_of w.tables) t.reference.name) (up_to c (numbers (h.next ∷ h.rest)))))) (waits h.next.number) =
         λ i. cond (contains (ch i) c) (outcome_or (waits_outside (source_of w.tables) c) (lookup (h.name i) (way i) (map (source_answer (source_of w.tables) (h.name i)) (up_to c (ch i))))) (waits (h.scope i)) in
-        subst (λ o. IsRight W2 st.symbols now t e o) (sym outcome) (by (contains (numbers (h.next ∷ h.rest)) c) refl)
+        subst (λ o. IsRight WaitsThen st.symbols now t e o) (sym outcome) (by (contains (numbers (h.next ∷ h.rest)) c) refl)
       where
         by : (b : Bool) → contains (numbers (h.next ∷ h.rest)) c ≡ b
-            → IsRight W2 st.symbols now t e (cond b (outcome_or (waits_outside (source_of w.tables) c) (lookup t.reference.name t.reference.way (map (source_answer (source_of w.tables) t.reference.name) (up_to c (numbers (h.next ∷ h.rest)))))) (waits h.next.number))
+            → IsRight WaitsThen st.symbols now t e (cond b (outcome_or (waits_outside (source_of w.tables) c) (lookup t.reference.name t.reference.way (map (source_answer (source_of w.tables) t.reference.name) (up_to c (numbers (h.next ∷ h.rest)))))) (waits h.next.number))
         by true q = right_inside t e h (parted c (h.next ∷ h.rest) q)
         by false q = goes_on h.next.number (not_now final es t (length seen) c h.asked (h.next ∷ h.rest) h.chain_is h.through h.is_tie h.descends q) (record {
           asked = h.asked;
@@ -144,8 +144,8 @@ module _ (w : Standing) (st final : State) (es : List Event) (stack : List ℕ) 
   way_kept t (barred c) e h = absurd cc
   way_kept t unanswered e h = rw e refl
 
-  pub right_last : (t : Tie) (e : Pending) → final ≡ st → (W3 : Tie → Pending → Type 0) → Waits [] seen fs final es t e → way_of w.tables e.reference ≡ t.reference.way → IsRight W3 st.symbols (λ u. is_last (moment u)) t e (last_outcome (source_of w.tables) e)
-  right_last t e fin W3 h way =
+  pub right_last : (t : Tie) (e : Pending) → final ≡ st → (WaitsLast : Tie → Pending → Type 0) → Waits [] seen fs final es t e → way_of w.tables e.reference ≡ t.reference.way → IsRight WaitsLast st.symbols (λ u. is_last (moment u)) t e (last_outcome (source_of w.tables) e)
+  right_last t e fin WaitsLast h way =
       let x : Name = t.reference.name in
       let left : List OpenScope = h.next ∷ h.rest in
       let ch : chain (source_of w.tables) e.lookup_scope ≡ numbers left = left_chain [] t e h in
@@ -156,8 +156,8 @@ module _ (w : Standing) (st final : State) (es : List Event) (stack : List ℕ) 
       let outcome : last_outcome (source_of w.tables) e ≡ outcome_or is_free (lookup x t.reference.way (map (source_answer (source_of w.tables) x) (numbers left))) =
       λ i. outcome_or is_free (lookup (h.name i) (way i) (map (source_answer (source_of w.tables) (h.name i)) (ch i))) in
       let whole : t.lookup ≡ looked_up final es t left = past_asked final es t h.asked left h.chain_is h.through h.is_tie in
-      subst (λ o. IsRight W3 st.symbols (λ u. is_last (moment u)) t e o) (sym (outcome ∙ ap (outcome_or is_free) same))
-      (right_by W3 (λ u. is_last (moment u)) w st (length seen) t e left is_free (looked_up final es t left) now_at.shows now_at.sound same
+      subst (λ o. IsRight WaitsLast st.symbols (λ u. is_last (moment u)) t e o) (sym (outcome ∙ ap (outcome_or is_free) same))
+      (right_by WaitsLast (λ u. is_last (moment u)) w st (length seen) t e left is_free (looked_up final es t left) now_at.shows now_at.sound same
       (λ d a.
       let there : contains (numbers left) d ≡ true = subst (λ l. contains l d ≡ true) (scopes_of final es t left) (answered_among x t.reference.way (answers_of final es t left) d a) in
       let out : contains (numbers h.asked) d ≡ false = apart (length seen) h.asked left d (subst (Descends (length seen)) h.chain_is h.descends) there in

@@ -142,10 +142,10 @@ pub record Settled (D : Tie → Type 0) (W : Tie → Pending → Type 0) (before
   pub tracks : Tracks D W ts entries later
   pub lists : Lists (done ++ new) m t
 
-module _ (D D2 : Tie → Type 0) (W W2 : Tie → Pending → Type 0) (ys : List Symbol) (now : Tie → Bool) (outcome : Pending → Outcome)
-    (stays_done : (t : Tie) → D t → D2 t) (done_now : (t : Tie) → now t ≡ true → D2 t) (done_before : (t : Tie) → D t → now t ≡ false)
+module _ (D DoneThen : Tie → Type 0) (W WaitsThen : Tie → Pending → Type 0) (ys : List Symbol) (now : Tie → Bool) (outcome : Pending → Outcome)
+    (stays_done : (t : Tie) → D t → DoneThen t) (done_now : (t : Tie) → now t ≡ true → DoneThen t) (done_before : (t : Tie) → D t → now t ≡ false)
     (named : (t : Tie) (e : Pending) → W t e → (e.name ≡ t.reference.name) × (e.reference ≡ t.number))
-    (right : (t : Tie) (e : Pending) → W t e → IsRight W2 ys now t e (outcome e)) where
+    (right : (t : Tie) (e : Pending) → W t e → IsRight WaitsThen ys now t e (outcome e)) where
   push_references : (before : List Reference) (x : Reference) (rs : List Reference) → before ++ x ∷ rs ≡ (before ++ x ∷ []) ++ rs
   push_references before x rs = sym (append_assoc before (x ∷ []) rs)
 
@@ -153,7 +153,7 @@ module _ (D D2 : Tie → Type 0) (W W2 : Tie → Pending → Type 0) (ys : List 
   push_length before x n e = omega (arith, length-append before (x ∷ []), e)
 
   -- the list goes on with one tie more in front
-  more_done : (before : List Reference) (done new : List Tie) (t : Tie) (ts : List Tie) (m : ℕ) (later : List Pending) (u : Tables) → D2 t → Settled D2 W2 (before ++ entry_of t ∷ []) done new ts m later u → Settled D2 W2 before done new (t ∷ ts) m later u
+  more_done : (before : List Reference) (done new : List Tie) (t : Tie) (ts : List Tie) (m : ℕ) (later : List Pending) (u : Tables) → DoneThen t → Settled DoneThen WaitsThen (before ++ entry_of t ∷ []) done new ts m later u → Settled DoneThen WaitsThen before done new (t ∷ ts) m later u
   more_done before done new t ts m later u d h = record {
     entries = entry_of t ∷ h.entries;
     references = h.references ∙ append_assoc before (entry_of t ∷ []) h.entries;
@@ -161,7 +161,7 @@ module _ (D D2 : Tie → Type 0) (W W2 : Tie → Pending → Type 0) (ys : List 
     lists = h.lists;
   }
 
-  more_open : (before : List Reference) (done new : List Tie) (t : Tie) (e : Pending) (ts : List Tie) (m : ℕ) (later : List Pending) (u : Tables) → W2 t e → Settled D2 W2 (before ++ open_entry t ∷ []) done new ts m later u → Settled D2 W2 before done new (t ∷ ts) m (e ∷ later) u
+  more_open : (before : List Reference) (done new : List Tie) (t : Tie) (e : Pending) (ts : List Tie) (m : ℕ) (later : List Pending) (u : Tables) → WaitsThen t e → Settled DoneThen WaitsThen (before ++ open_entry t ∷ []) done new ts m later u → Settled DoneThen WaitsThen before done new (t ∷ ts) m (e ∷ later) u
   more_open before done new t e ts m later u w h = record {
     entries = open_entry t ∷ h.entries;
     references = h.references ∙ append_assoc before (open_entry t ∷ []) h.entries;
@@ -170,7 +170,7 @@ module _ (D D2 : Tie → Type 0) (W W2 : Tie → Pending → Type 0) (ys : List 
   }
 
   -- the new tie was done first
-  shift_done : (before : List Reference) (done new : List Tie) (t : Tie) (ts us : List Tie) (m : ℕ) (later : List Pending) (u : Tables) → new ≡ t ∷ us → Settled D2 W2 before (done ++ t ∷ []) us ts m later u → Settled D2 W2 before done new ts m later u
+  shift_done : (before : List Reference) (done new : List Tie) (t : Tie) (ts us : List Tie) (m : ℕ) (later : List Pending) (u : Tables) → new ≡ t ∷ us → Settled DoneThen WaitsThen before (done ++ t ∷ []) us ts m later u → Settled DoneThen WaitsThen before done new ts m later u
   shift_done before done new t ts us m later u e h = record {
     entries = h.entries;
     references = h.references;
@@ -211,25 +211,25 @@ module _ (D D2 : Tie → Type 0) (W W2 : Tie → Pending → Type 0) (ys : List 
   new_of ts = filter now ts
 
   pub settle_tracks : (ts : List Tie) (rs : List Reference) (es : List Pending) (n m : ℕ) (before : List Reference) (done : List Tie) (u : Tables) → Tracks D W ts rs es → AreNumbered n ts → length before ≡ n → m ≡ length ys → u.references ≡ before ++ rs → u.symbols ≡ ys → Lists done m u
-      → Settled D2 W2 before done (filter now ts) ts m (staying es (map outcome es)) (settle u es (map outcome es))
+      → Settled DoneThen WaitsThen before done (filter now ts) ts m (staying es (map outcome es)) (settle u es (map outcome es))
   settle_tracks ts rs es n m before done u none k l z e s h = record { entries = []; references = e; tracks = none; lists = subst (λ x. Lists x m u) (sym (append-nil done)) h }
   settle_tracks ts rs es n m before done u (is_done {t = t} {ts = ts2} {rs = rs2} {es = es2} d tracks) k l z e s h =
       let later : now t ≡ false = done_before t d in
-      let rest : Settled D2 W2 (before ++ entry_of t ∷ []) done (filter now ts2) ts2 m (staying es2 (map outcome es2)) (settle u es2 (map outcome es2)) =
+      let rest : Settled DoneThen WaitsThen (before ++ entry_of t ∷ []) done (filter now ts2) ts2 m (staying es2 (map outcome es2)) (settle u es2 (map outcome es2)) =
       settle_tracks ts2 rs2 es2 (suc n) m (before ++ entry_of t ∷ []) done u tracks k.1 (push_length before (entry_of t) n l) z (e ∙ push_references before (entry_of t) rs2) s h in
-      subst (λ l2. Settled D2 W2 before done l2 (t ∷ ts2) m (staying es2 (map outcome es2)) (settle u es2 (map outcome es2))) (ap (λ b. cond b (t ∷ filter now ts2) (filter now ts2)) (sym later))
+      subst (λ l2. Settled DoneThen WaitsThen before done l2 (t ∷ ts2) m (staying es2 (map outcome es2)) (settle u es2 (map outcome es2))) (ap (λ b. cond b (t ∷ filter now ts2) (filter now ts2)) (sym later))
       (more_done before done (filter now ts2) t ts2 m (staying es2 (map outcome es2)) (settle u es2 (map outcome es2)) (stays_done t d) rest)
   settle_tracks ts rs es n m before done u (is_open {t = t} {e = x} {ts = ts2} {rs = rs2} {es = es2} w tracks) k l z e s h =
       by (outcome x) (right t x w)
       (λ v x2 d2 e2 s2 h2. settle_tracks ts2 rs2 es2 (suc n) m (before ++ x2 ∷ []) d2 v tracks k.1 (push_length before x2 n l) z e2 s2 h2)
     where
       Rest : Type 0
-      Rest = (v : Tables) (x2 : Reference) (d2 : List Tie) → v.references ≡ (before ++ x2 ∷ []) ++ rs2 → v.symbols ≡ ys → Lists d2 m v → Settled D2 W2 (before ++ x2 ∷ []) d2 (filter now ts2) ts2 m (staying es2 (map outcome es2)) (settle v es2 (map outcome es2))
+      Rest = (v : Tables) (x2 : Reference) (d2 : List Tie) → v.references ≡ (before ++ x2 ∷ []) ++ rs2 → v.symbols ≡ ys → Lists d2 m v → Settled DoneThen WaitsThen (before ++ x2 ∷ []) d2 (filter now ts2) ts2 m (staying es2 (map outcome es2)) (settle v es2 (map outcome es2))
 
       number : x.reference ≡ n
       number = (named t x w).1 ∙ k.0
 
-      by : (o : Outcome) → IsRight W2 ys now t x o → Rest → Settled D2 W2 before done (filter now (t ∷ ts2)) (t ∷ ts2) m (waiting_on x o (staying es2 (map outcome es2))) (settle (settle_one u x o) es2 (map outcome es2))
+      by : (o : Outcome) → IsRight WaitsThen ys now t x o → Rest → Settled DoneThen WaitsThen before done (filter now (t ∷ ts2)) (t ∷ ts2) m (waiting_on x o (staying es2 (map outcome es2))) (settle (settle_one u x o) es2 (map outcome es2))
       by o (ties y a q within f) rest =
           let v : Tables = tie u x.reference y in
           let refs : v.references ≡ (before ++ entry_of t ∷ []) ++ rs2 =
@@ -244,6 +244,6 @@ module _ (D D2 : Tie → Type 0) (W W2 : Tie → Pending → Type 0) (ys : List 
           shift_done before done (filter now (t ∷ ts2)) t (t ∷ ts2) (filter now ts2) m (staying es2 (map outcome es2)) (settle v es2 (map outcome es2)) (ap (λ b. cond b (t ∷ filter now ts2) (filter now ts2)) a)
           (more_done before (done ++ t ∷ []) (filter now ts2) t ts2 m (staying es2 (map outcome es2)) (settle v es2 (map outcome es2)) (done_now t a) (rest v (entry_of t) (done ++ t ∷ []) refs s lists))
       by o (goes_on c a w2) rest =
-          subst (λ l2. Settled D2 W2 before done l2 (t ∷ ts2) m (record x { lookup_scope = c } ∷ staying es2 (map outcome es2)) (settle u es2 (map outcome es2))) (ap (λ b. cond b (t ∷ filter now ts2) (filter now ts2)) (sym a))
+          subst (λ l2. Settled DoneThen WaitsThen before done l2 (t ∷ ts2) m (record x { lookup_scope = c } ∷ staying es2 (map outcome es2)) (settle u es2 (map outcome es2))) (ap (λ b. cond b (t ∷ filter now ts2) (filter now ts2)) (sym a))
           (more_open before done (filter now ts2) t (record x { lookup_scope = c }) ts2 m (staying es2 (map outcome es2)) (settle u es2 (map outcome es2)) w2
           (rest u (open_entry t) done (e ∙ push_references before (open_entry t) rs2) s h))

@@ -42,10 +42,10 @@ tracks-push D W ts rs es t e none w = is_open w none
 tracks-push D W ts rs es t e (is_done {t = u} {ts = ts2} {rs = rs2} {es = es2} d h) w = is_done d (tracks-push D W ts2 rs2 es2 t e h w)
 tracks-push D W ts rs es t e (is_open {t = u} {e = f} {ts = ts2} {rs = rs2} {es = es2} v h) w = is_open v (tracks-push D W ts2 rs2 es2 t e h w)
 
-pub tracks_map : (D D2 : Tie → Type 0) (W W2 : Tie → Pending → Type 0) (ts : List Tie) (rs : List Reference) (es : List Pending) → ((t : Tie) → D t → D2 t) → ((t : Tie) (e : Pending) → W t e → W2 t e) → Tracks D W ts rs es → Tracks D2 W2 ts rs es
-tracks_map D D2 W W2 ts rs es f g none = none
-tracks_map D D2 W W2 ts rs es f g (is_done {t = u} {ts = ts2} {rs = rs2} {es = es2} d h) = is_done (f u d) (tracks_map D D2 W W2 ts2 rs2 es2 f g h)
-tracks_map D D2 W W2 ts rs es f g (is_open {t = u} {e = x} {ts = ts2} {rs = rs2} {es = es2} v h) = is_open (g u x v) (tracks_map D D2 W W2 ts2 rs2 es2 f g h)
+pub tracks_map : (D DoneThen : Tie → Type 0) (W WaitsThen : Tie → Pending → Type 0) (ts : List Tie) (rs : List Reference) (es : List Pending) → ((t : Tie) → D t → DoneThen t) → ((t : Tie) (e : Pending) → W t e → WaitsThen t e) → Tracks D W ts rs es → Tracks DoneThen WaitsThen ts rs es
+tracks_map D DoneThen W WaitsThen ts rs es f g none = none
+tracks_map D DoneThen W WaitsThen ts rs es f g (is_done {t = u} {ts = ts2} {rs = rs2} {es = es2} d h) = is_done (f u d) (tracks_map D DoneThen W WaitsThen ts2 rs2 es2 f g h)
+tracks_map D DoneThen W WaitsThen ts rs es f g (is_open {t = u} {e = x} {ts = ts2} {rs = rs2} {es = es2} v h) = is_open (g u x v) (tracks_map D DoneThen W WaitsThen ts2 rs2 es2 f g h)
 
 pub tracks_length : (D : Tie → Type 0) (W : Tie → Pending → Type 0) (ts : List Tie) (rs : List Reference) (es : List Pending) → Tracks D W ts rs es → length rs ≡ length ts
 tracks_length D W ts rs es none = refl
