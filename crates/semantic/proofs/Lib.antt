@@ -16,3 +16,4 @@ pub mod Waiting
 pub mod Settling
 pub mod Bridging
 pub mod Outside
+pub mod Counting

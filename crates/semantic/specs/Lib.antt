@@ -17,3 +17,5 @@ pub mod Each
 pub mod Named
 pub mod Conflicting
 pub mod Numbered
+pub mod Tally
+pub mod FreeReference

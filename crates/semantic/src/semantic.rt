@@ -1,12 +1,20 @@
 //! The result of an analysis.
 
-ghost use Rattle.std.specs.Prelude.{◌≡◌, nat_eq};
+ghost use Rattle.std.specs.Prelude.{◌≡◌, ◌==◌, ◌<◌, ◌-◌, ◌^◌, length, map, min, nat_eq, not};
 ghost use Rattle.std.specs.Map.{lookup};
+ghost use Rattle.std.specs.Option.{option_map, is_some};
+ghost use Rattle.scoping.specs.Reading.{reference_of, symbol_of, uses_of};
+ghost use Rattle.semantic_tree.specs.Children.{node_count};
+ghost use Rattle.semantic_tree.specs.CommentIter.{comments_left, shown_comment};
+ghost use Rattle.semantic_tree.specs.Comments.{comments_within, comment_at};
+ghost use Rattle.semantic.specs.FreeReference.{is_free_at};
 
-use scoping::{NodeTables, Scoping};
+use crate::global_reference::IsGlobalReference;
+use crate::stats::Stats;
+use scoping::{NodeTables, ReferencesIter, Scoping};
 use semantic_diagnostics::Diagnostics;
-use semantic_syntax::{NodeId, ReferenceId, ScopeId, SourceType, SymbolId};
-use semantic_tree::{Comment, Program};
+use semantic_syntax::{NodeId, ReferenceId, ScopeId, SourceType, Span, SymbolId};
+use semantic_tree::{AstKind, Comment, CommentsRange, Program, comment};
 
 /// The tables of a program.
 #[derive(Drop)]
@@ -14,6 +22,7 @@ pub struct Semantic<'a> {
     pub(crate) program: &'a Program,
     pub(crate) scoping: Scoping,
     pub(crate) tables: NodeTables,
+    pub(crate) irregular_whitespaces: Vec<Span>,
 }
 
 /// The tables of a program, and what is wrong in it.
@@ -21,6 +30,13 @@ pub struct Semantic<'a> {
 pub struct SemanticBuilderReturn<'a> {
     pub semantic: Semantic<'a>,
     pub diagnostics: Diagnostics,
+}
+
+/// A count of table entries, whose ids go up to `u32::MAX`.
+fn count_of(entries: usize) -> u32
+    ensures { result ≡ min entries (2 ^ 32 - 1) }
+{
+    entries.min(u32::MAX as usize) as u32
 }
 
 impl<'a> Semantic<'a> {
@@ -88,5 +104,88 @@ impl<'a> Semantic<'a> {
         ensures { result ≡ lookup (nat_eq node) self.now.tables.references }
     {
         self.tables.reference_of(node)
+    }
+    /// The comments that start at one byte or after it, and before another, in order.
+    pub fn comments_range(&self, start: u32, end: u32) -> CommentsRange<'_>
+        ensures { comments_left result ≡ comments_within start end self.now.program.now.comments }
+    {
+        comment::comments_range(self.comments(), start, end)
+    }
+
+    /// Whether a comment starts in the span.
+    pub fn has_comments_between(&self, span: Span) -> bool
+        ensures { result ≡ not (length (comments_within span.start span.end self.now.program.now.comments) == 0) }
+    {
+        comment::has_comments_between(self.comments(), span)
+    }
+
+    /// Whether the byte is in a comment.
+    pub fn is_inside_comment(&self, pos: u32) -> bool
+        ensures { result ≡ is_some (comment_at pos self.now.program.now.comments) }
+    {
+        comment::is_inside_comment(self.comments(), pos)
+    }
+
+    /// The comment that the byte is in, if any.
+    pub fn get_comment_at(&self, pos: u32) -> Option<&Comment>
+        ensures { option_map shown_comment result ≡ comment_at pos self.now.program.now.comments }
+    {
+        comment::get_comment_at(self.comments(), pos)
+    }
+
+    /// Notes where the source has irregular white space, in place of what was noted.
+    pub fn set_irregular_whitespaces(&mut self, spans: Vec<Span>)
+        ensures { self.new ≡ record self.old { irregular_whitespaces = spans } }
+    {
+        self.irregular_whitespaces = spans;
+    }
+
+    /// Where the source has irregular white space, as it was noted. After the analysis none is.
+    pub fn irregular_whitespaces(&self) -> &[Span]
+        ensures { result.now ≡ self.now.irregular_whitespaces.items }
+    {
+        self.irregular_whitespaces.as_slice()
+    }
+
+    /// The scope to which a symbol belongs.
+    pub fn symbol_scope(&self, s: SymbolId) -> ScopeId
+        requires { s < length self.now.scoping.symbols }
+        ensures { result ≡ (symbol_of self.now.scoping s).scope }
+    {
+        self.scoping.symbol_scope_id(s)
+    }
+
+    /// The references of a symbol, in order.
+    pub fn symbol_references(&self, s: SymbolId) -> ReferencesIter<'_>
+        requires { s < length self.now.scoping.symbols }
+        ensures { result ≡ map (reference_of self.now.scoping) (uses_of self.now.scoping s) }
+    {
+        self.scoping.get_resolved_references(s)
+    }
+
+    /// Whether the node is an identifier reference whose reference has no symbol. One whose reference the tables
+    /// don't hold is none.
+    pub fn is_reference_to_global_variable(&self, ident: AstKind<'_>) -> bool
+        ensures { result ≡ is_free_at self.now.scoping self.now.tables ident.entry.node.now }
+    {
+        ident.is_global_reference(&self.scoping, &self.tables)
+    }
+
+    /// The nodes of the program, and the scopes, symbols and references that the tables have now, each at most
+    /// `u32::MAX`.
+    pub fn stats(&self) -> Stats
+        ensures { result ≡ record {
+          nodes = node_count self.now.program.now.root;
+          scopes = min (length self.now.scoping.scopes) (2 ^ 32 - 1);
+          symbols = min (length self.now.scoping.symbols) (2 ^ 32 - 1);
+          references = min (length self.now.scoping.references) (2 ^ 32 - 1);
+        } }
+    {
+        Stats::new(
+            self.program.node_count(),
+            count_of(self.scoping.scopes_len()),
+            count_of(self.scoping.symbols_len()),
+            count_of(self.scoping.references_len()),
+        )
     }
 }

@@ -348,6 +348,7 @@ impl<'a> Walk<'a> {
                 program,
                 scoping: declared.scoping,
                 tables: declared.tables,
+                irregular_whitespaces: Vec::new(declared.alloc),
             },
             diagnostics,
         })

@@ -1,0 +1,115 @@
+//! How large the tables of a program are.
+
+ghost use Rattle.std.specs.Prelude.{◌≡◌, ◌+◌, ◌<◌, ◌^◌, cond};
+ghost use Rattle.semantic_kinds.specs.declared.role.Role.TheVariants as role;
+ghost use Rattle.semantic_tree.specs.Children.{single, node_count};
+ghost use Rattle.semantic_model.specs.Inside.{opens};
+ghost use Rattle.semantic.specs.Tally.{is_symbol, is_reference, how_many, increased, IsCount, AddsCount, IsWithin, IsAccurate};
+
+use crate::inside::opens;
+use semantic_tree::{AstType, Node, Program};
+
+/// How many nodes, scopes, symbols and references there are.
+#[derive(Clone, Copy, PartialEq, Eq, Debug, Default)]
+pub struct Stats {
+    pub nodes: u32,
+    pub scopes: u32,
+    pub symbols: u32,
+    pub references: u32,
+}
+
+/// Whether a node of the kind may declare a symbol: it is a binding identifier or an enum member.
+fn is_symbol(kind: AstType) -> bool
+    ensures { result ≡ is_symbol kind }
+{
+    matches!(kind, AstType::BindingIdentifier | AstType::TSEnumMember)
+}
+
+/// A number and so many thousandths of it, rounded down, and at most `u32::MAX`.
+fn increased(n: u32, thousandths: u32) -> u32
+    ensures { result ≡ increased thousandths n }
+{
+    let whole = u128::from(n) * (1000 + u128::from(thousandths)) / 1000;
+    whole.min(u128::from(u32::MAX)) as u32
+}
+
+impl Stats {
+    /// These counts.
+    pub fn new(nodes: u32, scopes: u32, symbols: u32, references: u32) -> Self
+        ensures { result ≡ record { nodes = nodes; scopes = scopes; symbols = symbols; references = references } }
+    {
+        Stats {
+            nodes,
+            scopes,
+            symbols,
+            references,
+        }
+    }
+
+    /// The nodes of a program, the scopes that they open, the identifiers that may declare a symbol, enum members
+    /// among them, and the identifier references. The program has no more symbols than this.
+    pub fn count(p: &Program) -> Stats
+        ensures { IsCount result (single role.Root p.now.root) }
+    {
+        let mut stats = Stats::default();
+        let _count = p.node_count();
+        stats.add_tree(p.root().node());
+        stats
+    }
+
+    /// Counts one node of the kind.
+    fn add_kind(&mut self, kind: AstType)
+        requires room { self.old.nodes + 1 < 2 ^ 32 }
+        requires within { IsWithin self.old }
+        ensures within { IsWithin self.new }
+        ensures nodes { self.new.nodes ≡ self.old.nodes + 1 }
+        ensures scopes { self.new.scopes ≡ self.old.scopes + cond (opens kind) 1 0 }
+        ensures symbols { self.new.symbols ≡ self.old.symbols + cond (is_symbol kind) 1 0 }
+        ensures references { self.new.references ≡ self.old.references + cond (is_reference kind) 1 0 }
+    {
+        self.nodes += 1;
+        self.scopes += u32::from(opens(kind));
+        self.symbols += u32::from(is_symbol(kind));
+        self.references += u32::from(kind == AstType::IdentifierReference);
+    }
+
+    /// Counts a node and all that is below it.
+    #[tactic(auto, using(semantic_tree::specs::Falls::below, crate::proofs::Counting::child_fits))]
+    fn add_tree(&mut self, node: &Node)
+        requires room { self.old.nodes + node_count node.now < 2 ^ 32 }
+        requires within { IsWithin self.old }
+        ensures within { IsWithin self.new }
+        ensures adds { AddsCount self.old self.new (single role.Root node.now) }
+    {
+        self.add_kind(node.kind);
+        for (_, child) in node.children.as_slice() {
+            self.add_tree(child);
+        }
+    }
+
+    /// Scopes, symbols and references with so many thousandths more, rounded down, and at most `u32::MAX` each.
+    pub fn increase_by(self, thousandths: u32) -> Stats
+        ensures { result ≡ record self {
+          scopes = increased thousandths self.scopes;
+          symbols = increased thousandths self.symbols;
+          references = increased thousandths self.references;
+        } }
+    {
+        Stats {
+            nodes: self.nodes,
+            scopes: increased(self.scopes, thousandths),
+            symbols: increased(self.symbols, thousandths),
+            references: increased(self.references, thousandths),
+        }
+    }
+
+    /// Attests that the counts are the actual ones, where symbols may be fewer than counted.
+    pub fn assert_accurate(self, actual: Stats)
+        requires { IsAccurate self actual }
+    {
+        prove!(self.nodes == actual.nodes);
+        prove!(self.scopes == actual.scopes);
+        prove!(actual.symbols <= self.symbols);
+        prove!(self.references == actual.references);
+    }
+}
