@@ -16,4 +16,5 @@ pub mod Waiting
 pub mod Settling
 pub mod Bridging
 pub mod Outside
+pub mod Innermost
 pub mod Counting

@@ -19,3 +19,4 @@ pub mod Conflicting
 pub mod Numbered
 pub mod Tally
 pub mod FreeReference
+pub mod LabelStack

@@ -1,0 +1,102 @@
+//! Which labels no jump names.
+
+ghost use Rattle.std.specs.Prelude.{◌≡◌, ◌<◌, [], length, OnOk, OnErr};
+ghost use Rattle.scoping.specs.Names.{name_of};
+ghost use Rattle.semantic.specs.LabelStack.{label_seen, labels_seen, no_labels, entered, jumped, left, is_of};
+
+use semantic_syntax::{Ident, NodeId};
+use std::alloc::{AllocError, Global};
+
+/// A labelled statement around the place where the walk stands.
+#[derive(Clone, Copy)]
+pub struct LabeledScope<'a> {
+    pub name: Ident<'a>,
+    /// Whether a jump names it.
+    pub used: bool,
+    pub node_id: NodeId,
+}
+
+/// The labelled statements around the place where a walk stands, and those that it left and no jump names. A jump
+/// names the innermost of its label, also across functions.
+#[derive(Drop)]
+pub struct UnusedLabels<'a> {
+    /// The labelled statements around the place, innermost last.
+    pub stack: Vec<LabeledScope<'a>>,
+    /// The labelled statements that no jump names, in the order in which they were left.
+    pub labels: Vec<NodeId>,
+}
+
+impl LabeledScope<'_> {
+    /// Whether the statement has the label.
+    #[tactic(auto, using(semantic_tree::proofs::SameTexts::texts))]
+    fn is_of(&self, name: Ident<'_>) -> bool
+        ensures { result ≡ is_of (name_of name.entry) (label_seen self.now) }
+    {
+        self.name.as_str() == name.as_str()
+    }
+}
+
+impl<'a> UnusedLabels<'a> {
+    /// No labels.
+    pub fn new(alloc: Global) -> Self
+        ensures { labels_seen result ≡ no_labels }
+    {
+        UnusedLabels {
+            stack: Vec::new(alloc),
+            labels: Vec::new(alloc),
+        }
+    }
+
+    /// Comes to a labelled statement. After want of memory all is as before.
+    pub fn add(&mut self, name: Ident<'a>, node: NodeId) -> Result<(), AllocError>
+        ensures ok { OnOk result (labels_seen self.new ≡ entered (labels_seen self.old) (name_of name.entry) node) }
+        ensures err { OnErr result (labels_seen self.new ≡ labels_seen self.old) }
+    {
+        let label = LabeledScope {
+            name,
+            used: false,
+            node_id: node,
+        };
+        match self.stack.push(label) {
+            Ok(()) => Ok(()),
+            Err(_) => Err(AllocError),
+        }
+    }
+
+    /// A jump names the label: the innermost statement of that label, if there is one, is used.
+    pub fn reference(&mut self, name: Ident<'_>)
+        ensures { labels_seen self.new ≡ jumped (labels_seen self.old) (name_of name.entry) }
+    {
+        let mut place = self.stack.len();
+        while place > 0 {
+            place -= 1;
+            if self.stack[place].is_of(name) {
+                self.stack[place].used = true;
+                return;
+            }
+        }
+    }
+
+    /// Leaves the innermost labelled statement, and lists it if no jump names it. After want of memory all is as
+    /// before.
+    pub fn mark_unused(&mut self) -> Result<(), AllocError>
+        requires { 0 < length self.old.stack.items }
+        ensures ok { OnOk result (labels_seen self.new ≡ left (labels_seen self.old)) }
+        ensures err { OnErr result (labels_seen self.new ≡ labels_seen self.old) }
+    {
+        if let Some(label) = self.stack.last() {
+            if !label.used {
+                self.labels.push(label.node_id)?;
+            }
+        }
+        let _left = self.stack.pop();
+        Ok(())
+    }
+
+    /// Attests that the walk is in no labelled statement.
+    pub fn assert_empty(&self)
+        requires { self.now.stack.items ≡ [] }
+    {
+        prove!(self.stack.is_empty());
+    }
+}
