@@ -4,7 +4,7 @@ ghost use Rattle.std.specs.Prelude.{◌≡◌, ◌+◌, ◌<◌, ◌^◌, cond};
 ghost use Rattle.semantic_kinds.specs.declared.role.Role.TheVariants as role;
 ghost use Rattle.semantic_tree.specs.Children.{single, node_count};
 ghost use Rattle.semantic_model.specs.Inside.{opens};
-ghost use Rattle.semantic.specs.Tally.{is_symbol, is_reference, how_many, increased, IsCount, AddsCount, IsWithin, IsAccurate};
+ghost use Rattle.semantic.specs.Tally.{is_symbol, is_reference, increased, IsCount, AddsCount, IsWithin, IsAccurate};
 
 use crate::inside::opens;
 use semantic_tree::{AstType, Node, Program};
