@@ -18,8 +18,8 @@ use Rattle.semantic_tree.specs.declared.node.Node.{Node}
 use Rattle.semantic_tree.proofs.Fits.{drop_here}
 use Rattle.semantic_model.specs.Nodes.{is_role_of}
 use Rattle.semantic_model.specs.Names.{binding_roles, bound_below, bound_names}
-use Rattle.semantic.specs.declared.namesakes.Openers.{Openers}
-use Rattle.semantic.specs.WrittenNames.{Written, is_written, Adds, openers_at, names_in, written_below, written_in, written_of}
+use Rattle.walk_model.specs.WrittenNames.{Openers, Written, is_written, openers_at, names_in, written_below, written_in}
+use Rattle.semantic.specs.WrittenNames.{Adds, written_of}
 use Rattle.semantic.proofs.Closing.{drop-past}
 
 or-assoc : (a b c : Bool) → ((a || b) || c) ≡ (a || (b || c))

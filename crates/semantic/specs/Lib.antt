@@ -20,3 +20,4 @@ pub mod Numbered
 pub mod Tally
 pub mod FreeReference
 pub mod LabelStack
+pub mod AtPlace

@@ -13,11 +13,16 @@ use Rattle.semantic_model.specs.Cursor.{way_of}
 use Rattle.semantic_model.specs.ScopeKind.{flags_of_kind, strict_if}
 use Rattle.walk_model.specs.Standing.{Standing}
 use Rattle.walk_model.specs.Opens.{refer_to, open_in}
+use Rattle.walk_model.specs.WrittenNames.{Written}
 use Rattle.semantic.specs.declared.walk.Walk.TheInside.{Inside}
 
 pub record Walker : Type 0 where
   pub made : Standing
   pub source_type : SourceType
+  -- how many nodes the program has
+  pub node_count : ℕ
+  -- past which names block functions don't move
+  pub namesakes : List Written
   -- the nodes from the root to the one that is visited
   pub path : List Node
   -- the scope where it stands
@@ -30,6 +35,8 @@ abbrev pub walker : Inside → Walker
 walker w = record {
   made = w.declared;
   source_type = w.source_type;
+  node_count = w.node_count;
+  namesakes = w.namesakes;
   path = map shown w.path.items;
   current = w.current_scope;
   cursor = w.cursor.bits;

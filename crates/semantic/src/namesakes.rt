@@ -9,7 +9,8 @@ ghost use Rattle.semantic_kinds.specs.declared.kind.AstType.TheVariants.{Binding
 ghost use Rattle.semantic_kinds.specs.declared.role.Role.TheVariants.{Pattern as pattern_role};
 ghost use Rattle.semantic_model.specs.Nodes.{is, child_of, holds};
 ghost use Rattle.semantic.specs.Routes.{IsRoute};
-ghost use Rattle.semantic.specs.WrittenNames.{is_written, Adds, openers_at, is_known_inside, opener_of_names, is_lexical, is_sloppy, counts_as, names_in, written_by, written_in, names_written};
+ghost use Rattle.walk_model.specs.WrittenNames.{is_written, openers_at, is_known_inside, opener_of_names, is_lexical, is_sloppy, counts_as, names_in, written_by, written_in, names_written};
+ghost use Rattle.semantic.specs.WrittenNames.{Adds, openers_of};
 
 use crate::declaring::binds_under;
 use crate::inside::{is_inside, is_parameter_decorator};
@@ -34,7 +35,8 @@ pub struct Namesakes {
 impl Model for Namesakes {
     ghost use Rattle.std.specs.Prelude.{List, length, map, ◌<◌, All};
     ghost use Rattle.std.specs.Coded.{codes};
-    ghost use Rattle.semantic.specs.WrittenNames.{Written, written_of};
+    ghost use Rattle.walk_model.specs.WrittenNames.{Written};
+    ghost use Rattle.semantic.specs.WrittenNames.{written_of};
 
     ghost Value = { List Written };
 
@@ -103,7 +105,7 @@ fn counts(kind: AstKind<'_>, parent: Option<AstKind<'_>>) -> bool
 
 /// The node that opens the scope where the names of a node are declared.
 fn opener_of_names(kind: AstKind<'_>, openers: &Openers) -> NodeId
-    ensures { result ≡ opener_of_names kind.entry.node.now openers.now }
+    ensures { result ≡ opener_of_names kind.entry.node.now (openers_of openers.now) }
 {
     if is_known_inside(kind) {
         kind.node_id()
@@ -114,7 +116,7 @@ fn opener_of_names(kind: AstKind<'_>, openers: &Openers) -> NodeId
 
 /// The openers for a child in the role.
 fn openers_in_child(kind: AstKind<'_>, role: Role, openers: &Openers) -> Openers
-    ensures { result ≡ openers_at kind.entry.node.now role openers.now }
+    ensures { openers_of result ≡ openers_at kind.entry.node.now role (openers_of openers.now) }
 {
     if is_inside(kind.ty(), role) {
         Openers {
@@ -226,7 +228,7 @@ impl Namesakes {
         parent: Option<AstKind<'_>>,
         openers: &Openers,
     ) -> Result<(), AllocError>
-        ensures { OnOk result (Adds self.old self.new (written_by kind.entry.node.now (option_map shown parent.entry) openers.now)) }
+        ensures { OnOk result (Adds self.old self.new (written_by kind.entry.node.now (option_map shown parent.entry) (openers_of openers.now))) }
     {
         if counts(kind, parent) {
             self.note(kind, opener_of_names(kind, openers))?;
@@ -242,7 +244,7 @@ impl Namesakes {
         parent: Option<AstKind<'_>>,
         openers: &Openers,
     ) -> Result<(), AllocError>
-        ensures { OnOk result (Adds self.old self.new (written_in kind.entry.node.now (option_map shown parent.entry) openers.now)) }
+        ensures { OnOk result (Adds self.old self.new (written_in kind.entry.node.now (option_map shown parent.entry) (openers_of openers.now))) }
     {
         self.note_node(kind, parent, openers)?;
         for (role, child) in kind.node().children.as_slice() {

@@ -29,23 +29,7 @@ use Rattle.walk_model.specs.Walks.{act, act_all, prepare, after, after_all}
 use Rattle.walk_model.proofs.Acted.{Kept, settle_keeps}
 use Rattle.walk_model.proofs.Nested.{Descends}
 use Rattle.walk_model.proofs.Untouched.{Untouched, act_untouched}
-
--- flags other than `DirectEval`
-abbrev pub IsOther : ℕ → Type 0
-IsOther bits = bit_and flag.DirectEval.bits bits ≡ 0
-
--- the scope has a row, with its parent, node and flags; `DirectEval` may be among them
-pub record ShowsScope (t : Tables) (s : OpenScope) (around : List OpenScope) : Type 0 where
-  pub within : s.number < length t.scopes
-  pub parent : (scope_of t s.number).parent ≡ number_of around
-  pub node : (scope_of t s.number).node ≡ s.opener
-  pub flags : (bits : ℕ) → IsOther bits → meets (scope_of t s.number).flags.bits bits ≡ meets s.flags bits
-  -- the scope around it has a smaller number
-  pub falls : IfSome (number_of around) (λ p. p < s.number)
-
-abbrev pub ShowsChain : Tables → List OpenScope → Type 0
-ShowsChain t [] = Unit {0}
-ShowsChain t (s ∷ ss) = ShowsScope t s ss × ShowsChain t ss
+pub use Rattle.walk_model.specs.Shown.{IsOther, ShowsScope, ShowsChain, ShowsOwn}
 
 -- the rows stay, but for `DirectEval`; more may come
 pub record KeepsRows (t u : Tables) : Type 0 where
@@ -226,11 +210,6 @@ opening_chain ds w p s e h = chain_kept (open_scope w p s).tables (after ds w (o
 pub outside_shown : (t : Tables) (chain : List OpenScope) → ShowsChain t chain → ShowsChain t (outside chain)
 outside_shown t [] h = tt
 outside_shown t (s ∷ ss) h = h.1
-
--- the own scope of a place, if it is open, is shown within the place's chain
-abbrev pub ShowsOwn : Tables → Place → Option OpenScope → Type 0
-ShowsOwn t p None = Unit {0}
-ShowsOwn t p (Some s) = ShowsChain t (s ∷ p.chain)
 
 pub own_kept : (t u : Tables) (p : Place) (own : Option OpenScope) → KeepsRows t u → ShowsOwn t p own → ShowsOwn u p own
 own_kept t u p None k h = tt

@@ -29,6 +29,8 @@ use Rattle.semantic_model.proofs.Orders.{HasForm}
 use Rattle.semantic_model.proofs.Shape.{has_form}
 use Rattle.walk_model.proofs.Routes.{HasVar}
 use Rattle.walk_model.proofs.Shapes.{HoldParts, holds_below, tree_holds}
+pub use Rattle.walk_model.specs.Shown.{IsGrounded}
+pub use Rattle.walk_model.specs.Seated.{IsStepGrounded, AllGrounded}
 
 -- a list of parameters doesn't stand in a program itself
 abbrev pub not_in_program : AstType → Role → AstType → List ℕ → Bool
@@ -65,21 +67,6 @@ program_parts k = elim (cases_Bool (same_kind k kind.Program)) [
 
 abbrev holds_parameters : AstType → Bool
 holds_parameters k = same_kind k kind.FormalParameters || is_parameter k
-
--- the place stands in a function's scope, or the like, or is the root
-abbrev pub IsGrounded : Place → Type 0
-IsGrounded p = HasVar p.chain ⊎ (p.node.kind ≡ kind.Program)
-
-abbrev pub IsStepGrounded : Step → Type 0
-IsStepGrounded (entering p) = IsGrounded p
-IsStepGrounded (opening p s) = IsGrounded p
-IsStepGrounded (header_ending p s) = Unit {0}
-IsStepGrounded (closing p s) = Unit {0}
-IsStepGrounded (leaving p) = Unit {0}
-
-abbrev pub AllGrounded : List Step → Type 0
-AllGrounded [] = Unit {0}
-AllGrounded (s ∷ more) = IsStepGrounded s × AllGrounded more
 
 grounded-append : (xs ys : List Step) → AllGrounded xs → AllGrounded ys → AllGrounded (xs ++ ys)
 grounded-append [] ys h k = k

@@ -20,6 +20,7 @@ use Rattle.walk_model.proofs.Nested.{Descends, descends_more}
 use Rattle.walk_model.proofs.ChainRows.{chain_descends}
 use Rattle.walk_model.proofs.Turned.{StandsAt}
 use Rattle.walk_model.proofs.Starts.{WaitsBelow, IsSound, FirstBelow, first_kept, GoesOn, opening_goes, opening_first, StepsFrom, steps_go}
+pub use Rattle.walk_model.specs.Waits.{IsHeader, HoldsAt}
 
 pub from-append : (c n : ℕ) (xs ys : List Step) → StepsFrom c n xs → StepsFrom c (n + openings xs) ys → StepsFrom c n (xs ++ ys)
 from-append c n [] ys h k = subst (λ m. StepsFrom c m ys) (omega arith) k
@@ -159,19 +160,9 @@ pub node_goes : (ds : List Declaration) (start n : ℕ) (w : Standing) (p : Plac
 node_goes ds start n w p own z h l s =
     steps_go ds n start n w (steps_of p n) (from_node n n p z (omega arith) (subst (λ m. Descends m p.chain) h.count (chain_descends w.tables p.chain h.chain))) h.count s (first_all n start w h.count l s)
 
--- the header of a node: what waited when its scope opened, as far as it is open
-abbrev pub IsHeader : Option OpenScope → ℕ → Standing → Type 0
-IsHeader None start w = start ≤ length w.waiting
-IsHeader (Some s) start w = FirstBelow s.number start w
-
 pub header_enough : (own : Option OpenScope) (start : ℕ) (w : Standing) → IsHeader own start w → start ≤ length w.waiting
 header_enough None start w h = h
 header_enough (Some s) start w h = h.enough
-
--- between two children: all is sound, and the header is kept
-pub record HoldsAt (w : Standing) (own : Option OpenScope) (start : ℕ) : Type 0 where
-  pub sound : IsSound w
-  pub header : IsHeader own start w
 
 holds_on : (w v : Standing) (own : Option OpenScope) (start : ℕ) → IsHeader own start w → GoesOn start w v → HoldsAt v own start
 holds_on w v None start h g = record { sound = g.sound; header = g.before.enough }

@@ -18,6 +18,7 @@ use Rattle.semantic_model.specs.Event.{is_barred, staying, placed_by}
 use Rattle.semantic_model.proofs.Clauses.{second_holds}
 use Rattle.walk_model.proofs.Nested.{Descends}
 use Rattle.walk_model.proofs.Reached.{ArePassed}
+pub use Rattle.walk_model.specs.Shown.{HasVar}
 
 -- the scopes of a place; outside of all it stands in none that counts
 abbrev pub grounded : List OpenScope → List OpenScope
@@ -88,10 +89,6 @@ outward_is test chain how l = go (first_with test chain) refl
     go : (o : Option OpenScope) → first_with test chain ≡ o → IsRoute chain how (route_from chain (passed_before test chain) o)
     go None e = bare chain
     go (Some s) e = let p : Parted test chain s = parted test chain s e in record { rest = p.rest; is = solid chain (passed_before test chain) s p.rest p.is; leaves = l (passed_before test chain) }
-
--- some scope of the chain is a function's, or alike
-abbrev pub HasVar : List OpenScope → Type 0
-HasVar chain = first_with is_var chain ≡ None → ⊥
 
 pub not_var : (p : Place) → is_block_function p ≡ true → is_var (innermost p.chain) ≡ false
 not_var p h = go (is_var (innermost p.chain)) (is_clause (innermost p.chain)) (second_holds (not (is_special p.node) && not (is_typescript p.source_type) && not (is_strict p.chain)) (not (is_var (innermost p.chain) || is_clause (innermost p.chain))) h)

@@ -1,5 +1,5 @@
 -- Below the root each node stands in some scope, and none is a program: what a recursion over a program's tree carries along.
-use Rattle.std.proofs.Common.{◌≡◌, ℕ, ◌+◌, List, [], ◌∷◌, ◌++◌, Option, Some, None, Bool, true, false, cond, ◌&&◌, not, inl, inr, refl, subst}
+use Rattle.std.proofs.Common.{sym, ◌∙◌, ◌≡◌, ℕ, ◌+◌, List, [], ◌∷◌, ◌++◌, Option, Some, None, Bool, true, false, cond, ◌&&◌, not, inl, inr, refl, subst}
 use Rattle.std.specs.List.{list_all}
 use Rattle.std.proofs.lemmas.Bool.{cases_Bool}
 use Rattle.semantic_kinds.specs.Kinds.{same_kind}
@@ -25,6 +25,8 @@ use Rattle.walk_model.proofs.Routes.{HasVar}
 use Rattle.walk_model.proofs.Shapes.{HoldParts, holds_below, tree_holds}
 use Rattle.walk_model.proofs.Grounds.{IsGrounded, AllGrounded, all_grounded}
 use Rattle.walk_model.proofs.RootSteps.{root_scope}
+pub use Rattle.walk_model.specs.Seated.{IsSeated, IsSeat}
+use Rattle.walk_model.specs.Seated.{none_is_program}
 
 abbrev pub no_program : AstType → Role → AstType → List ℕ → Bool
 no_program k r k2 text = not (same_kind k2 kind.Program)
@@ -57,17 +59,6 @@ grounded_left (x ∷ xs) ys h = (h.0, grounded_left xs ys h.1)
 grounded_right : (xs ys : List Step) → AllGrounded (xs ++ ys) → AllGrounded ys
 grounded_right [] ys h = h
 grounded_right (x ∷ xs) ys h = grounded_right xs ys h.1
-
--- what is left of a place: its steps are grounded, and no program is among its nodes
-pub record IsSeated (p : Place) (own : Option OpenScope) (n cursor : ℕ) (f : Forest) : Type 0 where
-  pub grounded : AllGrounded (steps_below p own n cursor f)
-  pub free : holds_below no_program p.node.kind f ≡ true
-
--- a node below the root: it stands in some scope, is no program, and what is below it is seated too
-pub record IsSeat (p : Place) (n : ℕ) : Type 0 where
-  pub var : HasVar p.chain
-  pub other : p.node.kind ≡ kind.Program → ⊥
-  pub below : IsSeated p None n (on_entering p.node.kind p.cursor) p.node.children
 
 -- it stands in some scope
 pub stands_in_scope : (chain : List OpenScope) → HasVar chain → chain ≡ [] → ⊥
@@ -105,20 +96,20 @@ first_seated p own n cursor child rest h =
     let es : List Step = ending_after p child.0 scope (forest_of rest) in
     let ws : List Step = steps_below p scope (next + cond (opens child.1.kind) 1 0 + scopes_in child.1.children) (cursor_past p child.0 cursor place) (forest_of rest) in
     let mine : AllGrounded zs = grounded_right xs zs (grounded_left (xs ++ zs) es (grounded_left (xs ++ zs ++ es) ws h.grounded)) in
-    let free_here : no_program p.node.kind child.0 child.1.kind child.1.text ≡ true = first_holds (no_program p.node.kind child.0 child.1.kind child.1.text) (holds_below no_program child.1.kind child.1.children && holds_below no_program p.node.kind (forest_of rest)) h.free in
-    let free_both : (holds_below no_program child.1.kind child.1.children && holds_below no_program p.node.kind (forest_of rest)) ≡ true = second_holds (no_program p.node.kind child.0 child.1.kind child.1.text) (holds_below no_program child.1.kind child.1.children && holds_below no_program p.node.kind (forest_of rest)) h.free in
+    let free_here : not (same_kind child.1.kind kind.Program) ≡ true = first_holds (not (same_kind child.1.kind kind.Program)) (none_is_program child.1.children && none_is_program (forest_of rest)) h.free in
+    let free_both : (none_is_program child.1.children && none_is_program (forest_of rest)) ≡ true = second_holds (not (same_kind child.1.kind kind.Program)) (none_is_program child.1.children && none_is_program (forest_of rest)) h.free in
     record {
       here = record {
         var = grounded_var place (not_program child.1.kind free_here) mine.0;
         other = not_program child.1.kind free_here;
         below = record {
           grounded = grounded_left ys (leaving place ∷ []) mine.1;
-          free = first_holds (holds_below no_program child.1.kind child.1.children) (holds_below no_program p.node.kind (forest_of rest)) free_both;
+          free = first_holds (none_is_program child.1.children) (none_is_program (forest_of rest)) free_both;
         };
       };
       later = record {
         grounded = grounded_right (xs ++ zs ++ es) ws h.grounded;
-        free = second_holds (holds_below no_program child.1.kind child.1.children) (holds_below no_program p.node.kind (forest_of rest)) free_both;
+        free = second_holds (none_is_program child.1.children) (none_is_program (forest_of rest)) free_both;
       };
     }
 
@@ -131,6 +122,10 @@ root_grounded p cursor (tree r k span text marks below id after) e h =
     opens_first : steps_below p None 0 cursor (tree r k span text marks below id after) ≡ opening p (root_scope p) ∷ steps_below p (Some (root_scope p)) 1 cursor (tree r k span text marks below id after)
     opens_first = rw e refl
 
+none_below : (k : AstType) (f : Forest) → holds_below no_program k f ≡ none_is_program f
+none_below k nothing = refl
+none_below k (tree r k2 span text marks below id after) = λ i. not (same_kind k2 kind.Program) && (none_below k2 below i && none_below k after i)
+
 pub root_seated : (program : Tree) → first_fault program ≡ None → IsSeated (root_place program) (Some (root_scope (root_place program))) 1 (on_entering program.root.kind 0) program.root.children
 root_seated program h =
     let form : HasForm program = has_form program h in
@@ -138,7 +133,7 @@ root_seated program h =
     record {
       grounded = root_grounded (root_place program) (on_entering program.root.kind 0) program.root.children form.root
           (grounded_left (steps_below (root_place program) None 0 (on_entering program.root.kind 0) program.root.children) (leaving (root_place program) ∷ []) all.1);
-      free = tree_holds no_program (λ k. none_parts k (parts k) (none_of k)) program h;
+      free = sym (none_below program.root.kind program.root.children) ∙ tree_holds no_program (λ k. none_parts k (parts k) (none_of k)) program h;
     }
 
 pub root_is_program : (program : Tree) → first_fault program ≡ None → program.root.kind ≡ kind.Program

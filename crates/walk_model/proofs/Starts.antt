@@ -28,23 +28,7 @@ use Rattle.walk_model.proofs.Untouched.{Untouched, acts_untouched}
 use Rattle.walk_model.proofs.OpenedScopes.{entering_declares, opening_declares}
 use Rattle.walk_model.proofs.ChainRows.{settle_scopes, after_count}
 use Rattle.walk_model.proofs.ChainWays.{parent_as}
-
--- each parent has a smaller number than its scope
-abbrev pub ParentsFall : List Scope → Type 0
-ParentsFall es = (i : ℕ) → IfSome (slice_index_or es i no_scope).parent (λ p. p < i)
-
-abbrev pub WaitsBelow : ℕ → Pending → Type 0
-WaitsBelow n e = e.lookup_scope < n
-
--- parents fall, and each reference waits in a scope that exists
-pub record IsSound (w : Standing) : Type 0 where
-  pub falls : ParentsFall w.tables.scopes
-  pub waits : AllByRecursion (WaitsBelow (length w.tables.scopes)) w.waiting
-
--- so many references wait at least, and the first of them in scopes before the scope
-pub record FirstBelow (c start : ℕ) (w : Standing) : Type 0 where
-  pub enough : start ≤ length w.waiting
-  pub below : AllByRecursion (WaitsBelow c) (take start w.waiting)
+pub use Rattle.walk_model.specs.Waits.{ParentsFall, WaitsBelow, IsSound, FirstBelow}
 
 -- the first so many references that wait stay as they are
 pub record KeepsBefore (start : ℕ) (w v : Standing) : Type 0 where

@@ -15,6 +15,7 @@ use Rattle.semantic_model.proofs.Turns.{steps_turn, steps_end}
 use Rattle.walk_model.specs.Standing.{Standing}
 use Rattle.walk_model.specs.Walks.{after, after_all}
 use Rattle.walk_model.proofs.ChainRows.{KeepsRows, ShowsChain, ShowsOwn, own_kept, chain_kept, step_rows, steps_rows, opening_chain, child_shown, after_count}
+pub use Rattle.walk_model.specs.Recursion.{StandsAt}
 
 -- steps, and then others
 pub after-append : (ds : List Declaration) (w : Standing) (xs ys : List Step) → after_all ds w (xs ++ ys) ≡ after_all ds (after_all ds w xs) ys
@@ -71,12 +72,6 @@ count_ending ds w p r own rest = omega (arith, after_count ds w (ending_after p 
 
 pub count_below : (ds : List Declaration) (w : Standing) (p : Place) (own : Option OpenScope) (n cursor : ℕ) (f : Forest) → length (after_all ds w (steps_below p own n cursor f)).tables.scopes ≡ length w.tables.scopes + left_to_open own p + scopes_in f
 count_below ds w p own n cursor f = omega (arith, after_count ds w (steps_below p own n cursor f), opened_below p own n cursor f)
-
--- where the walk stands between two children of a place: so many scopes were opened, and the tables show those of the place and its own
-pub record StandsAt (w : Standing) (p : Place) (own : Option OpenScope) (n : ℕ) : Type 0 where
-  pub count : length w.tables.scopes ≡ n
-  pub chain : ShowsChain w.tables p.chain
-  pub shown : ShowsOwn w.tables p own
 
 pub stands_kept : (w v : Standing) (p : Place) (own : Option OpenScope) (n m : ℕ) → KeepsRows w.tables v.tables → length v.tables.scopes ≡ m → StandsAt w p own n → StandsAt v p own m
 stands_kept w v p own n m k e h = record { count = e; chain = chain_kept w.tables v.tables p.chain k h.chain; shown = own_kept w.tables v.tables p own k h.shown }

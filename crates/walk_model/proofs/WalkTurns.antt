@@ -23,26 +23,7 @@ use Rattle.walk_model.proofs.KeptStarts.{HoldsAt, start_at, holds_entering, hold
 use Rattle.walk_model.proofs.TurnParts.{within_at, child_at, around_at}
 use Rattle.walk_model.proofs.RootSteps.{root_scope, root_made, root_stands, root_holds}
 use Rattle.walk_model.proofs.Seats.{IsSeated, IsSeat, decorated_within, FirstSeated, first_seated, root_seated}
-
--- before a node below the root
-pub record IsReady (w : Standing) (p : Place) (n : ℕ) : Type 0 where
-  pub some : 0 < n
-  pub stands : StandsAt w p None n
-  pub sound : IsSound w
-  pub seat : IsSeat p n
-
--- where no own scope is open, the place stands in some scope
-abbrev pub OpensInside : Place → Option OpenScope → Type 0
-OpensInside p None = HasVar p.chain
-OpensInside p (Some s) = Unit {0}
-
--- between two children of a place, with those that are left
-pub record IsBetween (w : Standing) (p : Place) (own : Option OpenScope) (n cursor start : ℕ) (f : Forest) : Type 0 where
-  pub some : 0 < n
-  pub stands : StandsAt w p own n
-  pub holds : HoldsAt w own start
-  pub seated : IsSeated p own n cursor f
-  pub inside : OpensInside p own
+pub use Rattle.walk_model.specs.Recursion.{IsReady, OpensInside, IsBetween}
 
 -- once a node is entered, its children are left
 pub ready_entered : (ds : List Declaration) (w : Standing) (p : Place) (n start : ℕ) → start ≤ length w.waiting → IsReady w p n → IsBetween (after ds w (entering p)) p None n (on_entering p.node.kind p.cursor) start p.node.children

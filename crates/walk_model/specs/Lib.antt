@@ -7,3 +7,9 @@ pub mod Opens
 pub mod Walks
 pub mod Noted
 pub mod Agreement
+pub mod Shown
+pub mod Waits
+pub mod Seated
+pub mod Recursion
+pub mod WrittenNames
+pub mod NamedScopes

@@ -3,15 +3,15 @@ use Rattle.semantic_kinds.specs.declared.role.Role.{Role}
 use Rattle.semantic_tree.specs.ChildIter.{shown}
 use Rattle.semantic_tree.specs.Children.{forest_of}
 use Rattle.semantic_tree.specs.declared.node.Node.{Node}
-use Rattle.semantic.specs.declared.namesakes.Openers.{Openers}
-use Rattle.semantic.specs.WrittenNames.{Written, Adds, written_by, written_below}
+use Rattle.walk_model.specs.WrittenNames.{Openers, Written, written_by, written_below}
+use Rattle.semantic.specs.WrittenNames.{Adds, openers_of}
 use Rattle.semantic.proofs.Adding.{Rests, adds-both, rests-end, written-end}
 use Rattle.semantic.proofs.namesakes.Namesakes.+collect.Goals as goal
 
 pub returns : goal.returns
 returns t c =
     let node : Node = c.args.kind.node.now in
-    let o : Openers = c.args.openers.now in
+    let o : Openers = openers_of c.args.openers.now in
     let items : List (Role × Node) = c.as_slice-role-items.result.now in
     let past : length items ≤ c.loop-role.role-index = omega arith in
     let none : written_below node o (forest_of (drop c.loop-role.role-index items)) ≡ [] = written-end node o items c.loop-role.role-index past in

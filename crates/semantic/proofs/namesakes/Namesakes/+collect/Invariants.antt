@@ -1,7 +1,8 @@
 use Rattle.std.proofs.Common.{◌≡◌, drop}
 use Rattle.semantic_tree.specs.Forest.{count}
 use Rattle.semantic_tree.specs.Children.{forest_of}
-use Rattle.semantic.specs.WrittenNames.{written_below}
+use Rattle.semantic.specs.WrittenNames.{openers_of}
+use Rattle.walk_model.specs.WrittenNames.{written_below}
 use Rattle.semantic.proofs.Adding.{Rests}
 use Rattle.semantic.proofs.namesakes.Namesakes.+collect.Given as goal
 
@@ -9,7 +10,7 @@ use Rattle.semantic.proofs.namesakes.Namesakes.+collect.Given as goal
 abbrev pub invariant-loop-role : goal.invariant-loop-role
 invariant-loop-role l = record {
   items : forest_of l.role-items ≡ l.kind.node.now.children;
-  rest : Rests l.self (written_below l.kind.node.now l.openers (forest_of (drop l.role-index l.role-items))) l.initial.self (written_below l.kind.node.now l.openers l.kind.node.now.children);
+  rest : Rests l.self (written_below l.kind.node.now (openers_of l.openers) (forest_of (drop l.role-index l.role-items))) l.initial.self (written_below l.kind.node.now (openers_of l.openers) l.kind.node.now.children);
 }
 
 -- how many nodes are below

@@ -2,7 +2,7 @@ use Rattle.std.proofs.Common.{◌≡◌, drop}
 use Rattle.semantic_tree.specs.Forest.{count}
 use Rattle.semantic_tree.specs.Children.{forest_of}
 use Rattle.semantic_model.specs.Names.{bound_below, bound_names}
-use Rattle.semantic.specs.WrittenNames.{names_in}
+use Rattle.walk_model.specs.WrittenNames.{names_in}
 use Rattle.semantic.proofs.Adding.{Rests}
 use Rattle.semantic.proofs.namesakes.Namesakes.+note.Given as goal
 

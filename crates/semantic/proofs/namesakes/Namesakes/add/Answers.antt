@@ -1,7 +1,8 @@
 use Rattle.std.proofs.Common.{ℕ, List, [], ◌∷◌, map, subst}
 use Rattle.std.specs.Str.{chars}
 use Rattle.semantic_syntax.specs.Tables.{Name}
-use Rattle.semantic.specs.WrittenNames.{Written, Adds, written_of}
+use Rattle.walk_model.specs.WrittenNames.{Written}
+use Rattle.semantic.specs.WrittenNames.{Adds, written_of}
 use Rattle.semantic.proofs.Adding.{adds-one, numbered-one}
 use Rattle.semantic.proofs.namesakes.Namesakes.add.Goals as goal
 

@@ -1,7 +1,8 @@
 use Rattle.std.proofs.Common.{◌≡◌, ℕ, List, false, map, sym, subst, ◌∙◌}
 use Rattle.std.specs.Str.{chars}
 use Rattle.semantic_syntax.specs.Tables.{Name}
-use Rattle.semantic.specs.WrittenNames.{Written, is_written, written_of}
+use Rattle.walk_model.specs.WrittenNames.{Written, is_written}
+use Rattle.semantic.specs.WrittenNames.{written_of}
 use Rattle.semantic.proofs.Adding.{any-map, absent-unknown, same-numbered}
 use Rattle.semantic.proofs.namesakes.Namesakes.has.Goals as goal
 

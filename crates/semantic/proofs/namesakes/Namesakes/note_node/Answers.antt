@@ -1,6 +1,6 @@
 use Rattle.std.proofs.Common.{◌≡◌, false, option_map, sym, ◌∙◌}
 use Rattle.semantic_tree.specs.ChildIter.{shown}
-use Rattle.semantic.specs.WrittenNames.{counts_as}
+use Rattle.walk_model.specs.WrittenNames.{counts_as}
 use Rattle.semantic.proofs.Adding.{adds-none}
 use Rattle.semantic.proofs.namesakes.Namesakes.note_node.Goals as goal
 

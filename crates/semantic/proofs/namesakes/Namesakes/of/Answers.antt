@@ -1,7 +1,8 @@
 use Rattle.std.proofs.Common.{◌≡◌, List, [], true, None, subst, arith}
 use Rattle.std.proofs.lemmas.Grind.{common_steps}
 use Rattle.semantic_tree.specs.declared.node.Node.{Node}
-use Rattle.semantic.specs.WrittenNames.{Written, Adds, is_sloppy, names_written, written_in}
+use Rattle.walk_model.specs.WrittenNames.{Written, is_sloppy, names_written, written_in}
+use Rattle.semantic.specs.WrittenNames.{Adds}
 use Rattle.semantic.proofs.Marks.{not-false}
 use Rattle.semantic.proofs.Adding.{all-move}
 use Rattle.semantic.proofs.namesakes.Namesakes.of.Goals as goal
