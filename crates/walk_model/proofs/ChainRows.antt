@@ -2,7 +2,6 @@
 use Rattle.std.proofs.Common.{◌≡◌, ℕ, ◌+◌, ◌<◌, ◌≤◌, List, [], ◌∷◌, ◌++◌, Option, Some, None, IfSome, Bool, true, false, cond, not, inl, inr, refl, sym, ap, subst, ◌∙◌, length, map, slice_index_or, arith}
 use Rattle.std.specs.Prelude.{◌==◌, slice_set}
 use Rattle.std.specs.Option.{option_map_or}
-use Rattle.std.specs.Int.RustNames.{bit_and}
 use Rattle.std.proofs.lemmas.Nat.{and_or_apart}
 use Rattle.std.proofs.lemmas.List.{length-append, length-set, get_or-set_same, get_or-set_other, get_or_append_left, get_or-append-add}
 use Rattle.std.proofs.lemmas.Bool.Decides.{eqb_tells}

@@ -14,7 +14,7 @@ use Rattle.semantic_model.proofs.Opened.{left_to_open, opened_below, opened_by_n
 use Rattle.semantic_model.proofs.Turns.{steps_turn, steps_end}
 use Rattle.walk_model.specs.Standing.{Standing}
 use Rattle.walk_model.specs.Walks.{after, after_all}
-use Rattle.walk_model.proofs.ChainRows.{KeepsRows, ShowsChain, ShowsOwn, own_kept, chain_kept, step_rows, steps_rows, opening_chain, child_shown, after_count}
+use Rattle.walk_model.proofs.ChainRows.{KeepsRows, own_kept, chain_kept, step_rows, steps_rows, opening_chain, child_shown, after_count}
 pub use Rattle.walk_model.specs.Recursion.{StandsAt}
 
 -- steps, and then others

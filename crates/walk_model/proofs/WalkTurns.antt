@@ -3,7 +3,6 @@ use Rattle.std.proofs.Common.{◌≡◌, ℕ, suc, ◌+◌, ◌<◌, ◌≤◌, 
 use Rattle.std.specs.Option.{unwrap_or}
 use Rattle.semantic_kinds.specs.declared.role.Role.{Role}
 use Rattle.scoping.specs.Reading.{scope_of}
-use Rattle.semantic_tree.specs.Forest.{Forest}
 use Rattle.semantic_tree.specs.Children.{forest_of}
 use Rattle.semantic_tree.specs.Tree.{Tree}
 use Rattle.semantic_tree.specs.Faults.{first_fault}
@@ -18,11 +17,10 @@ use Rattle.walk_model.specs.Standing.{Standing}
 use Rattle.walk_model.specs.Walks.{after, after_all}
 use Rattle.walk_model.proofs.Routes.{HasVar}
 use Rattle.walk_model.proofs.Turned.{StandsAt, first_turn, stands_entering, stands_opening, stands_child, stands_past, stands_ending}
-use Rattle.walk_model.proofs.Starts.{IsSound}
 use Rattle.walk_model.proofs.KeptStarts.{HoldsAt, start_at, holds_entering, holds_opening, holds_past, holds_ending}
 use Rattle.walk_model.proofs.TurnParts.{within_at, child_at, around_at}
 use Rattle.walk_model.proofs.RootSteps.{root_scope, root_made, root_stands, root_holds}
-use Rattle.walk_model.proofs.Seats.{IsSeated, IsSeat, decorated_within, FirstSeated, first_seated, root_seated}
+use Rattle.walk_model.proofs.Seats.{decorated_within, FirstSeated, first_seated, root_seated}
 pub use Rattle.walk_model.specs.Recursion.{IsReady, OpensInside, IsBetween}
 
 -- once a node is entered, its children are left
