@@ -46,3 +46,8 @@ pub mod NodeIds
 pub mod Seats
 pub mod WalkTurns
 pub mod RowsActed
+pub mod NamesInRole
+pub mod WrittenRows
+pub mod WrittenNodes
+pub mod OpenersFit
+pub mod WrittenStands

@@ -7,13 +7,13 @@ use Rattle.semantic_kinds.specs.declared.kind.AstType.TheVariants as kind
 use Rattle.semantic_kinds.specs.declared.role.Role.{Role}
 use Rattle.semantic_kinds.specs.declared.role.Role.TheVariants as role
 use Rattle.semantic_syntax.specs.declared.source_type.SourceType.{SourceType}
+use Rattle.semantic_syntax.specs.declared.symbol_flags.TheConstants.SymbolFlags as symbol
+use Rattle.semantic_syntax.specs.Sets.{meets}
 use Rattle.semantic_syntax.specs.SourceTypes.{is_typescript, is_module}
 use Rattle.semantic_syntax.specs.Tables.{Name}
 use Rattle.semantic_tree.specs.Forest.{Forest, nothing, tree}
 use Rattle.semantic_tree.specs.Tree.{Tree}
 use Rattle.semantic_tree.specs.declared.node.Node.{Node}
-use Rattle.semantic_syntax.specs.declared.symbol_flags.TheConstants.SymbolFlags as symbol
-use Rattle.semantic_syntax.specs.Sets.{meets}
 use Rattle.semantic_model.specs.Nodes.{is, is_with_text, child_of, holds}
 use Rattle.semantic_model.specs.Names.{bound_names}
 use Rattle.semantic_model.specs.Inside.{is_inside, is_parameter_decorator}
@@ -29,7 +29,7 @@ pub record Written : Type 0 where
 abbrev pub is_written : List Written → ℕ → Name → Bool
 is_written ws opener name = list_any (λ w. opener == w.opener && bytes_eq w.name name) ws
 
--- the nodes that open the innermost scope and the one around it
+-- the nodes that open the innermost scope and, where a parameter stands, the scope around it
 pub record Openers : Type 0 where
   pub innermost : ℕ
   pub around : ℕ
@@ -44,9 +44,11 @@ openers_at node r o =
 abbrev pub is_known_inside : Node → Bool
 is_known_inside node = holds_kind (kind.Function ∷ kind.Class ∷ []) node.kind && not (is_statement node)
 
+-- the node that opens the scope where a node declares its names
 abbrev pub opener_of_names : Node → Openers → ℕ
 opener_of_names node o = cond (is_known_inside node) node.node_id o.innermost
 
+-- whether a declaration of variables is no `var`
 abbrev pub is_lexical : Option Node → Bool
 is_lexical None = false
 is_lexical (Some declaration) = not (is_with_text kind.VariableDeclaration (codes "var") declaration)
@@ -59,6 +61,7 @@ counts_as kind.Class node parent = true
 counts_as kind.CatchParameter node parent = holds (λ p. not (is kind.BindingIdentifier p)) (child_of role.Pattern node)
 counts_as _ node parent = false
 
+-- the names of the nodes, in the scope of one opener
 abbrev pub names_in : ℕ → List Node → List Written
 names_in opener nodes = map (λ node. record { opener = opener; name = node.text }) nodes
 
@@ -89,7 +92,7 @@ names_written program = written_in program.root None (record { innermost = 0; ar
 abbrev pub counts_past : Declaration → Bool
 counts_past e = meets e.flags symbol.BlockScopedVariable.bits || meets e.flags symbol.Class.bits || meets e.flags symbol.Function.bits
 
--- whether one of those declares the name in a scope that the node opens
+-- whether one of the name that counts stands in the scope that the node opens
 abbrev pub any_standing : ℕ → Name → List Declaration → Bool
 any_standing opener name [] = false
 any_standing opener name (e ∷ es) = (counts_past e && (standing e).opener == opener && bytes_eq e.name name) || any_standing opener name es
