@@ -51,3 +51,7 @@ pub mod WrittenRows
 pub mod WrittenNodes
 pub mod OpenersFit
 pub mod WrittenStands
+pub mod Handed
+pub mod OwnOpeners
+pub mod Sloppy
+pub mod NamesStand

@@ -363,13 +363,17 @@ referrers_listed (leaving p ∷ ss) = referrers_listed ss
 root_numbered : (p : Tree) → IsNumbered p.root → (p.root.node_id ≡ 0) × (numbered 1 p.root.children ≡ p.root.children)
 root_numbered p e = (sym (ap (λ n. n.node_id) e), ap (λ n. n.children) e)
 
-pub scopes_noted_once : (p : Tree) → IsNumbered p.root → entries_of (node_tables (steps p)).scopes ≡ pairs_of (node_tables (steps p)).scopes
-scopes_noted_once p e =
+-- no node opens two scopes
+pub openers_distinct : (p : Tree) → IsNumbered p.root → AreDistinct (flat_map opener (steps p))
+openers_distinct p e =
     let below : List Step = steps_below (root_place p) None 0 (on_entering p.root.kind 0) p.root.children in
     let q : (p.root.node_id ≡ 0) × (numbered 1 p.root.children ≡ p.root.children) = root_numbered p e in
     let s : Spread p.root.node_id 1 (1 + count p.root.children) true (flat_map opener below) = openers_below (root_place p) None 0 (on_entering p.root.kind 0) p.root.children 1 q.1 (omega (arith, q.0)) in
-    let list : map (λ c. c.node) (scopes (steps p)) ≡ flat_map opener below = openers_listed (evals (steps p)) (steps p) ∙ flat-append opener below (leaving (root_place p) ∷ []) ∙ append-nil (flat_map opener below) in
-    numbered_once (map (λ c. c.node) (scopes (steps p))) (subst AreDistinct (sym list) s.distinct)
+    let list : flat_map opener (steps p) ≡ flat_map opener below = flat-append opener below (leaving (root_place p) ∷ []) ∙ append-nil (flat_map opener below) in
+    subst AreDistinct (sym list) s.distinct
+
+pub scopes_noted_once : (p : Tree) → IsNumbered p.root → entries_of (node_tables (steps p)).scopes ≡ pairs_of (node_tables (steps p)).scopes
+scopes_noted_once p e = numbered_once (map (λ c. c.node) (scopes (steps p))) (subst AreDistinct (sym (openers_listed (evals (steps p)) (steps p))) (openers_distinct p e))
 
 pub references_noted_once : (p : Tree) → IsNumbered p.root → entries_of (node_tables (steps p)).references ≡ pairs_of (node_tables (steps p)).references
 references_noted_once p e =

@@ -1,0 +1,148 @@
+-- What holds of each scope as it opens holds of all scopes in which a place stands.
+use Rattle.std.proofs.Common.{◌≡◌, ℕ, ◌+◌, List, [], ◌∷◌, ◌++◌, Option, Some, None, Bool, true, false, cond, ◌&&◌, not, refl}
+use Rattle.std.specs.List.{AllByRecursion}
+use Rattle.semantic_syntax.specs.declared.source_type.SourceType.{SourceType}
+use Rattle.semantic_tree.specs.Forest.{Forest, nothing, tree}
+use Rattle.semantic_tree.specs.declared.node.Node.{Node}
+use Rattle.semantic_kinds.specs.declared.role.Role.{Role}
+use Rattle.semantic_model.specs.Nodes.{has_role}
+use Rattle.semantic_model.specs.Place.{Place, OpenScope, outside}
+use Rattle.semantic_model.specs.Inside.{opens, is_inside, any_inside, header_roles, is_in_header, is_parameter_decorator, scopes_in}
+use Rattle.semantic_model.specs.ScopeKind.{opened_scope}
+use Rattle.semantic_model.specs.Cursor.{on_entering}
+use Rattle.semantic_tree.specs.Tree.{Tree}
+use Rattle.semantic_model.specs.Step.{Step, entering, opening, header_ending, closing, leaving, steps_below, steps, opening_at, ending_after, opening_last, scope_at, next_at, child_place, chain_within, cursor_past, root_place}
+
+module _ (P : OpenScope → Type 0) (t : SourceType) where
+  -- a scope that opens in those has it, if they have it
+  abbrev pub IsStepHanded : Step → Type 0
+  IsStepHanded (opening p s) = p.source_type ≡ t → AllByRecursion P p.chain → P s
+  IsStepHanded (entering p) = Unit {0}
+  IsStepHanded (header_ending p s) = Unit {0}
+  IsStepHanded (closing p s) = Unit {0}
+  IsStepHanded (leaving p) = Unit {0}
+
+  abbrev pub AllHanded : List Step → Type 0
+  AllHanded [] = Unit {0}
+  AllHanded (s ∷ more) = IsStepHanded s × AllHanded more
+
+  -- the scopes of a place have it
+  abbrev pub IsPlaceHeld : Place → Type 0
+  IsPlaceHeld p = (p.source_type ≡ t) × AllByRecursion P p.chain
+
+  abbrev pub IsStepHeld : Step → Type 0
+  IsStepHeld (entering p) = IsPlaceHeld p
+  IsStepHeld (opening p s) = IsPlaceHeld p × P s
+  IsStepHeld (header_ending p s) = Unit {0}
+  IsStepHeld (closing p s) = Unit {0}
+  IsStepHeld (leaving p) = Unit {0}
+
+  abbrev pub AllHeld : List Step → Type 0
+  AllHeld [] = Unit {0}
+  AllHeld (s ∷ more) = IsStepHeld s × AllHeld more
+
+  handed_left : (xs ys : List Step) → AllHanded (xs ++ ys) → AllHanded xs
+  handed_left [] ys h = tt
+  handed_left (x ∷ xs) ys h = (h.0, handed_left xs ys h.1)
+
+  handed_right : (xs ys : List Step) → AllHanded (xs ++ ys) → AllHanded ys
+  handed_right [] ys h = h
+  handed_right (x ∷ xs) ys h = handed_right xs ys h.1
+
+  held-append : (xs ys : List Step) → AllHeld xs → AllHeld ys → AllHeld (xs ++ ys)
+  held-append [] ys h k = k
+  held-append (x ∷ xs) ys h k = (h.0, held-append xs ys h.1 k)
+
+  abbrev OwnHeld : Option OpenScope → Type 0
+  OwnHeld None = Unit {0}
+  OwnHeld (Some s) = P s
+
+  opening_held : (p : Place) (r : Role) (own : Option OpenScope) (n : ℕ) → IsPlaceHeld p → AllHanded (opening_at p r own n) → AllHeld (opening_at p r own n)
+  opening_held p r (Some s) n h k = tt
+  opening_held p r None n h k = go (is_inside p.node.kind r) k
+    where
+      go : (b : Bool) → AllHanded (cond b (opening p (opened_scope p n) ∷ []) []) → AllHeld (cond b (opening p (opened_scope p n) ∷ []) [])
+      go true k = ((h, k.0 h.0 h.1), tt)
+      go false k = tt
+
+  own_held : (p : Place) (r : Role) (own : Option OpenScope) (n : ℕ) → IsPlaceHeld p → OwnHeld own → AllHanded (opening_at p r own n) → OwnHeld (scope_at p r own n)
+  own_held p r (Some s) n h o k = o
+  own_held p r None n h o k = go (is_inside p.node.kind r) k
+    where
+      go : (b : Bool) → AllHanded (cond b (opening p (opened_scope p n) ∷ []) []) → OwnHeld (cond b (Some (opened_scope p n)) None)
+      go true k = k.0 h.0 h.1
+      go false k = tt
+
+  last_held : (p : Place) (own : Option OpenScope) (n : ℕ) → IsPlaceHeld p → AllHanded (opening_last p own n) → AllHeld (opening_last p own n)
+  last_held p (Some s) n h k = tt
+  last_held p None n h k = go (opens p.node.kind) k
+    where
+      go : (b : Bool) → AllHanded (cond b (opening p (opened_scope p n) ∷ closing p (opened_scope p n) ∷ []) []) → AllHeld (cond b (opening p (opened_scope p n) ∷ closing p (opened_scope p n) ∷ []) [])
+      go true k = ((h, k.0 h.0 h.1), (tt, tt))
+      go false k = tt
+
+  ending_held : (p : Place) (r : Role) (own : Option OpenScope) (after : Forest) → AllHeld (ending_after p r own after)
+  ending_held p r None after = tt
+  ending_held p r (Some s) after = go (is_in_header p.node.kind r && not (has_role (header_roles p.node.kind) after)) (is_inside p.node.kind r && not (any_inside p.node.kind after))
+    where
+      go : (a b : Bool) → AllHeld (cond a (header_ending p s ∷ []) [] ++ cond b (closing p s ∷ []) [])
+      go true true = (tt, (tt, tt))
+      go true false = (tt, tt)
+      go false true = (tt, tt)
+      go false false = tt
+
+  outside_held : (chain : List OpenScope) → AllByRecursion P chain → AllByRecursion P (outside chain)
+  outside_held [] h = tt
+  outside_held (s ∷ ss) h = h.1
+
+  -- whether a place stands in its header is no matter
+  abbrev pub PassesHeaders : Type 0
+  PassesHeaders = (s : OpenScope) (b : Bool) → P s → P (record s { in_header = b })
+
+  child_held : PassesHeaders → (p : Place) (own : Option OpenScope) (cursor : ℕ) (r : Role) (node : Node) → IsPlaceHeld p → OwnHeld own → IsPlaceHeld (child_place p own cursor r node)
+  child_held pass p own cursor r node h o = (h.0, go (is_parameter_decorator p.node.kind r))
+    where
+      within : (c : Option OpenScope) → OwnHeld c → AllByRecursion P (chain_within p r c)
+      within None k = h.1
+      within (Some s) k = by (is_inside p.node.kind r)
+        where
+          by : (b : Bool) → AllByRecursion P (cond b (record s { in_header = is_in_header p.node.kind r } ∷ p.chain) p.chain)
+          by true = (pass s (is_in_header p.node.kind r) k, h.1)
+          by false = h.1
+
+      go : (b : Bool) → AllByRecursion P (cond b (outside p.chain) (chain_within p r own))
+      go true = outside_held p.chain h.1
+      go false = within own o
+
+  -- so it is in what is left of a place
+  held_below : PassesHeaders → (p : Place) (own : Option OpenScope) (n cursor : ℕ) (f : Forest) → IsPlaceHeld p → OwnHeld own → AllHanded (steps_below p own n cursor f) → AllHeld (steps_below p own n cursor f)
+  held_below pass p own n cursor nothing h o k = last_held p own n h k
+  held_below pass p own n cursor (tree r kd span text marks below id after) h o k =
+      let node : Node = record { kind = kd; span = span; text = text; marks = marks; children = below; node_id = id } in
+      let scope : Option OpenScope = scope_at p r own n in
+      let next : ℕ = next_at p r own n in
+      let child : Place = child_place p scope cursor r node in
+      let inner : ℕ = on_entering kd child.cursor in
+      let xs : List Step = opening_at p r own n in
+      let ys : List Step = steps_below child None next inner below in
+      let zs : List Step = entering child ∷ (ys ++ leaving child ∷ []) in
+      let es : List Step = ending_after p r scope after in
+      let ws : List Step = steps_below p scope (next + cond (opens kd) 1 0 + scopes_in below) (cursor_past p r cursor child) after in
+      let first : AllHanded xs = handed_left xs zs (handed_left (xs ++ zs) es (handed_left (xs ++ zs ++ es) ws k)) in
+      let second : AllHanded zs = handed_right xs zs (handed_left (xs ++ zs) es (handed_left (xs ++ zs ++ es) ws k)) in
+      let own_is : OwnHeld scope = own_held p r own n h o first in
+      let child_is : IsPlaceHeld child = child_held pass p scope cursor r node h own_is in
+      let inside : AllHeld ys = held_below pass child None next inner below child_is tt (handed_left ys (leaving child ∷ []) second.1) in
+      let rest : AllHeld ws = held_below pass p scope (next + cond (opens kd) 1 0 + scopes_in below) (cursor_past p r cursor child) after h own_is (handed_right (xs ++ zs ++ es) ws k) in
+      held-append (xs ++ zs ++ es) ws
+      (held-append (xs ++ zs) es (held-append xs zs (opening_held p r own n h first) (child_is, held-append ys (leaving child ∷ []) inside (tt, tt))) (ending_held p r scope after))
+      rest
+
+-- so it is in a program
+pub program_held : (P : OpenScope → Type 0) (program : Tree) → PassesHeaders P program.source_type → AllHanded P program.source_type (steps program) → AllHeld P program.source_type (steps program)
+program_held P program pass h =
+    let below : List Step = steps_below (root_place program) None 0 (on_entering program.root.kind 0) program.root.children in (
+      (refl, tt),
+      held-append P program.source_type below (leaving (root_place program) ∷ [])
+          (held_below P program.source_type pass (root_place program) None 0 (on_entering program.root.kind 0) program.root.children (refl, tt) tt (handed_left P program.source_type below (leaving (root_place program) ∷ []) h.1)) (tt, tt),
+    )
