@@ -43,15 +43,15 @@ pub record IsShown (ds : List Declaration) (w : Walker) (p : Place) : Type 0 whe
 pub record IsTurnAt (turn : Turn) (p : Place) (own : Option OpenScope) (start : ℕ) : Type 0 where
   pub outer : turn.outer ≡ at p
   pub is_ambient : turn.is_ambient ≡ p.is_ambient
-  pub own : turn.own ≡ option_map (λ s. s.number) own
-  pub start : turn.header_start ≡ start
+  pub own_scope : turn.own ≡ option_map (λ s. s.number) own
+  pub header : turn.header_start ≡ start
 
 -- the walk stands between two children of a place, with those that are left
 pub record IsBetweenAt (ds : List Declaration) (w : Walker) (turn : Turn) (p : Place) (own : Option OpenScope) (n cursor start : ℕ) (f : Forest) : Type 0 where
   pub within : IsWithin w p p.chain
-  pub cursor : w.cursor ≡ cursor
+  pub flags : w.cursor ≡ cursor
   pub is_ambient : w.is_ambient ≡ p.is_ambient
-  pub turn : IsTurnAt turn p own start
+  pub stands : IsTurnAt turn p own start
   pub between : IsBetween w.made p own n cursor start f
   pub named : AllNamed ds w.namesakes (steps_below p own n cursor f)
 
