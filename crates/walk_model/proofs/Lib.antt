@@ -55,3 +55,10 @@ pub mod Handed
 pub mod OwnOpeners
 pub mod Sloppy
 pub mod NamesStand
+pub mod NameTimes
+pub mod QuietNames
+pub mod LoneMembers
+pub mod DeclaredTimes
+pub mod DeclaredBelow
+pub mod SymbolsOnce
+pub mod NotedOnce

@@ -1,4 +1,4 @@
--- The names that a node binds are those under its one role, and the parameter of a catch clause has one pattern.
+-- The names that a node binds are those under its one role; the parameter of a catch clause has one pattern, and an enum's member one id.
 use Rattle.std.proofs.Common.{◌≡◌, ℕ, List, [], ◌∷◌, ◌++◌, Bool, true, false, cond, ◌||◌, if◌then◌else◌, flat_map, length, refl, sym, ap, subst, ◌∙◌, ◌==◌, inl, inr, arith}
 use Rattle.std.proofs.lemmas.Bool.Decides.{eqb_tells}
 use Rattle.std.proofs.lemmas.List.{append-nil}
@@ -60,7 +60,7 @@ one_in r (c ∷ []) rest l e = by (same_role c.0 r)
     by false = subst AtMostOne (sym e) tt
 one_in r (c ∷ d ∷ more) rest l e = absurd (omega (arith, l))
 
-is_number : (m n : ℕ) → (m == n) ≡ true → m ≡ n
+pub is_number : (m n : ℕ) → (m == n) ≡ true → m ≡ n
 is_number m n h = elim (eqb_tells m n) [ inl k ↦ k.1 | inr k ↦ (let w : false ≡ true = sym k.0 ∙ h in absurd cc) ]
 
 -- the parameter of a catch clause has one pattern
@@ -72,3 +72,13 @@ one_pattern cs h = by (fit-Fit (parts kind.CatchParameter) cs h)
         let all : rest ≡ more = is_more ∙ ap (λ l. more ++ l) last ∙ append-nil more in
         let none : nodes_in role.Pattern rest ≡ [] = ap (nodes_in role.Pattern) all ∙ none_in role.Pattern role.Annotation more in_annotation refl in
         subst (λ l. AtMostOne (nodes_in role.Pattern l)) (sym is) (one_in role.Pattern own rest (is_number (length own) 1 (first_holds (length own == 1) _ run)) none)
+
+-- an enum's member has one id
+pub one_id : (cs : List (Role × Node)) → fit (parts kind.TSEnumMember) cs ≡ true → AtMostOne (nodes_in role.Id cs)
+one_id cs h = by (fit-Fit (parts kind.TSEnumMember) cs h)
+  where
+    by : Fit (parts kind.TSEnumMember) cs → AtMostOne (nodes_in role.Id cs)
+    by (own, rest, is, in_role, run, (more, end, is_more, in_initializer, fits, last)) =
+        let all : rest ≡ more = is_more ∙ ap (λ l. more ++ l) last ∙ append-nil more in
+        let none : nodes_in role.Id rest ≡ [] = ap (nodes_in role.Id) all ∙ none_in role.Id role.Initializer more in_initializer refl in
+        subst (λ l. AtMostOne (nodes_in role.Id l)) (sym is) (one_in role.Id own rest (is_number (length own) 1 (first_holds (length own == 1) _ run)) none)

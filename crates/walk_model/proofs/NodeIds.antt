@@ -22,11 +22,6 @@ use Rattle.semantic_model.specs.TablesOf.{evals, opened_entry, scopes}
 use Rattle.semantic_model.specs.NodeTable.{Belongs, numbered_from, node_tables}
 use Rattle.semantic_model.proofs.Members.{contains-append}
 use Rattle.semantic_model.proofs.Compose.{flat-append}
-use Rattle.semantic_tree.specs.Faults.{first_fault}
-use Rattle.walk_model.specs.Agreement.{NotesOnce}
-use Rattle.walk_model.specs.Walks.{walked}
-use Rattle.walk_model.proofs.OpenedAll.{has_opened}
-use Rattle.walk_model.proofs.GivesTables.{has_referred}
 use Rattle.walk_model.specs.Noted.{with_entry, entries_of, pairs_of}
 
 -- no number stands twice
@@ -167,7 +162,7 @@ ranged_append lo mid hi xs ys l k h j = record {
   distinct = apart_append xs ys h.distinct j.distinct (λ n a. not_both lo mid hi n ys j (h.within n a).1);
 }
 
-first_numbered : (k : ℕ) (r : Role) (kd : _) (span : _) (text : List ℕ) (marks : _) (below : Forest) (id : ℕ) (after : Forest) → numbered k (tree r kd span text marks below id after) ≡ tree r kd span text marks below id after → FirstNumbered k id below after
+pub first_numbered : (k : ℕ) (r : Role) (kd : _) (span : _) (text : List ℕ) (marks : _) (below : Forest) (id : ℕ) (after : Forest) → numbered k (tree r kd span text marks below id after) ≡ tree r kd span text marks below id after → FirstNumbered k id below after
 first_numbered k r kd span text marks below id after e = record { first = sym (ap id_of e); inner = ap below_of e; others = ap after_of e }
 
 -- the own opener, where the scope is still to open, and numbers of a range
@@ -360,7 +355,7 @@ referrers_listed (header_ending p s ∷ ss) = referrers_listed ss
 referrers_listed (closing p s ∷ ss) = referrers_listed ss
 referrers_listed (leaving p ∷ ss) = referrers_listed ss
 
-root_numbered : (p : Tree) → IsNumbered p.root → (p.root.node_id ≡ 0) × (numbered 1 p.root.children ≡ p.root.children)
+pub root_numbered : (p : Tree) → IsNumbered p.root → (p.root.node_id ≡ 0) × (numbered 1 p.root.children ≡ p.root.children)
 root_numbered p e = (sym (ap (λ n. n.node_id) e), ap (λ n. n.children) e)
 
 -- no node opens two scopes
@@ -385,6 +380,3 @@ references_noted_once p e =
     let list : map (λ c. c.node) (references (steps p)) ≡ referrer (entering (root_place p)) ++ flat_map referrer below =
     referrers_listed (steps p) ∙ ap (λ l. referrer (entering (root_place p)) ++ l) (flat-append referrer below (leaving (root_place p) ∷ []) ∙ append-nil (flat_map referrer below)) in
     numbered_once (map (λ c. c.node) (references (steps p))) (subst AreDistinct (sym list) r.distinct)
-
-pub notes_once : (p : Tree) → first_fault p ≡ None → IsNumbered p.root → NotesOnce p (walked p)
-notes_once p h e = record { scopes = (has_opened p h).nodes ∙ scopes_noted_once p e; references = (has_referred p h).nodes ∙ references_noted_once p e }

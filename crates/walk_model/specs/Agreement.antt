@@ -30,7 +30,8 @@ pub record HasReferred (p : Tree) (w : Standing) : Type 0 where
   pub free : w.tables.free ≡ (tables_of p).free
   pub nodes : w.nodes.references ≡ entries_of (node_tables (steps p)).references
 
--- no node opens two scopes or is two references
+-- no node opens two scopes, is declared twice or is two references
 pub record NotesOnce (p : Tree) (w : Standing) : Type 0 where
   pub scopes : w.nodes.scopes ≡ pairs_of (node_tables (steps p)).scopes
+  pub symbols : w.nodes.symbols ≡ pairs_of (node_tables (steps p)).symbols
   pub references : w.nodes.references ≡ pairs_of (node_tables (steps p)).references

@@ -31,7 +31,8 @@ pub fn walk_gives_tables()
     ensures { (p : Tree) → first_fault p ≡ None → (walked p).tables ≡ tables_of p }
 {}
 
-/// In a numbered program each scope and each reference has a node of its own, and the walk notes it once.
+/// In a numbered program each scope, each symbol's identifier and each reference has a node of its own, and the walk
+/// notes it once.
 pub fn walk_notes_once()
     ensures { (p : Tree) → first_fault p ≡ None → IsNumbered p.root → NotesOnce p (walked p) }
 {}
