@@ -5,21 +5,8 @@
 set -eu
 cd "$(dirname "$0")/.."
 count="${1:-333334}"
-scratch="$(mktemp -d)"
-trap 'rm -rf "$scratch"' EXIT
-cp -R crates.txt HANDLES "$scratch/"
-mkdir "$scratch/crates"
-for crate in crates/*/; do
-    name="$(basename "$crate")"
-    mkdir "$scratch/crates/$name"
-    for part in src specs proofs; do
-        [ ! -d "$crate/$part" ] || cp -R "$crate/$part" "$scratch/crates/$name/"
-    done
-done
-echo 'writing: report report_ends semantic semantic_tree semantic_syntax' >>"$scratch/crates.txt"
-program="$scratch/crates/writing"
-mkdir -p "$program/src"
-(cd "$scratch" && git init -q)
+. bench/scratch.sh
+new_program writing 'report report_ends semantic semantic_tree semantic_syntax' $(sed 's/:.*//' crates.txt)
 
 sed "s/COUNT_OF_DECLARATIONS/$count/" >"$program/src/main.rt" <<'SOURCE'
 // Times both writers on standard output, and prints the times on standard error.
@@ -111,10 +98,6 @@ fn main(rt: HostRuntime) -> io::Result<()> {
 }
 SOURCE
 
-log="$(cd "$program" && rt run </dev/null 2>&1)" || true
-if [ ! -x "$program/out/writing" ]; then
-    printf '%s\n' "$log" >&2
-    exit 1
-fi
+build_program
 "$program/out/writing" 2>&1 >/dev/null |
     awk '{ printf "lines %d: report %.0f ms, buffered writer %.0f ms, ratio %.2f (wanted below 6)\n", $1, $2 / 1e6, $3 / 1e6, $2 / $3 }'

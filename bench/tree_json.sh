@@ -7,21 +7,8 @@
 set -eu
 cd "$(dirname "$0")/.."
 [ $# -gt 0 ] || set -- 1000000 8000000 60000000
-scratch="$(mktemp -d)"
-trap 'rm -rf "$scratch"' EXIT
-mkdir "$scratch/crates"
-for name in semantic_syntax semantic_kinds semantic_tree tree_json; do
-    mkdir "$scratch/crates/$name"
-    for part in src specs proofs; do
-        [ ! -d "crates/$name/$part" ] || cp -R "crates/$name/$part" "$scratch/crates/$name/"
-    done
-    grep "^$name:" crates.txt >>"$scratch/crates.txt"
-done
-[ ! -f HANDLES ] || cp HANDLES "$scratch/"
-echo 'reading: tree_json semantic_tree serde_json' >>"$scratch/crates.txt"
-program="$scratch/crates/reading"
-mkdir -p "$program/src"
-(cd "$scratch" && git init -q)
+. bench/scratch.sh
+new_program reading 'tree_json semantic_tree serde_json' semantic_syntax semantic_kinds semantic_tree tree_json
 
 cat >"$program/src/main.rt" <<'SOURCE'
 // Times both readers over the bytes on standard input. The word `once` reads the tree once, and prints the peak memory.
@@ -152,11 +139,7 @@ tree() {
     }'
 }
 
-log="$(cd "$program" && rt run </dev/null 2>&1)" || true
-if [ ! -x "$program/out/reading" ]; then
-    printf '%s\n' "$log" >&2
-    exit 1
-fi
+build_program
 for size in "$@"; do
     tree "$size" >"$scratch/tree"
     bytes="$(wc -c <"$scratch/tree")"

@@ -5,124 +5,106 @@
 # which takes long, since each is a build and a run of its own. It works on a scratch copy, and needs rt.
 set -eu
 cd "$(dirname "$0")/.."
-scratch="$(mktemp -d)"
-trap 'rm -rf "$scratch"' EXIT
-mkdir "$scratch/crates"
-for name in semantic_syntax scoping; do
-    mkdir "$scratch/crates/$name"
-    for part in src specs proofs; do
-        [ ! -d "crates/$name/$part" ] || cp -R "crates/$name/$part" "$scratch/crates/$name/"
-    done
-    grep "^$name:" crates.txt >>"$scratch/crates.txt"
+. bench/scratch.sh
+new_program refusing 'scoping semantic_syntax' semantic_syntax scoping
+for part in edits long_row table_text; do
+    sed -e 's/^use crate::Scoping;/use scoping::Scoping;/' "crates/scoping/src/$part.rt" >"$program/src/$part.rt"
 done
-[ ! -f HANDLES ] || cp HANDLES "$scratch/"
-echo 'refusing: scoping semantic_syntax' >>"$scratch/crates.txt"
-program="$scratch/crates/refusing"
-mkdir -p "$program/src"
-(cd "$scratch" && git init -q)
-sed 's/^use crate::/use scoping::/' crates/scoping/src/edits.rt >"$program/src/edits.rt"
 
 cat >"$program/src/main.rt" <<'SOURCE'
 // Makes the long row of edits. An edit that is refused is made again, once the tables are seen to be as before.
 #![tactic(auto)]
 
 mod edits;
+mod long_row;
+mod table_text;
 
-use edits::{Edit, shown, take};
+use edits::{Edit, take};
+use long_row::{LONG_ROW_END, LONG_ROW_LEN, long_row};
 use scoping::Scoping;
-use std::alloc::{AllocError, Global};
 use std::io;
+use table_text::text_of;
 
-// Each edit, with the tables that it leaves.
-const LONG_ROW: [(Edit, &str); 16] = [
-    (Edit::Reserve, "f0 p0"),
-    (Edit::Scope(None), "0[] f0 p0"),
-    (Edit::Scope(Some(0)), "0[] 1<0[] f0 p0"),
-    (Edit::Symbol("a"), "0[] 1<0[] a@0 4-5 r0 u0 f0 p0"),
-    (Edit::Refer, "0[] 1<0[] a@0 4-5 r0 u0 f0 p0"),
-    (Edit::Bind("a"), "0[ a=0] 1<0[] a@0 4-5 r0 u0 f0 p0"),
-    (Edit::Use, "0[ a=0] 1<0[] a@0 4-5 r0 u1 f0 p0"),
-    (Edit::Name("b"), "0[ a=0] 1<0[] b@0 4-5 r0 u1 f0 p0"),
-    (Edit::NameAll("a"), "0[ a=0] 1<0[] a@0 4-5 r0 u1 f0 p0"),
-    (Edit::RenameSymbol("c"), "0[ c=0] 1<0[] c@0 4-5 r0 u1 f0 p0"),
-    (Edit::RenameBinding("c", "d"), "0[ d=0] 1<0[] c@0 4-5 r0 u1 f0 p0"),
-    (Edit::MoveInward("d"), "0[] 1<0[ d=0] c@0 4-5 r0 u1 f0 p0"),
-    (Edit::MoveSymbolOutward, "0[] 1<0[ d=0] c@0 4-5 r0 u1 f0 p0"),
-    (Edit::TakeOverOutward, "0[ d=0] 1<0[] c@0 4-5 r0 u1 f0 p0"),
-    (Edit::Mark, "0[ d=0] 1<0[] c@0 4-5 r0 u1 f0 p1"),
-    (Edit::Free("z"), "0[ d=0] 1<0[] c@0 4-5 r0 u1 f1 p1"),
-];
-
-// Whether the tables are not those before.
-fn is_changed(alloc: Global, scoping: &Scoping, before: &str) -> Result<bool, AllocError> {
-    let text = shown(alloc, scoping)?;
-    Ok(text.as_str() != before)
+// The text of the tables, at the second attempt if the first is refused.
+fn text_twice(rt: &HostRuntime, scoping: &Scoping) -> io::Result<String> {
+    if let Ok(text) = text_of(rt.alloc(), scoping) {
+        return Ok(text);
+    }
+    println!(rt; "refused: the text")?;
+    Ok(text_of(rt.alloc(), scoping)?)
 }
 
-// Makes the edit, at the second attempt if the first is refused. It tells whether a refusal changed the tables.
+fn compare(rt: &HostRuntime, scoping: &Scoping, wanted: &str) -> io::Result<()> {
+    let text = text_twice(rt, scoping)?;
+    if text.as_str() != wanted {
+        println!(rt; "changed: {text} for {wanted}")?;
+    }
+    Ok(())
+}
+
+// Makes the edit, at the second attempt if the first is refused.
 fn take_twice(
-    alloc: Global,
+    rt: &HostRuntime,
     scoping: &mut Scoping,
     edit: Edit,
     before: &str,
-) -> Result<bool, AllocError> {
+) -> io::Result<()> {
     if take(scoping, edit).is_ok() {
-        return Ok(false);
+        return Ok(());
     }
-    let changed = is_changed(alloc, scoping, before)?;
+    println!(rt; "refused: an edit of {before}")?;
+    compare(rt, scoping, before)?;
     take(scoping, edit)?;
-    Ok(changed)
+    Ok(())
 }
 
 // The clone, at the second attempt if the first is refused.
-fn clone_twice(alloc: Global, scoping: &Scoping) -> Result<Scoping, AllocError> {
-    match scoping.clone_in_with_semantic_ids_with_another_arena(alloc) {
-        Ok(copy) => Ok(copy),
-        Err(_) => scoping.clone_in_with_semantic_ids_with_another_arena(alloc),
+fn clone_twice(rt: &HostRuntime, scoping: &Scoping) -> io::Result<Scoping> {
+    if let Ok(copy) = scoping.clone_in_with_semantic_ids_with_another_arena(rt.alloc()) {
+        return Ok(copy);
     }
+    println!(rt; "refused: the clone")?;
+    Ok(scoping.clone_in_with_semantic_ids_with_another_arena(rt.alloc())?)
 }
 
 fn main(rt: HostRuntime) -> io::Result<()> {
-    let alloc = rt.alloc();
-    let mut scoping = Scoping::new(alloc);
-    let mut before = "f0 p0";
-    for (edit, after) in LONG_ROW {
-        if take_twice(alloc, &mut scoping, edit, before)? {
-            println!(rt; "changed by the edit that leads to {after}")?;
+    let mut scoping = Scoping::new(rt.alloc());
+    let mut before = "p[]";
+    for place in 0..LONG_ROW_LEN {
+        if let Some((edit, after)) = long_row(place) {
+            take_twice(&rt, &mut scoping, edit, before)?;
+            before = after;
         }
-        before = after;
     }
-    let copy = clone_twice(alloc, &scoping)?;
-    if is_changed(alloc, &scoping, before)? || is_changed(alloc, &copy, before)? {
-        println!(rt; "changed by the clone")?;
-    }
+    let copy = clone_twice(&rt, &scoping)?;
+    compare(&rt, &scoping, LONG_ROW_END)?;
+    compare(&rt, &copy, LONG_ROW_END)?;
     println!(rt; "done")
 }
 SOURCE
 
 cd "$program"
 failed=0
+# The run with that allocation refused names what was refused, and ends as a run without a refusal does.
 refuse() {
     log="$(rt try --fail-alloc "$1" 2>&1)" || true
-    if [ "$(printf '%s\n' "$log" | head -1)" = done ] && printf '%s\n' "$log" | grep -q '^run=ended status=0'; then
-        echo "ok: allocation $1"
+    lines="$(printf '%s\n' "$log" | sed '/^allocations: /,$d')"
+    refused="$(printf '%s\n' "$lines" | sed -n '1s/^refused: //p')"
+    if [ -n "$refused" ] && [ "$(printf '%s\n' "$lines" | sed 1d)" = done ] && printf '%s\n' "$log" | grep -q '^run=ended status=0'; then
+        echo "ok: allocation $1, $refused"
     else
         echo "FAILED: allocation $1"
         printf '%s\n' "$log"
         failed=1
     fi
 }
-if [ $# -gt 0 ]; then
-    for number in "$@"; do
-        refuse "$number"
-    done
-else
-    number=1
-    count=1
-    while [ "$number" -le "$count" ]; do
-        refuse "$number"
-        count="$(printf '%s\n' "$log" | sed -n 's/^allocations: //p')"
-        number=$((number + 1))
-    done
+if [ $# -eq 0 ]; then
+    # More than there are: none is refused, and they are counted.
+    log="$(rt try --fail-alloc 1000000 2>&1)" || true
+    count="$(printf '%s\n' "$log" | sed -n 's/^allocations: //p')"
+    set -- $(seq "$count")
 fi
+for number in "$@"; do
+    refuse "$number"
+done
 exit $failed

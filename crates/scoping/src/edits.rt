@@ -1,23 +1,26 @@
-//! Edits by hand, and what the tables are after them.
+//! Edits by hand.
 use crate::Scoping;
 use semantic_syntax::{
     Ident, NodeId, Reference, ReferenceFlags, ReferenceId, ScopeFlags, ScopeId, Span, SymbolFlags,
     SymbolId,
 };
-use std::alloc::{AllocError, Global};
-use std::fmt::Write;
+use std::alloc::AllocError;
 
-/// An edit of scope 0, of scope 1 inside it, of symbol 0 or of reference 0. Where it asks for one that is not there,
-/// nothing happens.
+/// An edit. Where none is named it is one of scope 0, of scope 1 inside it, of symbol 0 or of reference 0.
 #[derive(Clone, Copy)]
 pub enum Edit {
     Reserve,
+    /// A scope inside the scope, if any.
     Scope(Option<u8>),
+    /// A symbol of the name.
     Symbol(&'static str),
-    BoundSymbol(&'static str),
+    /// A symbol of the name that the scope binds, with its start.
+    BoundSymbol(&'static str, u8, u8),
+    /// A reference in the scope.
+    Refer(u8),
+    /// The symbol is used by the reference.
+    Use(u8, u8),
     Bind(&'static str),
-    Refer,
-    Use,
     Name(&'static str),
     NameAll(&'static str),
     RenameSymbol(&'static str),
@@ -44,114 +47,139 @@ fn span_at(start: u8) -> Span {
     Span::new(start, start + 1)
 }
 
-/// Scopes, symbols and references are made.
-fn make(scoping: &mut Scoping, edit: Edit) -> Result<(), AllocError> {
-    if scoping.scopes_len() > 9 || scoping.symbols_len() > 9 || scoping.references_len() > 9 {
-        return Ok(());
+/// Makes room, or makes a scope or a reference.
+fn make(scoping: &mut Scoping, edit: Edit) -> Result<bool, AllocError> {
+    if scoping.scopes_len() > 9 || scoping.references_len() > 9 {
+        return Ok(false);
     }
-    let flags = SymbolFlags::BlockScopedVariable;
-    let outer = ScopeId::new(0);
     match edit {
-        Edit::Reserve => scoping.reserve(1, 1, 2),
+        Edit::Reserve => scoping.reserve(1, 1, 2)?,
         Edit::Scope(None) => {
             scoping.add_scope(None, NodeId::ROOT, ScopeFlags::Top)?;
-            Ok(())
         }
         Edit::Scope(Some(parent)) if usize::from(parent) < scoping.scopes_len() => {
             let parent = ScopeId::new(u32::from(parent));
             scoping.add_scope(Some(parent), NodeId::new(1), ScopeFlags::Function)?;
-            Ok(())
         }
-        Edit::Symbol(name) => {
-            let name = Ident::new(name);
-            scoping.create_symbol(span_at(4), name, flags, outer, NodeId::new(2))?;
-            Ok(())
-        }
-        Edit::BoundSymbol(name) if scoping.scopes_len() > 0 => {
-            let name = Ident::new(name);
-            let node = NodeId::new(2);
-            scoping.create_symbol_with_binding(span_at(4), name, flags, outer, outer, node)?;
-            Ok(())
-        }
-        Edit::Refer => {
+        Edit::Refer(scope) => {
             scoping.create_reference(Reference::new(
                 NodeId::new(3),
-                outer,
+                ScopeId::new(u32::from(scope)),
                 ReferenceFlags::write(),
             ))?;
-            Ok(())
         }
-        _ => Ok(()),
+        _ => return Ok(false),
     }
+    Ok(true)
 }
 
-/// Symbol 0 is bound, used, listed and declared again.
-fn declare(scoping: &mut Scoping, edit: Edit) -> Result<(), AllocError> {
-    if scoping.scopes_len() == 0 || scoping.symbols_len() == 0 || scoping.references_len() == 0 {
-        return Ok(());
+/// Makes a symbol.
+fn make_symbol(scoping: &mut Scoping, edit: Edit) -> Result<bool, AllocError> {
+    if scoping.symbols_len() > 9 {
+        return Ok(false);
+    }
+    let flags = SymbolFlags::BlockScopedVariable;
+    let node = NodeId::new(2);
+    match edit {
+        Edit::Symbol(name) => {
+            let scope = ScopeId::new(0);
+            scoping.create_symbol(span_at(4), Ident::new(name), flags, scope, node)?;
+        }
+        Edit::BoundSymbol(name, scope, start) if usize::from(scope) < scoping.scopes_len() => {
+            let name = Ident::new(name);
+            let scope = ScopeId::new(u32::from(scope));
+            scoping.create_symbol_with_binding(span_at(start), name, flags, scope, scope, node)?;
+        }
+        _ => return Ok(false),
+    }
+    Ok(true)
+}
+
+/// Lists a reference as a use or as a free one.
+fn list(scoping: &mut Scoping, edit: Edit) -> Result<bool, AllocError> {
+    match edit {
+        Edit::Use(symbol, reference)
+            if usize::from(symbol) < scoping.symbols_len()
+                && usize::from(reference) < scoping.references_len() => {
+            let symbol = SymbolId::new(u32::from(symbol));
+            let reference = ReferenceId::new(u32::from(reference));
+            scoping.add_resolved_reference(symbol, reference)?;
+        }
+        Edit::Free(name) if scoping.references_len() > 0 => {
+            scoping.add_root_unresolved_reference(Ident::new(name), ReferenceId::new(0))?;
+        }
+        _ => return Ok(false),
+    }
+    Ok(true)
+}
+
+/// Binds symbol 0, declares it again or marks it.
+fn declare(scoping: &mut Scoping, edit: Edit) -> Result<bool, AllocError> {
+    if scoping.scopes_len() == 0 || scoping.symbols_len() == 0 {
+        return Ok(false);
     }
     let symbol = SymbolId::new(0);
-    let reference = ReferenceId::new(0);
     match edit {
-        Edit::Bind(name) => scoping.add_binding(ScopeId::new(0), Ident::new(name), symbol),
-        Edit::Use => scoping.add_resolved_reference(symbol, reference),
+        Edit::Bind(name) => scoping.add_binding(ScopeId::new(0), Ident::new(name), symbol)?,
         Edit::Redeclare(start) => {
             let flags = SymbolFlags::FunctionScopedVariable;
-            scoping.add_symbol_redeclaration(symbol, flags, NodeId::new(4), span_at(start))
+            scoping.add_symbol_redeclaration(symbol, flags, NodeId::new(4), span_at(start))?
         }
-        Edit::Mark => scoping.mark_no_side_effects(symbol),
-        Edit::Free(name) => scoping.add_root_unresolved_reference(Ident::new(name), reference),
-        _ => Ok(()),
+        Edit::Mark => scoping.mark_no_side_effects(symbol)?,
+        _ => return Ok(false),
     }
+    Ok(true)
 }
 
-/// Symbol 0 gets another name.
-fn rename(scoping: &mut Scoping, edit: Edit) -> Result<(), AllocError> {
+/// Gives symbol 0 another name.
+fn rename(scoping: &mut Scoping, edit: Edit) -> Result<bool, AllocError> {
     if scoping.scopes_len() == 0 || scoping.symbols_len() == 0 {
-        return Ok(());
+        return Ok(false);
     }
     let outer = ScopeId::new(0);
     let symbol = SymbolId::new(0);
     match edit {
-        Edit::Name(name) => scoping.set_symbol_name(symbol, Ident::new(name)),
-        Edit::NameAll(name) => scoping.set_symbol_names(&[symbol], Ident::new(name)),
-        Edit::RenameSymbol(name) => scoping.rename_symbol(symbol, outer, Ident::new(name)),
+        Edit::Name(name) => scoping.set_symbol_name(symbol, Ident::new(name))?,
+        Edit::NameAll(name) => scoping.set_symbol_names(&[symbol], Ident::new(name))?,
+        Edit::RenameSymbol(name) => scoping.rename_symbol(symbol, outer, Ident::new(name))?,
         Edit::RenameBinding(old, new) => {
             let old = Ident::new(old);
             match scoping.get_binding(outer, old) {
                 Some(found) if found == symbol => {
-                    scoping.rename_binding(outer, symbol, old, Ident::new(new))
+                    scoping.rename_binding(outer, symbol, old, Ident::new(new))?
                 }
-                _ => Ok(()),
+                _ => return Ok(false),
             }
         }
-        _ => Ok(()),
+        _ => return Ok(false),
     }
+    Ok(true)
 }
 
-/// Bindings move between scopes 0 and 1.
-fn move_bindings(scoping: &mut Scoping, edit: Edit) -> Result<(), AllocError> {
+/// Moves bindings between scopes 0 and 1.
+fn move_bindings(scoping: &mut Scoping, edit: Edit) -> Result<bool, AllocError> {
     if scoping.scopes_len() < 2 || scoping.symbols_len() == 0 {
-        return Ok(());
+        return Ok(false);
     }
     let outer = ScopeId::new(0);
     let inner = ScopeId::new(1);
     let symbol = SymbolId::new(0);
     match edit {
-        Edit::MoveInward(name) => scoping.move_binding(outer, inner, Ident::new(name)),
-        Edit::MoveSymbolInward => scoping.move_binding_by_symbol_id(outer, inner, symbol),
-        Edit::MoveSymbolOutward => scoping.move_binding_by_symbol_id(inner, outer, symbol),
+        Edit::MoveInward(name) => scoping.move_binding(outer, inner, Ident::new(name))?,
+        Edit::MoveSymbolInward => scoping.move_binding_by_symbol_id(outer, inner, symbol)?,
+        Edit::MoveSymbolOutward => scoping.move_binding_by_symbol_id(inner, outer, symbol)?,
         Edit::TakeOverOutward if scoping.get_bindings(outer).is_empty() => {
-            scoping.take_over_bindings(inner, outer)
+            scoping.take_over_bindings(inner, outer)?
         }
-        _ => Ok(()),
+        _ => return Ok(false),
     }
+    Ok(true)
 }
 
-/// What takes no memory.
-fn delete(scoping: &mut Scoping, edit: Edit) {
+/// Makes an edit that takes no memory.
+fn delete(scoping: &mut Scoping, edit: Edit) -> bool {
     if scoping.scopes_len() < 2 || scoping.symbols_len() == 0 || scoping.references_len() == 0 {
-        return;
+        return false;
     }
     let symbol = SymbolId::new(0);
     let reference = ReferenceId::new(0);
@@ -170,64 +198,25 @@ fn delete(scoping: &mut Scoping, edit: Edit) {
         Edit::RetainAll => scoping.retain_resolved_references_excluding(&[]),
         Edit::RetainNone => scoping.retain_resolved_references_excluding(&[true]),
         Edit::Uproot => scoping.set_scope_parent_id(ScopeId::new(1), None),
-        _ => {}
+        _ => return false,
     }
+    true
 }
 
-/// Makes the edit.
-pub fn take(scoping: &mut Scoping, edit: Edit) -> Result<(), AllocError> {
-    make(scoping, edit)?;
-    declare(scoping, edit)?;
-    rename(scoping, edit)?;
-    move_bindings(scoping, edit)?;
-    delete(scoping, edit);
-    Ok(())
+/// Makes a scope, a symbol or a reference, or lists one.
+fn add(scoping: &mut Scoping, edit: Edit) -> Result<bool, AllocError> {
+    let made = make(scoping, edit)?;
+    let made_symbol = make_symbol(scoping, edit)?;
+    let listed = list(scoping, edit)?;
+    Ok(made || made_symbol || listed)
 }
 
-/// What the scope binds, as `1<0[ a=0 b=1] `: its number, its parent's and the pairs.
-fn write_bound(text: &mut String, scoping: &Scoping, scope: ScopeId) -> Result<(), AllocError> {
-    if scope.index() >= scoping.scopes_len() {
-        return Ok(());
-    }
-    let number = scope.index();
-    write!(text, "{number}")?;
-    if let Some(parent) = scoping.scope_parent_id(scope) {
-        let parent = parent.index();
-        write!(text, "<{parent}")?;
-    }
-    text.push_str("[")?;
-    for (name, symbol) in scoping.get_bindings(scope).iter() {
-        let name = name.as_str();
-        let symbol = symbol.index();
-        write!(text, " {name}={symbol}")?;
-    }
-    text.push_str("] ")
-}
-
-/// Symbol 0, as `a@0 4-5 r2 u1 `: its name, its scope, its span, and how many redeclarations and uses it has.
-fn write_symbol(text: &mut String, scoping: &Scoping) -> Result<(), AllocError> {
-    if scoping.symbols_is_empty() {
-        return Ok(());
-    }
-    let symbol = SymbolId::new(0);
-    let name = scoping.symbol_name(symbol);
-    let scope = scoping.symbol_scope_id(symbol).index();
-    let span = scoping.symbol_span(symbol);
-    let start = span.start;
-    let end = span.end;
-    let declared = scoping.symbol_redeclarations(symbol).len();
-    let used = scoping.get_resolved_reference_ids(symbol).len();
-    write!(text, "{name}@{scope} {start}-{end} r{declared} u{used} ")
-}
-
-/// The tables in one line: both scopes, the symbol, and how many free lists and symbols without side effects there are.
-pub fn shown(alloc: Global, scoping: &Scoping) -> Result<String, AllocError> {
-    let mut text = String::new(alloc);
-    write_bound(&mut text, scoping, ScopeId::new(0))?;
-    write_bound(&mut text, scoping, ScopeId::new(1))?;
-    write_symbol(&mut text, scoping)?;
-    let free = scoping.root_unresolved_references().len();
-    let pure = scoping.no_side_effects().len();
-    write!(text, "f{free} p{pure}")?;
-    Ok(text)
+/// Makes the edit, and tells whether it could be made: what it speaks of must be there.
+pub fn take(scoping: &mut Scoping, edit: Edit) -> Result<bool, AllocError> {
+    let added = add(scoping, edit)?;
+    let declared = declare(scoping, edit)?;
+    let renamed = rename(scoping, edit)?;
+    let moved = move_bindings(scoping, edit)?;
+    let deleted = delete(scoping, edit);
+    Ok(added || declared || renamed || moved || deleted)
 }

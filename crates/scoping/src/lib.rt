@@ -27,6 +27,12 @@ pub use symbol_iterators::{Declarations, SymbolIds, SymbolNames};
 pub use unresolved::{FreeLists, UnresolvedIter, UnresolvedReferences};
 
 #[cfg(test)]
+mod edit_rows;
+#[cfg(test)]
 mod edits;
+#[cfg(test)]
+mod long_row;
+#[cfg(test)]
+mod table_text;
 #[cfg(test)]
 mod tests;

@@ -1,5 +1,8 @@
 //! Rows of edits with the tables that they leave, written out by hand.
-use crate::edits::{Edit, shown, take};
+use crate::edit_rows::{Row, edit_at, len_of};
+use crate::edits::{Edit, take};
+use crate::long_row::LONG_ROW_END;
+use crate::table_text::text_of;
 use crate::{NodeTables, Scoping};
 use semantic_syntax::{
     Ident, NodeId, Reference, ReferenceFlags, ReferenceId, ScopeFlags, ScopeId, Span, SymbolFlags,
@@ -17,46 +20,68 @@ fn leaves(
     edit: Edit,
     wanted: &str,
 ) -> Result<(), Fail> {
-    take(scoping, edit)?;
-    let text = shown(alloc, scoping)?;
+    let taken = take(scoping, edit)?;
+    assert!(rt; taken);
+    shows(rt, alloc, scoping, wanted)
+}
+
+/// Makes the edits of the row, each of which leaves its tables.
+fn make_row(rt: &impl Abort, alloc: Global, scoping: &mut Scoping, row: Row) -> Result<(), Fail> {
+    for place in 0..len_of(row) {
+        let entry = edit_at(row, place);
+        assert!(rt; entry.is_some());
+        if let Some((edit, wanted)) = entry {
+            leaves(rt, alloc, scoping, edit, wanted)?;
+        }
+    }
+    Ok(())
+}
+
+/// The tables have the text.
+fn shows(rt: &impl Abort, alloc: Global, scoping: &Scoping, wanted: &str) -> Result<(), Fail> {
+    let text = text_of(alloc, scoping)?;
     assert_eq!(rt; text.as_str(), wanted);
     Ok(())
 }
 
-/// A symbol that is declared again where it was declared first, and then renamed and moved.
-fn declared_row(place: usize) -> Option<(Edit, &'static str)> {
-    let edit = match place {
-        0 => (Edit::Scope(None), "0[] f0 p0"),
-        1 => (Edit::Scope(Some(0)), "0[] 1<0[] f0 p0"),
-        2 => (Edit::BoundSymbol("a"), "0[ a=0] 1<0[] a@0 4-5 r0 u0 f0 p0"),
-        3 => (Edit::Refer, "0[ a=0] 1<0[] a@0 4-5 r0 u0 f0 p0"),
-        4 => (Edit::Redeclare(4), "0[ a=0] 1<0[] a@0 4-5 r2 u0 f0 p0"),
-        5 => (
-            Edit::RemoveDeclaration(4),
-            "0[ a=0] 1<0[] a@0 4-5 r0 u0 f0 p0",
-        ),
-        6 => (Edit::Redeclare(9), "0[ a=0] 1<0[] a@0 4-5 r1 u0 f0 p0"),
-        7 => (Edit::Bind("f"), "0[ a=0 f=0] 1<0[] a@0 4-5 r1 u0 f0 p0"),
-        8 => (Edit::Name("z"), "0[ a=0 f=0] 1<0[] z@0 4-5 r1 u0 f0 p0"),
-        9 => (
-            Edit::MoveSymbolInward,
-            "0[ a=0 f=0] 1<0[] z@1 4-5 r1 u0 f0 p0",
-        ),
-        _ => return None,
-    };
-    Some(edit)
+/// A clone of the tables has the text.
+fn clone_shows(
+    rt: &impl Abort,
+    alloc: Global,
+    scoping: &Scoping,
+    wanted: &str,
+) -> Result<(), Fail> {
+    let copy = scoping.clone_in_with_semantic_ids_with_another_arena(alloc)?;
+    shows(rt, alloc, &copy, wanted)
 }
 
 #[test]
-fn declarations_and_names_leave_the_rest(rt: HostRuntime) -> Result<(), Fail> {
+fn each_edit_leaves_its_tables(rt: HostRuntime) -> Result<(), Fail> {
     let alloc = rt.alloc();
     let mut tables = Scoping::new(alloc);
-    for place in 0..10 {
-        if let Some((edit, wanted)) = declared_row(place) {
-            leaves(&rt, alloc, &mut tables, edit, wanted)?;
-        }
-    }
-    Ok(())
+    make_row(&rt, alloc, &mut tables, Row::Long)?;
+    make_row(&rt, alloc, &mut tables, Row::Idle)?;
+    clone_shows(&rt, alloc, &tables, LONG_ROW_END)
+}
+
+#[test]
+fn declarations_of_one_span_go_together(rt: HostRuntime) -> Result<(), Fail> {
+    let alloc = rt.alloc();
+    let mut tables = Scoping::new(alloc);
+    make_row(&rt, alloc, &mut tables, Row::Declared)
+}
+
+/// The tables of a function are changed by the row.
+fn changes_function(rt: &impl Abort, alloc: Global, row: Row) -> Result<(), Fail> {
+    let mut tables = Scoping::new(alloc);
+    make_row(rt, alloc, &mut tables, Row::Function)?;
+    make_row(rt, alloc, &mut tables, row)
+}
+
+#[test]
+fn parents_and_names_leave_the_rest(rt: HostRuntime) -> Result<(), Fail> {
+    changes_function(&rt, rt.alloc(), Row::Uprooted)?;
+    changes_function(&rt, rt.alloc(), Row::Renamed)
 }
 
 /// Binds the name in the root to a symbol with the flags.
@@ -91,6 +116,20 @@ fn is_bound(scoping: &Scoping, name: &str) -> bool {
     scoping.scopes_len() > 0 && scoping.scope_has_binding(scoping.root_scope_id(), Ident::new(name))
 }
 
+/// A symbol with the flags that is used in the way, once types went.
+fn without_types(
+    alloc: Global,
+    flags: SymbolFlags,
+    way: ReferenceFlags,
+) -> Result<Scoping, AllocError> {
+    let mut tables = Scoping::new(alloc);
+    tables.add_scope(None, NodeId::ROOT, ScopeFlags::Top)?;
+    bind(&mut tables, "a", flags)?;
+    refer(&mut tables, "a", way)?;
+    tables.delete_typescript_bindings();
+    Ok(tables)
+}
+
 /// Of a symbol with the flags that is used in the way, this stays as types go.
 fn stays(
     rt: &impl Abort,
@@ -99,38 +138,42 @@ fn stays(
     way: ReferenceFlags,
     wanted: (bool, bool),
 ) -> Result<(), Fail> {
-    let mut tables = Scoping::new(alloc);
-    tables.add_scope(None, NodeId::ROOT, ScopeFlags::Top)?;
-    bind(&mut tables, "a", flags)?;
-    refer(&mut tables, "a", way)?;
-    tables.delete_typescript_bindings();
-    let bound = is_bound(&tables, "a");
+    let tables = without_types(alloc, flags, way)?;
     let free = tables.root_unresolved_references().len();
-    assert_eq!(rt; (bound, free == 1), wanted);
+    assert_eq!(rt; (is_bound(&tables, "a"), free == 1), wanted);
     Ok(())
 }
 
-#[test]
-fn types_go_alone(rt: HostRuntime) -> Result<(), Fail> {
-    let alloc = rt.alloc();
+/// The flags of a symbol, the way in which it is used, and whether its binding and the free reference stay.
+fn stay_at(place: usize) -> Option<(SymbolFlags, ReferenceFlags, (bool, bool))> {
     let read = ReferenceFlags::Read;
     let as_type = ReferenceFlags::TypeFlag;
     let type_of = ReferenceFlags::ValueAsType;
     let class = SymbolFlags::Class;
-    stays(&rt, alloc, class, read, (true, true))?;
-    stays(&rt, alloc, class, as_type, (true, false))?;
-    stays(&rt, alloc, class, read.union(as_type), (true, true))?;
-    stays(&rt, alloc, class, read.union(type_of), (true, false))?;
-    stays(&rt, alloc, SymbolFlags::TypeAlias, read, (false, true))?;
-    stays(&rt, alloc, SymbolFlags::Interface, read, (false, true))?;
-    stays(&rt, alloc, SymbolFlags::TypeParameter, read, (false, true))?;
-    stays(
-        &rt,
-        alloc,
-        SymbolFlags::EnumMember.union(class),
-        read,
-        (false, true),
-    )
+    let case = match place {
+        0 => (class, read, (true, true)),
+        1 => (class, as_type, (true, false)),
+        2 => (class, read.union(as_type), (true, true)),
+        3 => (class, read.union(type_of), (true, false)),
+        4 => (SymbolFlags::TypeAlias, read, (false, true)),
+        5 => (SymbolFlags::Interface, read, (false, true)),
+        6 => (SymbolFlags::TypeParameter, read, (false, true)),
+        7 => (SymbolFlags::EnumMember.union(class), read, (false, true)),
+        _ => return None,
+    };
+    Some(case)
+}
+
+#[test]
+fn types_go_alone(rt: HostRuntime) -> Result<(), Fail> {
+    for place in 0..8 {
+        let case = stay_at(place);
+        assert!(rt; case.is_some());
+        if let Some((flags, way, wanted)) = case {
+            stays(&rt, rt.alloc(), flags, way, wanted)?;
+        }
+    }
+    Ok(())
 }
 
 #[test]
