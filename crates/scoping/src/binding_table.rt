@@ -131,6 +131,36 @@ impl BindingTable {
         Some(*symbol)
     }
 
+    /// Whether the entry at the place of the map is the number's.
+    fn is_at(&self, scope: ScopeId, number: usize, place: usize) -> bool {
+        match self.entries.get_index(place) {
+            Some((key, _)) => key.0 == scope && key.1 == number,
+            None => false,
+        }
+    }
+
+    /// The place of the number's entry in the map. The given one is tried first: the entries of a scope often stand one
+    /// behind the other, and a search costs more.
+    pub fn place_near(&self, scope: ScopeId, number: usize, place: usize) -> usize {
+        if self.is_at(scope, number, place) {
+            return place;
+        }
+        self.entries.get_index_of(&(scope, number)).unwrap_or(place)
+    }
+
+    /// The symbol that the scope binds to the number, whose entry is at the place most likely.
+    pub fn get_at(&self, scope: ScopeId, number: usize, place: usize) -> Option<SymbolId>
+        requires { scope < length self.now }
+        ensures { result ≡ lookup (nat_eq number) (slice_index_or self.now scope []) }
+    {
+        if let Some((key, symbol)) = self.entries.get_index(place) {
+            if key.0 == scope && key.1 == number {
+                return Some(*symbol);
+            }
+        }
+        self.get(scope, number)
+    }
+
     /// The numbers that the scope binds, in the order of binding.
     pub fn numbers(&self, scope: ScopeId) -> &[usize]
         requires { scope < length self.now }

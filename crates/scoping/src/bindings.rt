@@ -14,12 +14,13 @@ use semantic_syntax::{Ident, ScopeId, SymbolId};
 use std::marker::Model;
 use std::slice::Iter;
 
-/// What one scope binds, in the order of binding.
+/// What one scope binds, in the order of binding, and where its first entry is most likely.
 #[derive(Drop)]
 pub struct Bindings<'s> {
     names: &'s NameTable,
     table: &'s BindingTable,
     scope: ScopeId,
+    place: usize,
 }
 
 impl<'s> Model for Bindings<'s> {
@@ -35,7 +36,12 @@ impl<'s> Model for Bindings<'s> {
 }
 
 impl<'s> Bindings<'s> {
-    pub(crate) fn new(names: &'s NameTable, table: &'s BindingTable, scope: ScopeId) -> Bindings<'s>
+    pub(crate) fn new(
+        names: &'s NameTable,
+        table: &'s BindingTable,
+        scope: ScopeId,
+        place: usize,
+    ) -> Bindings<'s>
         requires scope { scope < length table.now }
         requires known { AllByRecursion (λ (e : ℕ × ℕ). e.0 < length names.now) (slice_index_or table.now scope []) }
         ensures { result ≡ named names.now (slice_index_or table.now scope []) }
@@ -44,6 +50,7 @@ impl<'s> Bindings<'s> {
             names,
             table,
             scope,
+            place,
         }
     }
 
@@ -64,6 +71,7 @@ impl<'s> Bindings<'s> {
             table: self.table,
             scope: self.scope,
             numbers: self.table.numbers(self.scope).iter(),
+            place: self.place,
         }
     }
 
@@ -82,13 +90,14 @@ impl<'s> Bindings<'s> {
     }
 }
 
-/// The pairs of a name and its symbol that are left.
+/// The pairs of a name and its symbol that are left, and where the first entry of them is most likely.
 #[derive(Drop)]
 pub struct BindingsIter<'s> {
     names: &'s NameTable,
     table: &'s BindingTable,
     scope: ScopeId,
     numbers: Iter<'s, usize>,
+    place: usize,
 }
 
 impl<'s> Model for BindingsIter<'s> {
@@ -113,17 +122,21 @@ impl<'s> Iterator for BindingsIter<'s> {
 
     fn next(&mut self) -> Option<(Ident<'s>, SymbolId)> {
         let number = self.numbers.next()?;
-        let symbol = self.table.get(self.scope, *number)?;
+        let place = self.table.place_near(self.scope, *number, self.place);
+        self.place = place.wrapping_add(1);
+        let symbol = self.table.get_at(self.scope, *number, place)?;
         Some((Ident::new(self.names.name(*number)), symbol))
     }
 }
 
-/// The symbols that a scope binds, in the order of binding, that are left.
+/// The symbols that a scope binds, in the order of binding, that are left, and where the first entry of them is most
+/// likely.
 #[derive(Drop)]
 pub struct BoundSymbols<'s> {
     table: &'s BindingTable,
     scope: ScopeId,
     numbers: Iter<'s, usize>,
+    place: usize,
 }
 
 impl<'s> Model for BoundSymbols<'s> {
@@ -147,6 +160,7 @@ impl<'s> BoundSymbols<'s> {
             table,
             scope,
             numbers: table.numbers(scope).iter(),
+            place: 0,
         }
     }
 
@@ -167,18 +181,21 @@ impl<'s> Iterator for BoundSymbols<'s> {
 
     fn next(&mut self) -> Option<SymbolId> {
         let number = self.numbers.next()?;
-        let symbol = self.table.get(self.scope, *number)?;
+        let place = self.table.place_near(self.scope, *number, self.place);
+        self.place = place.wrapping_add(1);
+        let symbol = self.table.get_at(self.scope, *number, place)?;
         Some(symbol)
     }
 }
 
-/// The scopes with what they bind that are left.
+/// The scopes with what they bind that are left. Where scopes bind one after the other, the next entry is at the place.
 #[derive(Drop)]
 pub struct AllBindings<'s> {
     names: &'s NameTable,
     table: &'s BindingTable,
     next: usize,
     left: usize,
+    place: usize,
 }
 
 impl<'s> Model for AllBindings<'s> {
@@ -210,6 +227,7 @@ impl<'s> AllBindings<'s> {
             table,
             next: 0,
             left: count,
+            place: 0,
         }
     }
 
@@ -233,8 +251,10 @@ impl<'s> Iterator for AllBindings<'s> {
             return None;
         }
         let scope = ScopeId::new(self.next as u32);
+        let bindings = Bindings::new(self.names, self.table, scope, self.place);
+        self.place = self.place.wrapping_add(bindings.len());
         self.next += 1;
         self.left -= 1;
-        Some((scope, Bindings::new(self.names, self.table, scope)))
+        Some((scope, bindings))
     }
 }
