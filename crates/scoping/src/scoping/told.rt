@@ -1,4 +1,5 @@
 //! What a look-up asks.
+ghost use Rattle.std.specs.Prelude.{◌≡◌, length};
 ghost use Rattle.scoping.specs.Source.{IsSource};
 ghost use Rattle.scoping.specs.Told.{source_of};
 
@@ -9,9 +10,11 @@ use semantic_syntax::{
 };
 
 impl Scoping {
-    /// The parents make no cycle, and each parent and each bound symbol exists. What walks outward rests on this.
+    /// The parents make no cycle, each parent and each bound symbol exists, and each scope has a list of bindings.
+    /// What walks outward rests on this.
     pub fn attest(&self)
-        ensures { IsSource (source_of self.now) }
+        ensures source { IsSource (source_of self.now) }
+        ensures counted { length self.now.bindings ≡ length self.now.scopes }
     {
         let _scopes = &self.scopes;
     }

@@ -33,6 +33,6 @@ returns-clause-within g c =
     let t = c.self.inside.scoping in
     rw (← c.self.view_is)
     (if_ok_is c.resolve_header.result (All (IsOutcomeWithin (length t.symbols) (length t.scopes))) _ c.resolve_header.ensures.outcomes
-    (header-within (told_of t) c.attest.ensures c.args.scope (drop c.args.start c.self.inside.pending) (rw (← c.self.view_is) at c.requires.scope)
+    (header-within (told_of t) c.attest.ensures.source c.args.scope (drop c.args.start c.self.inside.pending) (rw (← c.self.view_is) at c.requires.scope)
     (All-drop (λ (u : UnresolvedReference). u.lookup_scope_id < length t.scopes) c.args.start c.self.inside.pending
     (scopes_exist t c.self.inside.pending c.self.invariant.waiting))))

@@ -26,4 +26,4 @@ returns-clause-within g c =
     let t = c.self.inside.scoping in
     rw (← c.self.view_is)
     (if_ok_is c.resolve_all.result (All (IsOutcomeWithin (length t.symbols) (length t.scopes))) _ c.resolve_all.ensures.outcomes
-    (last-within (told_of t) c.attest.ensures c.self.inside.pending (scopes_exist t c.self.inside.pending c.self.invariant.waiting)))
+    (last-within (told_of t) c.attest.ensures.source c.self.inside.pending (scopes_exist t c.self.inside.pending c.self.invariant.waiting)))
