@@ -20,7 +20,7 @@ use Rattle.walk_model.proofs.Nested.{Descends, descends_more}
 use Rattle.walk_model.proofs.ChainRows.{chain_descends}
 use Rattle.walk_model.proofs.Turned.{StandsAt}
 use Rattle.walk_model.proofs.Starts.{WaitsBelow, IsSound, FirstBelow, first_kept, GoesOn, opening_goes, opening_first, StepsFrom, steps_go}
-pub use Rattle.walk_model.specs.Waits.{IsHeader, HoldsAt}
+pub use Rattle.walk_model.specs.Waits.{IsHeader, HoldsAt, start_at}
 
 pub from-append : (c n : ℕ) (xs ys : List Step) → StepsFrom c n xs → StepsFrom c (n + openings xs) ys → StepsFrom c n (xs ++ ys)
 from-append c n [] ys h k = subst (λ m. StepsFrom c m ys) (omega arith) k
@@ -167,11 +167,6 @@ header_enough (Some s) start w h = h.enough
 holds_on : (w v : Standing) (own : Option OpenScope) (start : ℕ) → IsHeader own start w → GoesOn start w v → HoldsAt v own start
 holds_on w v None start h g = record { sound = g.sound; header = g.before.enough }
 holds_on w v (Some s) start h g = record { sound = g.sound; header = first_kept s.number start w v g.before h }
-
--- where the header starts once a child in the role is reached
-abbrev pub start_at : Place → Role → Option OpenScope → ℕ → Standing → ℕ
-start_at p r (Some s) start w = start
-start_at p r None start w = cond (is_inside p.node.kind r) (length w.waiting) start
 
 -- before a child
 pub holds_opening : (ds : List Declaration) (w : Standing) (p : Place) (r : Role) (own : Option OpenScope) (start n : ℕ) → StandsAt w p own n → HoldsAt w own start

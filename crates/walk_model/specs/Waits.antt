@@ -1,9 +1,11 @@
 -- Where references wait, and which of them a header has.
-use Rattle.std.specs.Prelude.{ℕ, ◌<◌, ◌≤◌, List, Option, Some, None, IfSome, length, take, slice_index_or}
+use Rattle.std.specs.Prelude.{ℕ, ◌<◌, ◌≤◌, List, Option, Some, None, IfSome, cond, length, take, slice_index_or}
 use Rattle.std.specs.List.{AllByRecursion}
+use Rattle.semantic_kinds.specs.declared.role.Role.{Role}
 use Rattle.semantic_syntax.specs.Tables.{Scope}
 use Rattle.scoping.specs.Reading.{no_scope}
-use Rattle.semantic_model.specs.Place.{OpenScope}
+use Rattle.semantic_model.specs.Place.{Place, OpenScope}
+use Rattle.semantic_model.specs.Inside.{is_inside}
 use Rattle.semantic_model.specs.Outcome.{Pending}
 use Rattle.walk_model.specs.Standing.{Standing}
 
@@ -33,3 +35,8 @@ IsHeader (Some s) start w = FirstBelow s.number start w
 pub record HoldsAt (w : Standing) (own : Option OpenScope) (start : ℕ) : Type 0 where
   pub sound : IsSound w
   pub header : IsHeader own start w
+
+-- where the header starts once a child in the role is reached
+abbrev pub start_at : Place → Role → Option OpenScope → ℕ → Standing → ℕ
+start_at p r (Some s) start w = start
+start_at p r None start w = cond (is_inside p.node.kind r) (length w.waiting) start
