@@ -18,3 +18,14 @@ pub mod Bridging
 pub mod Outside
 pub mod Innermost
 pub mod Counting
+pub mod Beginning
+pub mod Opening
+pub mod TurnEnds
+pub mod Visiting
+pub mod EachName
+pub mod RowActs
+pub mod PlaceDeclares
+pub mod PlaceRows
+pub mod PlaceFunctions
+pub mod BindArms
+pub mod EnterSteps

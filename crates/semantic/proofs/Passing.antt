@@ -1,15 +1,12 @@
 -- Steps of loops over scopes that are passed.
-use Rattle.std.proofs.Common.{◌≡◌, ℕ, ◌+◌, ◌<◌, ◌≤◌, List, [], ◌∷◌, length, get_or, drop, map, flat_map, ◌++◌, Option, None, Some, refl, sym}
+use Rattle.std.proofs.Common.{◌≡◌, ℕ, ◌+◌, ◌<◌, ◌≤◌, List, [], ◌∷◌, length, get_or, drop, Option, None, Some, refl, sym}
 use Rattle.std.proofs.Math.ListN.{drop_of_length-le}
 use Rattle.std.proofs.Math.Seq.{drop-cons}
 use Rattle.std.proofs.Math.Numerals.{add-one}
 use Rattle.semantic_syntax.specs.Tables.{Name}
-use Rattle.semantic_tree.specs.declared.node.Node.{Node}
-use Rattle.std.proofs.lemmas.List.{map-append}
 use Rattle.walk_model.specs.Standing.{Standing}
 use Rattle.walk_model.specs.Naming.{Naming}
-use Rattle.walk_model.specs.Declares.{found, declare}
-use Rattle.semantic.specs.Each.{declare_each, names_of}
+use Rattle.walk_model.specs.Declares.{found}
 use Rattle.walk_model.specs.Hoists.{counting, hit, against_found, against_way, remember, remember_all}
 
 pub drop_here : {A : Type 0} (items : List A) (i : ℕ) (here : A) → i < length items → here ≡ get_or items i here → drop i items ≡ here ∷ drop (i + 1) items
@@ -48,15 +45,5 @@ way_end w d items i h = rw (drop_of_length-le items h) refl
 
 pub hit_end : (w : Standing) (x : Name) (items : List ℕ) (i : ℕ) → length items ≤ i → hit w (drop i items) x ≡ None
 hit_end w x items i h = rw (drop_of_length-le items h) refl
-
-declare_each_append : (ds es : List Naming) (w : Standing) (s : ℕ) → declare_each w s (ds ++ es) ≡ declare_each (declare_each w s ds) s es
-declare_each_append [] es w s = refl
-declare_each_append (d ∷ ds) es w s = declare_each_append ds es (declare w s d) s
-
--- the names of all parts that are left are those of the first, and those of the rest
-pub parts_turn : (f : Node → Naming) (w : Standing) (s : ℕ) (part : Node) (before after : List Node) → before ≡ part ∷ after
-    → declare_each w s (map f (flat_map names_of before)) ≡ declare_each (declare_each w s (map f (names_of part))) s (map f (flat_map names_of after))
-parts_turn f w s part before after is =
-    rw (is, map-append f (names_of part) (flat_map names_of after)) (declare_each_append (map f (names_of part)) (map f (flat_map names_of after)) w s)
 
 pub ruleset passing = (remember_turn, remember_end, way_end, hit_end)

@@ -1,15 +1,19 @@
 -- What a walk declares where it stands.
-use Rattle.std.specs.Prelude.{ℕ, Bool, List, false, map}
-use Rattle.semantic_kinds.specs.declared.role.Role.{Role}
-use Rattle.semantic_kinds.specs.declared.role.Role.TheVariants as role
+use Rattle.std.specs.Prelude.{ℕ, Bool, List, [], ◌∷◌, ◌||◌, Option, Some, None, cond, drop, map}
+use Rattle.semantic_kinds.specs.declared.kind.AstType.TheVariants as kind
+use Rattle.semantic_syntax.specs.declared.scope_flags.TheConstants.ScopeFlags as scope
+use Rattle.semantic_syntax.specs.Tables.{Name, Tables}
 use Rattle.semantic_tree.specs.declared.node.Node.{Node}
-use Rattle.semantic_tree.specs.Views.{all_in}
-use Rattle.semantic_model.specs.Place.{OpenScope}
-use Rattle.semantic_model.specs.Declaration.{Route as Way}
+use Rattle.semantic_model.specs.Nodes.{is}
+use Rattle.semantic_model.specs.Declaration.{Declaration, Route as Way}
+use Rattle.semantic_model.specs.Event.{declares_all}
 use Rattle.walk_model.specs.Naming.{Naming}
+use Rattle.walk_model.specs.Walks.{act_all}
+use Rattle.walk_model.specs.WrittenNames.{Written, is_known_inside}
 use Rattle.semantic.specs.Walker.{Walker}
 use Rattle.semantic.specs.Routes.{way_from}
-use Rattle.semantic.specs.Each.{declare_each, hoist_each}
+use Rattle.semantic.specs.WrittenNames.{stands_on}
+use Rattle.semantic.specs.Each.{declare_each, hoist_each, settle_in_block}
 
 -- each is declared in the current scope
 abbrev pub declaring : Walker → List Naming → Walker
@@ -24,3 +28,26 @@ abbrev pub hoisting : Walker → ℕ → List Naming → Walker
 hoisting w bits ds =
     let way : Way = way_from w.made.tables w.current bits in
     record w { made = hoist_each w.made (map (λ s. s.number) way.passed) way.target.number ds }
+
+-- where a function of a block moves: to the nearest function, unless a namesake stands strictly between
+abbrev pub block_target : Tables → List Written → (block : ℕ) → Name → Option ℕ
+block_target t ws block x =
+    let way : Way = way_from t block scope.Var.bits in
+    cond (stands_on t ws x (drop 1 (map (λ s. s.number) way.passed))) None (Some way.target.number)
+
+-- the function of a block is declared, and moves where it may
+abbrev pub moving_one : Walker → Naming → Walker
+moving_one w d = record w { made = settle_in_block w.made w.current (block_target w.made.tables w.namesakes w.current d.name) d }
+
+-- each is declared as a function of a block
+abbrev pub moving : Walker → List Naming → Walker
+moving w [] = w
+moving w (d ∷ ds) = moving (moving_one w d) ds
+
+-- the walk makes what the definition declares, among the written declarations of the program
+abbrev pub acting : List Declaration → Walker → List Declaration → Walker
+acting ds w new = record w { made = act_all w.made (declares_all ds new) }
+
+-- whether the node declares in its own scope: a function or class expression, and a mapped type
+abbrev pub is_bound_inside : Node → Bool
+is_bound_inside node = is_known_inside node || is kind.TSMappedType node

@@ -1,25 +1,15 @@
 -- Declarations of all the names of a node.
-use Rattle.std.specs.Prelude.{ℕ, List, [], ◌∷◌, Option, Some, None, cond, map, flat_map}
+use Rattle.std.specs.Prelude.{ℕ, List, [], ◌∷◌, Option, Some, None, cond, map}
 use Rattle.semantic_kinds.specs.declared.kind.AstType.TheVariants as kind
-use Rattle.semantic_kinds.specs.declared.role.Role.{Role}
 use Rattle.semantic_tree.specs.declared.node.Node.{Node}
-use Rattle.semantic_tree.specs.BoundNames.{bound_names, rising}
-use Rattle.semantic_tree.specs.Views.{all_in}
 use Rattle.semantic_model.specs.Nodes.{is}
+use Rattle.semantic_model.specs.Names.{bound_names}
 use Rattle.semantic_model.specs.Binder.{member_names}
 use Rattle.walk_model.specs.Standing.{Standing}
 use Rattle.walk_model.specs.Naming.{Naming}
 use Rattle.walk_model.specs.Declares.{declare, declare_anew}
 use Rattle.walk_model.specs.Hoists.{hoist, declare_and_move}
 use Rattle.semantic.specs.Named.{member_naming, caught_naming, pattern_naming}
-
--- the names that a node binds, as the walk meets them
-abbrev pub names_of : Node → List Node
-names_of node = rising 0 (bound_names node)
-
--- the names under a role of a node
-abbrev pub names_under : Role → Node → List Node
-names_under r node = flat_map names_of (all_in r node)
 
 -- each is declared in the scope
 abbrev pub declare_each : Standing → ℕ → List Naming → Standing
@@ -41,7 +31,7 @@ abbrev pub declare_pattern : Standing → ℕ → (parameter pattern : Node) →
 declare_pattern w s parameter pattern =
     cond (is kind.BindingIdentifier pattern)
     (declare_anew w s (caught_naming parameter pattern))
-    (declare_each w s (map (pattern_naming parameter) (names_of pattern)))
+    (declare_each w s (map (pattern_naming parameter) (bound_names pattern)))
 
 -- each pattern of a catch clause
 abbrev pub declare_patterns : Standing → ℕ → (parameter : Node) → List Node → Standing

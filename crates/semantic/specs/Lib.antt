@@ -21,3 +21,4 @@ pub mod Tally
 pub mod FreeReference
 pub mod LabelStack
 pub mod AtPlace
+pub mod Begun

@@ -14,7 +14,8 @@ pub record IsTurn (w : Standing) (turn : Turn) : Type 0 where
   pub own : IfSome turn.own (λ s. s < length w.tables.scopes)
   pub start : turn.header_start ≤ length w.waiting
 
-abbrev own_or : Bool → Option ℕ → ℕ → ℕ
+-- the own scope, where it is open and the child stands inside
+abbrev pub own_or : Bool → Option ℕ → ℕ → ℕ
 own_or true (Some own) outer = own
 own_or _ _ outer = outer
 

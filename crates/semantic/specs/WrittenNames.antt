@@ -1,6 +1,7 @@
 -- The names that are written, as the walk's code collects them.
-use Rattle.std.specs.Prelude.{◌≡◌, ℕ, List, [], Bool, ◌||◌, slice_index_or}
-use Rattle.semantic_syntax.specs.Tables.{Name}
+use Rattle.std.specs.Prelude.{◌≡◌, ℕ, List, [], ◌∷◌, Bool, false, ◌||◌, slice_index_or}
+use Rattle.semantic_syntax.specs.Tables.{Name, Tables}
+use Rattle.scoping.specs.Reading.{scope_of}
 use Rattle.walk_model.specs.WrittenNames.{Written, is_written}
 use Rattle.walk_model.specs.WrittenNames as written
 use Rattle.semantic.specs.declared.namesakes.Openers.{Openers}
@@ -16,3 +17,8 @@ openers_of o = record { innermost = o.innermost; around = o.around }
 -- a name under its number
 abbrev pub written_of : List Name → ℕ × ℕ → Written
 written_of names key = record { opener = key.0; name = slice_index_or names key.1 [] }
+
+-- whether the name is written in one of the scopes, by the nodes that open them
+abbrev pub stands_on : Tables → List Written → Name → List ℕ → Bool
+stands_on t ws x [] = false
+stands_on t ws x (s ∷ ss) = is_written ws (scope_of t s).node x || stands_on t ws x ss

@@ -1,10 +1,10 @@
 //! What the walk has made so far, and how one more declaration comes to its symbol.
 
-ghost use Rattle.std.specs.Prelude.{◌≡◌, ◌<◌, [], true, length, map, option_map, fold, IfSome, IfOk, OnOk};
+ghost use Rattle.std.specs.Prelude.{◌≡◌, ◌<◌, length, map, option_map, fold, IfSome, IfOk, OnOk};
 ghost use Rattle.std.specs.Str.{bytes_eq};
 ghost use Rattle.std.specs.Map.{lookup};
 ghost use Rattle.scoping.specs.Names.{name_of};
-ghost use Rattle.scoping.specs.Reading.{bindings_of, scope_of};
+ghost use Rattle.scoping.specs.Reading.{scope_of};
 ghost use Rattle.semantic_model.specs.Binding.{get};
 ghost use Rattle.semantic_model.specs.Fold.{or_else};
 ghost use Rattle.walk_model.specs.Standing.{nothing_made};
@@ -84,14 +84,6 @@ impl<'a> Declared<'a> {
     {
         self.scoping.attest();
         self.scoping.get_binding(scope, name)
-    }
-
-    /// Whether the scope binds nothing.
-    pub(crate) fn binds_nothing(&self, scope: ScopeId) -> bool
-        requires { scope < length self.now.tables.scopes }
-        ensures { (result ≡ true → bindings_of self.now.tables scope ≡ []) × (bindings_of self.now.tables scope ≡ [] → result ≡ true) }
-    {
-        self.scoping.get_bindings(scope).is_empty()
     }
 
     /// The scope around the scope.

@@ -5,7 +5,6 @@ pub mod ambient;
 pub mod binder;
 pub mod builder;
 pub mod conflicts;
-pub mod coverage;
 pub mod cursor;
 pub mod declaration;
 pub mod declared;
@@ -34,7 +33,6 @@ pub mod walk;
 
 pub use binder::Binder;
 pub use builder::SemanticBuilder;
-pub use coverage::covered;
 pub use global_reference::{IsGlobalReference, IsGlobalReferenceName};
 pub use instance_state::{ModuleInstanceState, module_instance_state};
 pub use labels::{LabeledScope, UnusedLabels};

@@ -7,6 +7,7 @@ ghost use Rattle.scoping.specs.Reading.{bindings_of};
 ghost use Rattle.scoping.specs.Writing.{taken_over};
 ghost use Rattle.semantic_tree.specs.Views.{all_in};
 ghost use Rattle.semantic_model.specs.Nodes.{is};
+ghost use Rattle.semantic_model.specs.Names.{bound_names, names_at};
 ghost use Rattle.semantic_model.specs.Binder.{member_names};
 ghost use Rattle.walk_model.specs.Declares.{declare, declare_anew};
 ghost use Rattle.semantic.specs.Growth.{Goes};
@@ -16,6 +17,7 @@ ghost use Rattle.semantic.specs.Each as each;
 
 use crate::declaration::{Declaration, Row};
 use crate::declared::Declared;
+use crate::declaring::binds_under;
 use crate::route::Route;
 use crate::rows::{catch_pattern_row, caught_row, member_row};
 use semantic_syntax::ScopeId;
@@ -25,6 +27,7 @@ use std::alloc::AllocError;
 #[tactic(auto, using(crate::proofs::Growing::growing))]
 impl<'a> Declared<'a> {
     /// The node declares the names that a part of it binds in the scope.
+    #[tactic(auto, using(semantic_tree::specs::Falls::below, crate::proofs::Growing::growing, crate::proofs::EachName::naming))]
     pub(crate) fn declare_names(
         &mut self,
         node: AstKind<'a>,
@@ -34,11 +37,16 @@ impl<'a> Declared<'a> {
         is_pure: bool,
     ) -> Result<(), AllocError>
         requires { scope < length self.old.tables.scopes }
-        ensures made { OnOk result (self.new ≡ each.declare_each self.old scope (map (named_by node.entry.node.now row is_pure) (each.names_of part.entry.node.now))) }
+        ensures made { OnOk result (self.new ≡ each.declare_each self.old scope (map (named_by node.entry.node.now row is_pure) (bound_names part.entry.node.now))) }
         ensures goes { Goes self.old self.new }
     {
-        for name in part.bound_names() {
-            self.declare_name(node, name, scope, row, is_pure)?;
+        if part.ty() == AstType::BindingIdentifier {
+            return self.declare_name(node, part, scope, row, is_pure);
+        }
+        for (role, child) in part.node().children.as_slice() {
+            if binds_under(part.ty(), *role) {
+                self.declare_names(node, AstKind::new(child), scope, row, is_pure)?;
+            }
         }
         Ok(())
     }
@@ -52,7 +60,7 @@ impl<'a> Declared<'a> {
         row: Row,
     ) -> Result<(), AllocError>
         requires { scope < length self.old.tables.scopes }
-        ensures made { OnOk result (self.new ≡ each.declare_each self.old scope (map (named_by node.entry.node.now row false) (each.names_under role node.entry.node.now))) }
+        ensures made { OnOk result (self.new ≡ each.declare_each self.old scope (map (named_by node.entry.node.now row false) (names_at role node.entry.node.now))) }
         ensures goes { Goes self.old self.new }
     {
         for part in node.children(role) {
@@ -61,20 +69,27 @@ impl<'a> Declared<'a> {
         Ok(())
     }
 
-    /// The node declares what it binds as `var` variables.
+    /// The node declares the names that a part of it binds as `var` variables.
+    #[tactic(auto, using(semantic_tree::specs::Falls::below, crate::proofs::Growing::growing, crate::proofs::EachName::naming))]
     pub(crate) fn hoist_names(
         &mut self,
         node: AstKind<'a>,
+        part: AstKind<'a>,
         route: &Route,
         row: Row,
         is_pure: bool,
     ) -> Result<(), AllocError>
         requires { IsRoute (length self.old.tables.scopes) route.now }
-        ensures made { OnOk result (self.new ≡ each.hoist_each self.old route.now.passed.items route.now.target (map (named_by node.entry.node.now row is_pure) (each.names_of node.entry.node.now))) }
+        ensures made { OnOk result (self.new ≡ each.hoist_each self.old route.now.passed.items route.now.target (map (named_by node.entry.node.now row is_pure) (bound_names part.entry.node.now))) }
         ensures goes { Goes self.old self.new }
     {
-        for name in node.bound_names() {
-            self.hoist_name(node, name, route, row, is_pure)?;
+        if part.ty() == AstType::BindingIdentifier {
+            return self.hoist_name(node, part, route, row, is_pure);
+        }
+        for (role, child) in part.node().children.as_slice() {
+            if binds_under(part.ty(), *role) {
+                self.hoist_names(node, AstKind::new(child), route, row, is_pure)?;
+            }
         }
         Ok(())
     }

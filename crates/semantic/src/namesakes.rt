@@ -10,7 +10,7 @@ ghost use Rattle.semantic_kinds.specs.declared.role.Role.TheVariants.{Pattern as
 ghost use Rattle.semantic_model.specs.Nodes.{is, child_of, holds};
 ghost use Rattle.semantic.specs.Routes.{IsRoute};
 ghost use Rattle.walk_model.specs.WrittenNames.{is_written, openers_at, is_known_inside, opener_of_names, is_lexical, is_sloppy, counts_as, names_in, written_by, written_in, names_written};
-ghost use Rattle.semantic.specs.WrittenNames.{Adds, openers_of};
+ghost use Rattle.semantic.specs.WrittenNames.{Adds, openers_of, stands_on};
 
 use crate::declaring::binds_under;
 use crate::inside::{is_inside, is_parameter_decorator};
@@ -187,6 +187,7 @@ impl Namesakes {
     /// its target.
     pub(crate) fn stand_on(&self, route: &Route, scoping: &Scoping, name: Ident<'_>) -> bool
         requires { IsRoute (length scoping.now.scopes) route.now }
+        ensures { result ≡ stands_on scoping.now self.now (chars name.entry.text.now) (drop 1 route.now.passed.items) }
     {
         for scope in between(route) {
             if self.has(scoping.get_node_id(*scope), name) {

@@ -1,6 +1,6 @@
 //! The binder rows: what each node's names are, and what an earlier symbol of the name may not be.
 
-ghost use Rattle.std.specs.Prelude.{◌≡◌, ◌||◌, [], ◌∷◌, None, codes, cond};
+ghost use Rattle.std.specs.Prelude.{◌≡◌, ◌&&◌, ◌||◌, [], ◌∷◌, None, codes, cond};
 ghost use Rattle.semantic_kinds.specs.declared.kind.AstType.TheVariants.{VariableDeclaration as variable_declaration, FormalParameters as formal_parameters, IfStatement as if_statement};
 ghost use Rattle.semantic_kinds.specs.declared.mark.Mark.TheVariants.{TypeOnly as type_only};
 ghost use Rattle.semantic_syntax.specs.declared.symbol_flags.TheConstants.SymbolFlags as symbol;
@@ -165,13 +165,20 @@ pub fn function_row(
 
 /// Whether a function is a plain one in a block of sloppy JavaScript, whose scope has the flags (ECMAScript, Annex
 /// B.3.2).
-pub fn is_block_function(function: AstKind<'_>, source_type: SourceType, flags: ScopeFlags) -> bool
+fn is_block_function(function: AstKind<'_>, source_type: SourceType, flags: ScopeFlags) -> bool
     ensures { result ≡ binder.is_block_function (seen source_type function.entry None flags) }
 {
     !is_special(function)
         && !source_type.is_typescript()
         && !flags.is_strict_mode()
         && !(flags.is_var() || flags.is_catch_clause())
+}
+
+/// Whether a function may move: a plain one that is a statement of a block of sloppy JavaScript.
+pub fn may_move(function: AstKind<'_>, source_type: SourceType, flags: ScopeFlags) -> bool
+    ensures { result ≡ (binder.is_statement function.entry.node.now && binder.is_block_function (seen source_type function.entry None flags)) }
+{
+    is_statement(function) && is_block_function(function, source_type, flags)
 }
 
 /// A class.

@@ -1,6 +1,7 @@
 //! The walker's state, and what each step of the walk does to it.
 
-ghost use Rattle.std.specs.Prelude.{◌≡◌, ◌==◌, ◌&&◌, ◌<◌, ◌≤◌, ◌-◌, [], ◌∷◌, ◌++◌, true, false, codes, cond, length, map, take, drop, IfSome, IfOk, OnOk};
+ghost use Rattle.std.specs.Prelude.{◌≡◌, ◌==◌, ◌&&◌, ◌<◌, ◌≤◌, ◌-◌, List, [], ◌∷◌, ◌++◌, true, false, codes, cond, length, map, take, drop, IfSome, IfOk, OnOk};
+ghost use Rattle.std.specs.Str.{chars};
 ghost use Rattle.semantic_kinds.specs.declared.kind.AstType.TheVariants.{IdentifierReference as identifier_reference, CatchClause as catch_clause};
 ghost use Rattle.scoping.specs.Reading.{bindings_of, scope_of};
 ghost use Rattle.semantic_kinds.specs.declared.role.Role.TheVariants.{Callee as callee_role};
@@ -10,14 +11,23 @@ ghost use Rattle.semantic_model.specs.Place.{Place, OpenScope, parent_holds};
 ghost use Rattle.semantic_model.specs.Cursor.{on_entering, on_leaving};
 ghost use Rattle.semantic_model.specs.Binder.{declared_on_entering, declared_on_opening};
 ghost use Rattle.semantic_model.specs.Event.{is_catch_body};
+ghost use Rattle.semantic_model.specs.ScopeKind.{opened_scope};
+ghost use Rattle.semantic_model.specs.Step.{opening};
 ghost use Rattle.semantic_model.specs.TablesOf.{is_direct_eval};
 ghost use Rattle.semantic_model.specs.Outcome.{source_of, header_outcome};
 ghost use Rattle.walk_model.specs.Settles.{settle_rest};
+ghost use Rattle.walk_model.specs.Shown.{ShowsChain, HasVar};
+ghost use Rattle.walk_model.specs.Walks.{after};
 ghost use Rattle.walk_model.specs.Opens.{add_eval, close_scope};
 ghost use Rattle.semantic.specs.Settled.{settled_from};
 ghost use Rattle.semantic.specs.Seen.{path_of};
 ghost use Rattle.semantic.specs.Walker.{parent_in, place_in, referring, opening_in, taking_over};
+ghost use Rattle.semantic.specs.Begun.{begun, AreNamesOf};
+ghost use Rattle.semantic.specs.Conflicting.{told};
 ghost use Rattle.semantic.specs.Growth.{Grows, Goes};
+ghost use Rattle.semantic_model.specs.Declaration.{Declaration};
+ghost use Rattle.semantic.specs.Binds.{block_target, is_bound_inside, acting};
+ghost use Rattle.semantic.specs.AtPlace.{ComesTo, IsWithin, IsShown, entered};
 
 use crate::binder::Binder;
 use crate::cursor;
@@ -70,6 +80,7 @@ impl<'a> Model for Walk<'a> {
 /// Whether the node declares in its own scope, which is open then: a function or class expression, and a mapped
 /// type.
 fn declares_inside(kind: AstKind<'_>) -> bool
+    ensures inside { result ≡ is_bound_inside kind.entry.node.now }
     ensures entering { (p : Place) → p.node ≡ kind.entry.node.now → result ≡ true → declared_on_entering p ≡ [] }
     ensures opening { (p : Place) (own : OpenScope) → p.node ≡ kind.entry.node.now → result ≡ false → declared_on_opening p own ≡ [] }
 {
@@ -109,7 +120,10 @@ fn is_direct_eval(kind: AstKind<'_>) -> bool
 #[tactic(auto, using(crate::proofs::Waiting::going))]
 impl<'a> Walk<'a> {
     /// The state at the root, whose scope is open.
-    pub(crate) fn new(alloc: Global, program: &'a Program) -> Result<Walk<'a>, AllocError> {
+    pub(crate) fn new(alloc: Global, program: &'a Program) -> Result<Walk<'a>, AllocError>
+        ensures begins { IfOk result (λ w. w ≡ begun program.now w.namesakes) }
+        ensures names { IfOk result (λ w. AreNamesOf program.now w.namesakes) }
+    {
         let source_type = program.source_type();
         let root = program.root();
         let namesakes = Namesakes::of(alloc, program)?;
@@ -179,7 +193,11 @@ impl<'a> Walk<'a> {
 
     /// Declares what the node declares, if it declares inside its own scope, or if it declares outside.
     fn declare(&mut self, kind: AstKind<'a>, inside: bool) -> Result<(), AllocError>
-        ensures { OnOk result (Goes self.old.made self.new.made) }
+        ensures entering { (ds : List Declaration) (p : Place) → p.node ≡ kind.entry.node.now → inside ≡ false → IsWithin self.old p p.chain → IsShown ds self.old p →
+            OnOk result (self.new ≡ acting ds self.old (declared_on_entering p)) }
+        ensures opening { (ds : List Declaration) (p : Place) (own : OpenScope) → p.node ≡ kind.entry.node.now → inside ≡ true → IsWithin self.old p (own ∷ []) →
+            OnOk result (self.new ≡ acting ds self.old (declared_on_opening p own)) }
+        ensures goes { OnOk result (Goes self.old.made self.new.made) }
     {
         if declares_inside(kind) == inside {
             kind.bind(self)
@@ -190,7 +208,9 @@ impl<'a> Walk<'a> {
 
     /// Enters a node: what it declares outside of its own scope is declared, and a reference is noted.
     pub(crate) fn enter(&mut self, kind: AstKind<'a>) -> Result<(), AllocError>
-        ensures { OnOk result (Goes self.old.made self.new.made) }
+        ensures walks { (ds : List Declaration) (p : Place) → p.node ≡ kind.entry.node.now → ComesTo self.old p → IsShown ds self.old p →
+            OnOk result (self.new ≡ record self.old { made = entered ds self.old p; path = self.old.path ++ p.node ∷ []; cursor = on_entering p.node.kind p.cursor }) }
+        ensures goes { OnOk result (Goes self.old.made self.new.made) }
     {
         self.step_to(kind)?;
         self.note_reference(kind)?;
@@ -207,13 +227,16 @@ impl<'a> Walk<'a> {
         self.declared.refer(kind, self.current_scope, way)
     }
 
-    /// Makes the scope of the node in its role.
+    /// Makes the scope of the node in its role, which binds nothing.
     fn make_scope(&mut self, kind: AstKind<'a>, role: Role) -> Result<ScopeId, AllocError>
         ensures made { OnOk result (self.new ≡ record self.old { made = opening_in self.old role kind.entry.node.now }) }
         ensures number { IfOk result (λ s. s ≡ length self.old.made.tables.scopes) }
+        ensures apart { IfOk result (λ s. (self.new.current == s) ≡ false) }
+        ensures empty { IfOk result (λ s. bindings_of self.new.made.tables s ≡ []) }
         ensures goes { OnOk result (Goes self.old.made self.new.made) }
         ensures within { IfOk result (λ s. s < length self.new.made.tables.scopes) }
     {
+        self.declared.scoping().attest();
         let flags = flags_of(kind, role, self.parent(), self.source_type);
         self.declared.open(kind, self.current_scope, flags)
     }
@@ -228,6 +251,9 @@ impl<'a> Walk<'a> {
 
     /// Opens the scope of the node in its role.
     pub(crate) fn open(&mut self, kind: AstKind<'a>, role: Role) -> Result<ScopeId, AllocError>
+        ensures opens { (ds : List Declaration) (p : Place) → p.node ≡ kind.entry.node.now → p.role ≡ role → IsWithin self.old p p.chain → ShowsChain self.old.made.tables p.chain → HasVar p.chain →
+            OnOk result (self.new ≡ record self.old { made = after ds self.old.made (opening p (opened_scope p (length self.old.made.tables.scopes))); current = length self.old.made.tables.scopes }) }
+        ensures number { IfOk result (λ s. s ≡ length self.old.made.tables.scopes) }
         ensures goes { OnOk result (Goes self.old.made self.new.made) }
         ensures within { IfOk result (λ s. s < length self.new.made.tables.scopes) }
     {
@@ -255,14 +281,15 @@ impl<'a> Walk<'a> {
         }
     }
 
-    /// The scope of a catch clause's body takes over what the clause binds.
+    /// The scope of a catch clause's body, which binds nothing yet, takes over what the clause binds.
     fn take_over(&mut self, kind: AstKind<'a>, role: Role, scope: ScopeId) -> Result<(), AllocError>
         requires scope { scope < length self.old.made.tables.scopes }
-        ensures made { (self.old.current == scope) ≡ false → bindings_of self.old.made.tables scope ≡ [] → OnOk result (self.new ≡ cond (is_catch_body (place_in self.old role kind.entry.node.now)) (taking_over self.old scope) self.old) }
+        requires apart { (self.old.current == scope) ≡ false }
+        requires empty { bindings_of self.old.made.tables scope ≡ [] }
+        ensures made { OnOk result (self.new ≡ cond (is_catch_body (place_in self.old role kind.entry.node.now)) (taking_over self.old scope) self.old) }
         ensures goes { OnOk result (Goes self.old.made self.new.made) }
     {
-        let is_new = self.current_scope != scope && self.declared.binds_nothing(scope);
-        if self.is_catch_body(kind, role) && is_new {
+        if self.is_catch_body(kind, role) {
             self.declared.take_over(self.current_scope, scope)
         } else {
             Ok(())
@@ -275,7 +302,8 @@ impl<'a> Walk<'a> {
         &self,
         name: Ident<'_>,
     ) -> Result<Option<ScopeId>, AllocError>
-        ensures { IfOk result (λ o. IfSome o (λ s. s < length self.now.made.tables.scopes)) }
+        ensures target { IfOk result (λ o. o ≡ block_target self.now.made.tables self.now.namesakes self.now.current (chars name.entry.text.now)) }
+        ensures within { IfOk result (λ o. IfSome o (λ s. s < length self.now.made.tables.scopes)) }
     {
         let block = self.current_scope;
         let scoping = self.declared.scoping();
@@ -340,7 +368,13 @@ impl<'a> Walk<'a> {
     pub(crate) fn into_return(
         self,
         program: &'a Program,
-    ) -> Result<SemanticBuilderReturn<'a>, AllocError> {
+    ) -> Result<SemanticBuilderReturn<'a>, AllocError>
+        ensures program { IfOk result (λ ret. ret.semantic.program.now ≡ program.now) }
+        ensures scoping { IfOk result (λ ret. ret.semantic.scoping ≡ self.entry.made.tables) }
+        ensures tables { IfOk result (λ ret. ret.semantic.tables ≡ self.entry.made.nodes) }
+        ensures diagnostics { IfOk result (λ ret. ret.diagnostics ≡ map told self.entry.made.conflicts) }
+        ensures whitespace { IfOk result (λ ret. ret.semantic.irregular_whitespaces.items ≡ []) }
+    {
         let declared = self.declared;
         let diagnostics = declared.conflicts.diagnostics(declared.alloc)?;
         Ok(SemanticBuilderReturn {

@@ -2,9 +2,10 @@ use Rattle.std.proofs.Common.{map, flat_map, false, sym, ap, ◌∙◌}
 use Rattle.walk_model.specs.Standing.{Standing}
 use Rattle.semantic_tree.specs.ChildIter.{left_of}
 use Rattle.semantic.specs.Named.{named_by}
-use Rattle.semantic.specs.Each.{declare_each, names_of}
+use Rattle.semantic_model.specs.Names.{bound_names}
+use Rattle.semantic.specs.Each.{declare_each}
 use Rattle.semantic.proofs.Growing.{goes-trans}
-use Rattle.semantic.proofs.Passing.{parts_turn}
+use Rattle.semantic.proofs.EachName.{parts_turn}
 use Rattle.semantic.proofs.declared.Declared.declare_under.Goals as goal
 
 pub loop-part-preserved : goal.loop-part-preserved
@@ -13,7 +14,7 @@ loop-part-preserved c =
     let left = left_of c.next.new.self in
     record {
       rest =
-          ap (λ (w : Standing). declare_each w c.args.scope (map f (flat_map names_of left))) c.in_ok-declare_names.ensures.made
+          ap (λ (w : Standing). declare_each w c.args.scope (map f (flat_map bound_names left))) c.in_ok-declare_names.ensures.made
           ∙ sym (parts_turn f c.loop-part.self c.args.scope _ _ left c.in-Some.ensures.steps)
           ∙ c.loop-part.invariant.rest;
       goes = goes-trans _ _ _ c.loop-part.invariant.goes c.in_ok-declare_names.ensures.goes;

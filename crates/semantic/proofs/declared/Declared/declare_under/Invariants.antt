@@ -3,13 +3,14 @@ use Rattle.semantic_tree.specs.ChildIter.{left_of}
 use Rattle.semantic.specs.Growth.{Goes}
 use Rattle.semantic.specs.Named.{named_by}
 use Rattle.std.proofs.Common.{false}
-use Rattle.semantic.specs.Each.{declare_each, names_of, names_under}
+use Rattle.semantic_model.specs.Names.{bound_names, names_at}
+use Rattle.semantic.specs.Each.{declare_each}
 use Rattle.semantic.proofs.declared.Declared.declare_under.Given as goal
 
 -- to declare what is left is to declare all
 abbrev pub invariant-loop-part : goal.invariant-loop-part
 invariant-loop-part l = record {
-  rest : declare_each l.self l.scope (map (named_by l.node.node.now l.row false) (flat_map names_of (left_of l.part-iterator)))
-      ≡ declare_each l.initial.self l.scope (map (named_by l.node.node.now l.row false) (names_under l.fn.role l.node.node.now));
+  rest : declare_each l.self l.scope (map (named_by l.node.node.now l.row false) (flat_map bound_names (left_of l.part-iterator)))
+      ≡ declare_each l.initial.self l.scope (map (named_by l.node.node.now l.row false) (names_at l.fn.role l.node.node.now));
   goes : Goes l.initial.self l.self;
 }

@@ -1,8 +1,12 @@
-use Rattle.std.proofs.Common.{◌≤◌, length}
+use Rattle.std.proofs.Common.{◌≡◌, ◌≤◌, ℕ, List, Option, length}
 use Rattle.semantic_tree.specs.Forest.{count}
 use Rattle.semantic_tree.specs.Children.{forest_of}
+use Rattle.semantic_model.specs.Place.{Place, OpenScope}
+use Rattle.semantic_model.specs.Declaration.{Declaration}
+use Rattle.semantic.specs.AtPlace.{IsComing}
 use Rattle.semantic.specs.Growth.{Goes}
 use Rattle.semantic.specs.Turns.{IsTurn}
+use Rattle.semantic.proofs.Visiting.{Rests}
 use Rattle.semantic.proofs.walk.Walk.+visit.Given as goal
 
 -- how many nodes are below
@@ -20,4 +24,5 @@ invariant-loop-child_role g l =
       turn : IsTurn l.self.made l.turn;
       goes : Goes l.initial.self.made l.self.made;
       start : length l.initial.self.made.waiting ≤ l.turn.header_start;
+      rests : (ds : List Declaration) (p : Place) (own : Option OpenScope) (n : ℕ) → p.node ≡ l.kind.node.now → p.role ≡ l.role → IsComing ds l.fn.self p own n → Rests ds l.fn.self p own n l.self l.turn (forest_of l.left);
     }
