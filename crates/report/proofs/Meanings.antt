@@ -15,7 +15,7 @@ use Rattle.tree_json.specs.Outcome.{IsWantOfMemory}
 use Rattle.tree_json.specs.Reading.{reading, Refuses}
 use Rattle.tree_json.specs.WrittenForm.{IsWrittenForm, IsReadAs}
 use Rattle.report_ends.specs.Errors.{error_of_tree}
-use Rattle.report_ends.specs.Streams.{IsReadWhole, HadMoreThan, AppendsPrefix, WriteCause, Writes}
+use Rattle.report_ends.specs.Streams.{IsReadWhole, HadMoreThan, HadAtMost, AppendsPrefix, WriteCause, Writes}
 use Rattle.report_ends.specs.declared.error.ReportError.{ReportError}
 use Rattle.report_ends.specs.declared.error.ReportError.TheVariants as error
 use Rattle.report.specs.declared.status.ReportStatus.{ReportStatus}
@@ -54,13 +54,13 @@ memory_told (tree.TooDeep node) result memory same = absurd memory
 memory_told (tree.Span fault) result memory same = absurd memory
 
 -- what the source had is refused
-pub ends_refused : (source : SourceCall) (out : SinkCall) (input : List ℕ) (cause : ReportError) (result : Result ReportStatus ReportError) → IsReadWhole source.left source.left_then input → Untouched out → InputCause input cause → IsErrAnd result (λ told. told ≡ cause) → Ends source out result
-ends_refused source out input cause (Ok end) whole untouched why same = absurd same
-ends_refused source out input (error.Tree refusal) (Err told) whole untouched why same = subst (λ x. Ends source out (Err x)) (sym same) (record { input = input; whole = whole; why = why }, untouched)
-ends_refused source out input error.TooLong (Err told) whole untouched why same = absurd why
-ends_refused source out input error.Read (Err told) whole untouched why same = absurd why
-ends_refused source out input error.Write (Err told) whole untouched why same = absurd why
-ends_refused source out input error.Memory (Err told) whole untouched why same = subst (λ x. Ends source out (Err x)) (sym same) (inr untouched)
+pub ends_refused : (source : SourceCall) (out : SinkCall) (input : List ℕ) (cause : ReportError) (result : Result ReportStatus ReportError) → IsReadWhole source.left source.left_then input → HadAtMost 67108864 source.left → Untouched out → InputCause input cause → IsErrAnd result (λ told. told ≡ cause) → Ends source out result
+ends_refused source out input cause (Ok end) whole fits untouched why same = absurd same
+ends_refused source out input (error.Tree refusal) (Err told) whole fits untouched why same = subst (λ x. Ends source out (Err x)) (sym same) (record { input = input; whole = whole; fits = fits; why = why }, untouched)
+ends_refused source out input error.TooLong (Err told) whole fits untouched why same = absurd why
+ends_refused source out input error.Read (Err told) whole fits untouched why same = absurd why
+ends_refused source out input error.Write (Err told) whole fits untouched why same = absurd why
+ends_refused source out input error.Memory (Err told) whole fits untouched why same = subst (λ x. Ends source out (Err x)) (sym same) (inr untouched)
 
 -- ---- the report isn't written to its end
 

@@ -7,7 +7,7 @@ use Rattle.semantic_tree.specs.Tree.{Tree}
 use Rattle.semantic_tree.specs.declared.error.TreeError.{TreeError}
 use Rattle.semantic_diagnostics.specs.declared.diagnostic.Diagnostic.{Diagnostic}
 use Rattle.report_ends.specs.Causes.{Rose}
-use Rattle.report_ends.specs.Streams.{IsReadWhole, HadMoreThan, AppendsPrefix}
+use Rattle.report_ends.specs.Streams.{IsReadWhole, HadMoreThan, HadAtMost, AppendsPrefix}
 use Rattle.report_ends.specs.declared.error.ReportError.{ReportError}
 use Rattle.report_ends.specs.declared.error.ReportError.TheVariants as error
 use Rattle.report.specs.declared.status.ReportStatus.{ReportStatus}
@@ -22,11 +22,12 @@ use Rattle.report.specs.Telling.{Told, ToldPart, usage_line, tree_line, line_of}
 
 -- ---- what was found
 
--- the whole input stands for a program, and this is what its analysis gives
+-- the whole input, which isn't too long, stands for a program, and this is what its analysis gives
 pub record Finds (source : SourceCall) (tables : Tables) (diagnostics : List Diagnostic) : Type 0 where
   pub input : List ℕ
   pub program : Tree
   pub whole : IsReadWhole source.left source.left_then input
+  pub fits : HadAtMost 67108864 source.left
   pub stands : Stands input program
   pub built : IsBuilt program tables diagnostics
 
@@ -50,10 +51,11 @@ pub record ReportedPart (source : SourceCall) (out : SinkCall) : Type 0 where
   pub found : Finds source tables diagnostics
   pub told : AppendsPrefix out.held out.held_then (report_text tables diagnostics)
 
--- the whole input is refused for this cause
+-- the whole input, which isn't too long, is refused for this cause
 pub record Refused (source : SourceCall) (cause : TreeError) : Type 0 where
   pub input : List ℕ
   pub whole : IsReadWhole source.left source.left_then input
+  pub fits : HadAtMost 67108864 source.left
   pub why : RefusedFor input cause
 
 -- ---- what it comes to
