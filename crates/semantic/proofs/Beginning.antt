@@ -1,5 +1,5 @@
 -- The walk over a program begins at the root, and ends with the tables of the definitions.
-use Rattle.std.proofs.Common.{◌≡◌, ℕ, List, [], ◌∷◌, ◌++◌, Option, Some, None, length, refl, sym, ap, subst, ◌∙◌, inr, arith, Result, Ok, Err, IfOk}
+use Rattle.std.proofs.Common.{◌≡◌, ℕ, List, [], ◌∷◌, ◌++◌, Some, None, length, refl, sym, ap, subst, ◌∙◌, inr, arith, Result, Ok, Err, IfOk}
 use Rattle.std.specs.Prelude.{◌||◌}
 use Rattle.std.specs.Int.Bits.{or_zero_r}
 use Rattle.semantic_kinds.specs.declared.kind.AstType.TheVariants as kind
@@ -148,3 +148,7 @@ walk_ends program fits w v u first over last =
 pub of_answer : {A B : Type 0} (r : Result A B) (P Q : A → Type 0) → ((x : A) → P x → Q x) → IfOk r P → IfOk r Q
 of_answer (Ok x) P Q f h = f x h
 of_answer (Err e) P Q f h = tt
+
+pub of_both : {A B : Type 0} (r : Result A B) (P Q R : A → Type 0) → ((x : A) → P x → Q x → R x) → IfOk r P → IfOk r Q → IfOk r R
+of_both (Ok x) P Q R f h k = f x h k
+of_both (Err e) P Q R f h k = tt

@@ -1,5 +1,5 @@
 -- The walk enters a node.
-use Rattle.std.proofs.Common.{◌≡◌, List, [], ◌∷◌, ◌++◌, Bool, true, false, cond, Result, OnOk, reverse, refl, sym, ap, subst, ◌∙◌}
+use Rattle.std.proofs.Common.{◌≡◌, List, [], ◌∷◌, ◌++◌, Bool, true, false, cond, Result, OnOk, refl, sym, ap, subst, ◌∙◌}
 use Rattle.std.proofs.lemmas.List.{reverse-append}
 use Rattle.semantic_kinds.specs.declared.kind.AstType.TheVariants as kind
 use Rattle.semantic_tree.specs.declared.node.Node.{Node}
@@ -13,7 +13,6 @@ use Rattle.semantic_model.specs.Binder.{declared_on_entering}
 use Rattle.semantic_model.proofs.Clauses.{kind_is}
 use Rattle.walk_model.specs.Standing.{Standing}
 use Rattle.walk_model.specs.Opens.{add_eval, note_eval, refer_to, refer, note_reference}
-use Rattle.walk_model.specs.Walks.{act_all}
 use Rattle.walk_model.proofs.ChainRows.{chain_kept, prepare_rows}
 use Rattle.semantic.specs.Walker.{Walker, referring}
 use Rattle.semantic.specs.AtPlace.{ComesTo, IsWithin, IsShown, entered}

@@ -1,7 +1,7 @@
 -- References that wait outside of a header stay as they are.
 use Rattle.std.proofs.Common.{◌≡◌, ℕ, zero, suc, false, List, [], ◌∷◌, ◌++◌, map, take, drop, refl, ap, sym, ◌∙◌}
 use Rattle.semantic_syntax.specs.Tables.{Tables}
-use Rattle.semantic_model.specs.Outcome.{Source, Pending, Outcome, waits, source_of, is_below, header_outcome}
+use Rattle.semantic_model.specs.Outcome.{Source, Pending, waits, source_of, is_below, header_outcome}
 use Rattle.walk_model.specs.Standing.{Standing}
 use Rattle.walk_model.specs.Settles.{settle, staying, end_header}
 use Rattle.semantic.specs.Settled.{settled_from, AreOutside}

@@ -1,5 +1,5 @@
 -- What a function declares at a place by what the walk sees of it.
-use Rattle.std.proofs.Common.{◌≡◌, ℕ, List, [], ◌∷◌, Bool, true, false, ◌&&◌, Option, None, map, refl, sym, ap, subst, ◌∙◌}
+use Rattle.std.proofs.Common.{◌≡◌, ℕ, List, [], ◌∷◌, Bool, true, false, ◌&&◌, Option, None, map, refl, sym, ap, ◌∙◌}
 use Rattle.semantic_kinds.specs.declared.kind.AstType.TheVariants as kind
 use Rattle.semantic_kinds.specs.declared.mark.Mark.TheVariants as mark
 use Rattle.semantic_syntax.specs.declared.scope_flags.ScopeFlags.{ScopeFlags}
@@ -11,7 +11,7 @@ use Rattle.semantic_tree.specs.declared.node.Node.{Node}
 use Rattle.semantic_tree.specs.declared.view.AstKind.{AstKind}
 use Rattle.semantic_model.specs.Nodes.{is, has}
 use Rattle.semantic_model.specs.Names.{bound_names}
-use Rattle.semantic_model.specs.Place.{Place, OpenScope, innermost, is_strict, parent_holds}
+use Rattle.semantic_model.specs.Place.{Place, OpenScope, innermost}
 use Rattle.semantic_model.specs.Declaration.{Declaration, plain, moved, here, outward_past}
 use Rattle.semantic_model.specs.Step.{entering}
 use Rattle.semantic_model.specs.Binder as binder

@@ -1,5 +1,5 @@
 -- What the walk declares at a place by what it sees of it.
-use Rattle.std.proofs.Common.{◌≡◌, ℕ, List, [], ◌∷◌, ◌++◌, Bool, true, false, ◌&&◌, ◌||◌, not, cond, Option, Some, None, Result, OnOk, codes, map, flat_map, reverse, refl, sym, ap, subst, ◌∙◌}
+use Rattle.std.proofs.Common.{◌≡◌, ℕ, List, [], ◌∷◌, ◌++◌, Bool, true, false, ◌||◌, not, cond, Option, Result, OnOk, codes, map, flat_map, reverse, refl, sym, ap, subst, ◌∙◌}
 use Rattle.std.specs.Prelude.{if◌then◌else◌}
 use Rattle.std.proofs.lemmas.List.{map-append, reverse-append, reverse-reverse}
 use Rattle.semantic_kinds.specs.declared.kind.AstType.TheVariants as kind
@@ -15,21 +15,19 @@ use Rattle.semantic_tree.specs.declared.view.AstKind.{AstKind}
 use Rattle.semantic_model.specs.Nodes.{is, has, is_with_text, children_of}
 use Rattle.semantic_model.specs.Names.{bound_names, names_at, is_simple_list}
 use Rattle.semantic_model.specs.Namespace.{InstanceState, is_list, instance_state, nodes_around}
-use Rattle.semantic_model.specs.Place.{Place, OpenScope, no_scope, innermost, is_strict, parent_holds}
-use Rattle.semantic_model.specs.Declaration.{Declaration, plain, hoisted, moved, caught, Route, here, outward_to, outward_past}
+use Rattle.semantic_model.specs.Place.{Place, OpenScope, no_scope, innermost, parent_holds}
+use Rattle.semantic_model.specs.Declaration.{Declaration, plain, hoisted, caught, here, outward_to}
 use Rattle.semantic_model.specs.Event.{declares, placed, declares_all}
 use Rattle.semantic_model.specs.Binder as binder
 use Rattle.semantic_model.specs.Binder.{declare_here, ids, is_var, is_conditional, is_clause, is_statement, marked_ambient, lexical_flags, variable_row, variables_under, is_pure_declarator, is_block_function, function_row, own_function_row, parameter_excluded, parameters_under, import_flags, imports, catch_names, member_named, member_names, named_member, type_parameter_route, type_parameter_row, namespace_row, declared_by, declared_on_entering}
 use Rattle.walk_model.specs.Standing.{Standing}
-use Rattle.walk_model.specs.Naming.{Naming, naming_of}
 use Rattle.walk_model.specs.Declares.{declare, declare_anew}
 use Rattle.walk_model.specs.Shown.{IsOther, ShowsChain, HasVar}
 use Rattle.walk_model.specs.Walks.{act_all}
-use Rattle.walk_model.specs.NamedScopes.{AreNamedIn}
 use Rattle.walk_model.proofs.RowsActed.{acts-append}
 use Rattle.walk_model.proofs.ChainWays.{flags_at}
 use Rattle.semantic.specs.declared.declaration.Row.{Row}
-use Rattle.semantic.specs.Seen.{IsRow, path_of, under, seen}
+use Rattle.semantic.specs.Seen.{IsRow, path_of, under}
 use Rattle.semantic.specs.Named.{named_by, member_naming, caught_naming, pattern_naming}
 use Rattle.semantic.specs.Walker.{Walker, parent_in}
 use Rattle.semantic.specs.AtPlace.{IsWithin}

@@ -1,7 +1,6 @@
 -- What the walk declares by a row is what the definition declares by it.
-use Rattle.std.proofs.Common.{◌≡◌, ℕ, List, [], ◌∷◌, ◌++◌, Bool, true, false, ◌||◌, Option, Some, None, cond, fold, drop, map, flat_map, refl, sym, ap, subst, ◌∙◌}
+use Rattle.std.proofs.Common.{◌≡◌, ℕ, List, [], ◌∷◌, ◌++◌, Bool, true, false, ◌||◌, Option, Some, None, cond, fold, drop, map, refl, sym, ap, subst, ◌∙◌}
 use Rattle.std.specs.List.{AllByRecursion}
-use Rattle.std.proofs.lemmas.List.{map-append}
 use Rattle.semantic_syntax.specs.declared.scope_flags.TheConstants.ScopeFlags as scope
 use Rattle.semantic_syntax.specs.Sets.{meets}
 use Rattle.semantic_syntax.specs.Tables.{Tables}
@@ -18,7 +17,7 @@ use Rattle.walk_model.specs.Naming.{Naming, naming_of}
 use Rattle.walk_model.specs.Declares.{declare}
 use Rattle.walk_model.specs.Hoists.{hoist, declare_and_move}
 use Rattle.walk_model.specs.Shown.{IsOther, ShowsChain, HasVar}
-use Rattle.walk_model.specs.Walks.{numbers, act, act_all}
+use Rattle.walk_model.specs.Walks.{numbers, act_all}
 use Rattle.walk_model.specs.WrittenNames.{Written, is_written}
 use Rattle.walk_model.specs.NamedScopes.{IsNamedIn, AreNamedIn}
 use Rattle.walk_model.proofs.RowsActed.{acts_plain, acts_hoisted, acts_move, past_stands}

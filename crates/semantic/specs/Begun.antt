@@ -1,5 +1,5 @@
 -- A walk at the root of a program, and what belongs to a program beside its tables.
-use Rattle.std.specs.Prelude.{◌≡◌, ℕ, List, [], ◌&&◌}
+use Rattle.std.specs.Prelude.{◌≡◌, ℕ, List, [], ◌&&◌, map}
 use Rattle.semantic_syntax.specs.SourceTypes.{is_typescript_definition}
 use Rattle.semantic_syntax.specs.Tables.{Name, Tables}
 use Rattle.scoping.specs.NodeEntries.{NodeEntries}
@@ -13,10 +13,13 @@ use Rattle.semantic_model.specs.Fits.{Fits}
 use Rattle.semantic_model.specs.Fold.{Conflict, start}
 use Rattle.semantic_model.specs.Hoist.{run}
 use Rattle.semantic_model.specs.NodeTable.{node_tables}
+use Rattle.semantic_model.specs.TablesOf.{tables_of}
+use Rattle.semantic_diagnostics.specs.declared.diagnostic.Diagnostic.{Diagnostic}
 use Rattle.walk_model.specs.Standing.{nothing_made}
 use Rattle.walk_model.specs.Opens.{open_scope}
 use Rattle.walk_model.specs.Noted.{pairs_of}
 use Rattle.walk_model.specs.WrittenNames.{Written, is_written, is_sloppy, names_written}
+use Rattle.semantic.specs.Conflicting.{told}
 use Rattle.semantic.specs.Walker.{Walker}
 
 -- the walk stands at the root, whose scope is open
@@ -51,3 +54,9 @@ pub record BelongsToNodes (p : Tree) (nodes : NodeEntries) : Type 0 where
   pub scopes : nodes.scopes ≡ pairs_of (node_tables (steps p)).scopes
   pub symbols : nodes.symbols ≡ pairs_of (node_tables (steps p)).symbols
   pub references : nodes.references ≡ pairs_of (node_tables (steps p)).references
+
+-- the analysis of the program: its tables, which fit it, and a diagnostic for each conflict of its declarations
+pub record IsAnalysis (p : Tree) (t : Tables) (diagnostics : List Diagnostic) : Type 0 where
+  pub tables : t ≡ tables_of p
+  pub told_of : diagnostics ≡ map told (conflicts_of p)
+  pub fits : FitsProgram p t

@@ -1,5 +1,5 @@
 -- References that tables hold and tie to no symbol.
-use Rattle.std.specs.Prelude.{ℕ, Bool, false, ◌&&◌, not, nat_lt, nat_eq, length, bytes_eq}
+use Rattle.std.specs.Prelude.{ℕ, Bool, false, ◌&&◌, not, nat_lt, nat_eq, length}
 use Rattle.std.specs.Option.{option_map_or, is_some}
 use Rattle.std.specs.Map.{lookup}
 use Rattle.semantic_kinds.specs.declared.kind.AstType.TheVariants as kind

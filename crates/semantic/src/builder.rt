@@ -3,7 +3,7 @@
 ghost use Rattle.std.specs.Prelude.{◌≡◌, [], map, IfOk};
 ghost use Rattle.semantic_model.specs.Moment.{UsesAreTies, StandsInOneList, BindingsAreSymbols, ListsBeginWithOwn};
 ghost use Rattle.semantic_model.specs.TablesOf.{tables_of};
-ghost use Rattle.semantic.specs.Begun.{conflicts_of, BelongsToNodes, FitsProgram};
+ghost use Rattle.semantic.specs.Begun.{conflicts_of, BelongsToNodes, FitsProgram, IsAnalysis};
 ghost use Rattle.semantic.specs.Conflicting.{told};
 
 use crate::semantic::SemanticBuilderReturn;
@@ -31,6 +31,7 @@ impl SemanticBuilder {
         program: &'a Program,
     ) -> Result<SemanticBuilderReturn<'a>, AllocError>
         ensures program { IfOk result (λ ret. ret.semantic.program.now ≡ program.now) }
+        ensures analysis { IfOk result (λ ret. IsAnalysis program.now ret.semantic.scoping ret.diagnostics) }
         ensures tables { IfOk result (λ ret. ret.semantic.scoping ≡ tables_of program.now) }
         ensures nodes { IfOk result (λ ret. BelongsToNodes program.now ret.semantic.tables) }
         ensures diagnostics { IfOk result (λ ret. ret.diagnostics ≡ map told (conflicts_of program.now)) }
@@ -54,6 +55,7 @@ impl SemanticBuilder {
         steps: &mut Steps<L>,
     ) -> Result<SemanticBuilderReturn<'a>, AllocError>
         ensures program { IfOk result (λ ret. ret.semantic.program.now ≡ program.now) }
+        ensures analysis { IfOk result (λ ret. IsAnalysis program.now ret.semantic.scoping ret.diagnostics) }
         ensures tables { IfOk result (λ ret. ret.semantic.scoping ≡ tables_of program.now) }
         ensures nodes { IfOk result (λ ret. BelongsToNodes program.now ret.semantic.tables) }
         ensures diagnostics { IfOk result (λ ret. ret.diagnostics ≡ map told (conflicts_of program.now)) }

@@ -39,3 +39,6 @@ pub use labels::{LabeledScope, UnusedLabels};
 pub use semantic::{Semantic, SemanticBuilderReturn};
 pub use stats::Stats;
 pub use walk::Walk;
+
+#[cfg(test)]
+mod tests;

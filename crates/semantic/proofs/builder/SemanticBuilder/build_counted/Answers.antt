@@ -1,4 +1,4 @@
-use Rattle.std.proofs.Common.{◌≡◌, Some, None, ap, sym, subst, map, refl, List, IfOk}
+use Rattle.std.proofs.Common.{◌≡◌, Some, None, sym, subst, map, refl, List, IfOk}
 use Rattle.semantic_syntax.specs.Tables.{Tables}
 use Rattle.semantic_tree.specs.Faults.{first_fault}
 use Rattle.semantic_tree.specs.Tree.{Tree}
@@ -12,14 +12,11 @@ use Rattle.semantic_model.proofs.Afterwards.{uses_are_ties, one_list, lists_begi
 use Rattle.semantic_model.proofs.Owned.{bindings_owned}
 use Rattle.semantic_model.proofs.Shape.{has_form}
 use Rattle.semantic_model.proofs.Whole.{tables_fit}
-use Rattle.scoping.specs.NodeEntries.{NodeEntries}
-use Rattle.walk_model.specs.Standing.{Standing}
 use Rattle.walk_model.specs.Walks.{walked}
 use Rattle.walk_model.proofs.RootSteps.{root_scope}
-use Rattle.semantic.specs.Begun.{BelongsToNodes, FitsProgram}
+use Rattle.semantic.specs.Begun.{BelongsToNodes, FitsProgram, IsAnalysis, conflicts_of}
 use Rattle.semantic.specs.Conflicting.{told}
-use Rattle.semantic.specs.Walker.{Walker}
-use Rattle.semantic.proofs.Beginning.{walk_comes, walk_ends, root_tables, root_conflicts, root_nodes, of_answer}
+use Rattle.semantic.proofs.Beginning.{walk_comes, walk_ends, root_tables, root_conflicts, root_nodes, of_answer, of_both}
 use Rattle.semantic.proofs.builder.SemanticBuilder.build_counted.Given as given
 use Rattle.semantic.proofs.builder.SemanticBuilder.build_counted.Goals as goal
 
@@ -71,3 +68,8 @@ returns-clause-bindings g c = holding g c BindingsAreSymbols (bindings_owned c.a
 
 pub returns-clause-redeclarations : goal.returns-clause-redeclarations
 returns-clause-redeclarations g c = holding g c ListsBeginWithOwn (lists_begin c.args.program.now)
+
+pub returns-clause-analysis : goal.returns-clause-analysis
+returns-clause-analysis g c =
+    of_both c.into_return.result (λ ret. ret.semantic.scoping ≡ tables_of c.args.program.now) (λ ret. ret.diagnostics ≡ map told (conflicts_of c.args.program.now)) (λ ret. IsAnalysis c.args.program.now ret.semantic.scoping ret.diagnostics)
+    (λ ret e d. record { tables = e; told_of = d; fits = subst (FitsProgram c.args.program.now) (sym e) (tables_fit c.args.program.now (fits g c)) }) (tables g c) (returns-clause-diagnostics g c)

@@ -1,5 +1,4 @@
-use Rattle.std.proofs.Common.{◌≡◌, false, refl, sym, ap, ◌∙◌}
-use Rattle.semantic_model.specs.Binder.{is_block_function}
+use Rattle.std.proofs.Common.{ap, ◌∙◌}
 use Rattle.semantic.specs.Walker.{Walker}
 use Rattle.semantic.proofs.PlaceRows.{on_ok_same}
 use Rattle.semantic.proofs.PlaceFunctions.{IsSeen, function_inside, function_stays, function_moves, block_by, never_moves}

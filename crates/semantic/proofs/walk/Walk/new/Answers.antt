@@ -10,7 +10,6 @@ use Rattle.walk_model.specs.Opens.{open_scope}
 use Rattle.walk_model.specs.Standing.{Standing, nothing_made}
 use Rattle.walk_model.proofs.RootSteps.{root_scope}
 use Rattle.walk_model.proofs.Seats.{root_is_program}
-use Rattle.semantic.specs.Walker.{Walker}
 use Rattle.semantic.proofs.Beginning.{begins, made_first}
 use Rattle.semantic.proofs.walk.Walk.new.Goals as goal
 
