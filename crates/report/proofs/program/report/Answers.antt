@@ -17,7 +17,7 @@ returns-in_err-program-clause-complete g c = λ input program told stands.
 pub returns-in_err-write_report-clause-ends : goal.returns-in_err-write_report-clause-ends
 returns-in_err-write_report-clause-ends g c =
     ends_by_writing g.K.Sink.held g.K.Sink.faults _ _ _ c.in_ok-ret.ret.semantic.scoping c.in_ok-ret.ret.diagnostics
-    (record { input = c.in_ok-input.input.items; program = c.in_ok-program.program; whole = c.in_ok-input.ensures.whole; fits = c.in_ok-input.ensures.fits; stands = rw c.deref.ensures.value at c.in_ok-program.ensures.stands; built = record { tables_are = c.in_ok-ret.ensures.tables; diagnostics_are = c.in_ok-ret.ensures.diagnostics; fits = c.in_ok-ret.ensures.fits } })
+    (record { input = c.in_ok-input.input.items; program = c.in_ok-program.program; whole = c.in_ok-input.ensures.whole; fits = c.in_ok-input.ensures.fits; stands = rw c.deref.ensures.value at c.in_ok-program.ensures.stands; built = c.in_ok-ret.ensures.analysis })
     c.in_err-write_report.field-0.0 c.from_residual-in_err-write_report.result c.in_err-write_report.ensures c.from_residual-in_err-write_report.ensures.1
 
 pub returns-in_err-write_report-clause-complete : goal.returns-in_err-write_report-clause-complete
@@ -28,7 +28,7 @@ pub returns-clause-ends : goal.returns-clause-ends
 returns-clause-ends g c = record {
   tables = c.in_ok-ret.ret.semantic.scoping;
   diagnostics = c.in_ok-ret.ret.diagnostics;
-  found = record { input = c.in_ok-input.input.items; program = c.in_ok-program.program; whole = c.in_ok-input.ensures.whole; fits = c.in_ok-input.ensures.fits; stands = rw c.deref.ensures.value at c.in_ok-program.ensures.stands; built = record { tables_are = c.in_ok-ret.ensures.tables; diagnostics_are = c.in_ok-ret.ensures.diagnostics; fits = c.in_ok-ret.ensures.fits } };
+  found = record { input = c.in_ok-input.input.items; program = c.in_ok-program.program; whole = c.in_ok-input.ensures.whole; fits = c.in_ok-input.ensures.fits; stands = rw c.deref.ensures.value at c.in_ok-program.ensures.stands; built = c.in_ok-ret.ensures.analysis };
   told = c.in_ok-write_report.ensures.whole;
   status = c.status_for.ensures;
 }
