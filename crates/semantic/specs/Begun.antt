@@ -12,6 +12,7 @@ use Rattle.semantic_model.specs.Event.{events}
 use Rattle.semantic_model.specs.Fits.{Fits}
 use Rattle.semantic_model.specs.Fold.{Conflict, start}
 use Rattle.semantic_model.specs.Hoist.{run}
+use Rattle.semantic_model.specs.Moment.{UsesAreTies, StandsInOneList, BindingsAreSymbols, ListsBeginWithOwn}
 use Rattle.semantic_model.specs.NodeTable.{node_tables}
 use Rattle.semantic_model.specs.TablesOf.{tables_of}
 use Rattle.semantic_diagnostics.specs.declared.diagnostic.Diagnostic.{Diagnostic}
@@ -55,8 +56,12 @@ pub record BelongsToNodes (p : Tree) (nodes : NodeEntries) : Type 0 where
   pub symbols : nodes.symbols ≡ pairs_of (node_tables (steps p)).symbols
   pub references : nodes.references ≡ pairs_of (node_tables (steps p)).references
 
--- the analysis of the program: its tables, which fit it, and a diagnostic for each conflict of its declarations
+-- the analysis of the program: its tables, which fit it, what holds of them right after, and a diagnostic for each conflict of its declarations
 pub record IsAnalysis (p : Tree) (t : Tables) (diagnostics : List Diagnostic) : Type 0 where
   pub tables : t ≡ tables_of p
-  pub told_of : diagnostics ≡ map told (conflicts_of p)
   pub fits : FitsProgram p t
+  pub uses : UsesAreTies t
+  pub lists : StandsInOneList t
+  pub bindings : BindingsAreSymbols t
+  pub redeclarations : ListsBeginWithOwn t
+  pub told_of : diagnostics ≡ map told (conflicts_of p)

@@ -1,10 +1,7 @@
 //! The builder, which analyses a program.
 
-ghost use Rattle.std.specs.Prelude.{◌≡◌, [], map, IfOk};
-ghost use Rattle.semantic_model.specs.Moment.{UsesAreTies, StandsInOneList, BindingsAreSymbols, ListsBeginWithOwn};
-ghost use Rattle.semantic_model.specs.TablesOf.{tables_of};
-ghost use Rattle.semantic.specs.Begun.{conflicts_of, BelongsToNodes, FitsProgram, IsAnalysis};
-ghost use Rattle.semantic.specs.Conflicting.{told};
+ghost use Rattle.std.specs.Prelude.{◌≡◌, [], IfOk};
+ghost use Rattle.semantic.specs.Begun.{BelongsToNodes, IsAnalysis};
 
 use crate::semantic::SemanticBuilderReturn;
 use crate::walk::Walk;
@@ -18,7 +15,6 @@ use std::alloc::{AllocError, Global};
 pub struct SemanticBuilder {}
 
 impl SemanticBuilder {
-    #[tactic(auto, using(crate::proofs::Beginning::root_tables, crate::proofs::Beginning::root_comes, crate::proofs::Beginning::root_walks))]
     /// All settings off.
     pub fn new() -> SemanticBuilder {
         SemanticBuilder {}
@@ -32,15 +28,8 @@ impl SemanticBuilder {
     ) -> Result<SemanticBuilderReturn<'a>, AllocError>
         ensures program { IfOk result (λ ret. ret.semantic.program.now ≡ program.now) }
         ensures analysis { IfOk result (λ ret. IsAnalysis program.now ret.semantic.scoping ret.diagnostics) }
-        ensures tables { IfOk result (λ ret. ret.semantic.scoping ≡ tables_of program.now) }
         ensures nodes { IfOk result (λ ret. BelongsToNodes program.now ret.semantic.tables) }
-        ensures diagnostics { IfOk result (λ ret. ret.diagnostics ≡ map told (conflicts_of program.now)) }
         ensures whitespace { IfOk result (λ ret. ret.semantic.irregular_whitespaces.items ≡ []) }
-        ensures fits { IfOk result (λ ret. FitsProgram program.now ret.semantic.scoping) }
-        ensures uses { IfOk result (λ ret. UsesAreTies ret.semantic.scoping) }
-        ensures lists { IfOk result (λ ret. StandsInOneList ret.semantic.scoping) }
-        ensures bindings { IfOk result (λ ret. BindingsAreSymbols ret.semantic.scoping) }
-        ensures redeclarations { IfOk result (λ ret. ListsBeginWithOwn ret.semantic.scoping) }
     {
         let mut steps = Steps::new(());
         self.build_counted(alloc, program, &mut steps)
@@ -56,15 +45,8 @@ impl SemanticBuilder {
     ) -> Result<SemanticBuilderReturn<'a>, AllocError>
         ensures program { IfOk result (λ ret. ret.semantic.program.now ≡ program.now) }
         ensures analysis { IfOk result (λ ret. IsAnalysis program.now ret.semantic.scoping ret.diagnostics) }
-        ensures tables { IfOk result (λ ret. ret.semantic.scoping ≡ tables_of program.now) }
         ensures nodes { IfOk result (λ ret. BelongsToNodes program.now ret.semantic.tables) }
-        ensures diagnostics { IfOk result (λ ret. ret.diagnostics ≡ map told (conflicts_of program.now)) }
         ensures whitespace { IfOk result (λ ret. ret.semantic.irregular_whitespaces.items ≡ []) }
-        ensures fits { IfOk result (λ ret. FitsProgram program.now ret.semantic.scoping) }
-        ensures uses { IfOk result (λ ret. UsesAreTies ret.semantic.scoping) }
-        ensures lists { IfOk result (λ ret. StandsInOneList ret.semantic.scoping) }
-        ensures bindings { IfOk result (λ ret. BindingsAreSymbols ret.semantic.scoping) }
-        ensures redeclarations { IfOk result (λ ret. ListsBeginWithOwn ret.semantic.scoping) }
     {
         let mut walk = Walk::new(alloc, program)?;
         walk.visit(program.root(), Role::Root, steps)?;
