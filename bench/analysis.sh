@@ -16,7 +16,7 @@ cat >"$program/src/main.rt" <<'SOURCE'
 #![tactic(auto)]
 
 use semantic::SemanticBuilder;
-use semantic_tree::{Program, SpanFault, TreeError};
+use semantic_tree::Program;
 use std::alloc::Global;
 use std::io::{self, ErrorKind, Read};
 use std::time::{Duration, Instant};
@@ -31,13 +31,14 @@ fn bytes_of(rt: &HostRuntime) -> io::Result<Vec<u8>> {
     Ok(bytes)
 }
 
+fn invalid() -> io::Error {
+    io::Error::from(ErrorKind::InvalidData)
+}
+
 fn program_of(alloc: Global, bytes: &[u8]) -> io::Result<Program> {
-    match read_program(alloc, bytes) {
-        Ok(program) => Ok(program),
-        Err(TreeError::Span(SpanFault::Node(_) | SpanFault::Comment(_))) => {
-            Err(io::Error::from(ErrorKind::InvalidData))
-        }
-        Err(_) => Err(io::Error::from(ErrorKind::InvalidData)),
+    match read_program(alloc, bytes).ok() {
+        Some(program) => Ok(program),
+        None => Err(invalid()),
     }
 }
 
@@ -49,9 +50,10 @@ fn time_of_reading(rt: &HostRuntime, bytes: &[u8]) -> io::Result<Duration> {
 
 fn time_of_analysis(rt: &HostRuntime, program: &Program) -> io::Result<Duration> {
     let start = Instant::now(rt)?;
-    let _ret = SemanticBuilder::new()
-        .build(rt.alloc(), program)
-        .map_err(|_| io::Error::from(ErrorKind::OutOfMemory))?;
+    let ret = SemanticBuilder::new().build(rt.alloc(), program);
+    if ret.is_err() {
+        return Err(invalid());
+    }
     start.elapsed(rt)
 }
 
