@@ -3,7 +3,6 @@
 
 pub mod class_lines;
 pub mod count_lines;
-pub mod counts;
 pub mod diagnostic_line;
 pub mod flags;
 pub mod free_names;

@@ -8,7 +8,6 @@ ghost use Rattle.report_ends.specs.Streams.{Writes, numbered_text};
 ghost use Rattle.report.specs.TableLines.{reference_name, reference_line, free_line, all_reference_lines};
 ghost use Rattle.report.specs.FreeNames.{name_shown, free_names};
 
-use crate::counts::id_count;
 use crate::free_names::free_names;
 use crate::line::Line;
 use crate::table_lines::{make_free_line, make_reference_line};
@@ -74,7 +73,7 @@ fn write_named<K: Sink>(
     requires names { map name_shown names.now ≡ free_names scoping.now }
     ensures { Writes K.held K.faults out.old out.new (numbered_text (reference_line scoping.now) 0 scoping.now.references) result }
 {
-    let count = id_count(scoping.references_len())?;
+    let count = scoping.references_len() as u32;
     for number in 0..count {
         write_reference(line, scoping, names, ReferenceId::new(number), out)?;
     }

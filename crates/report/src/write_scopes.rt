@@ -6,7 +6,6 @@ ghost use Rattle.scoping.specs.Reading.{scope_of};
 ghost use Rattle.report_ends.specs.Streams.{Writes, numbered_text};
 ghost use Rattle.report.specs.TableLines.{scope_line, bind_line, scope_lines};
 
-use crate::counts::id_count;
 use crate::line::Line;
 use crate::table_lines::{make_bind_line, make_scope_line};
 use report_ends::{ReportError, Sink};
@@ -81,7 +80,7 @@ pub fn write_scopes<K: Sink>(
 ) -> Result<(), ReportError>
     ensures { Writes K.held K.faults out.old out.new (numbered_text (scope_lines scoping.now) 0 scoping.now.scopes) result }
 {
-    let count = id_count(scoping.scopes_len())?;
+    let count = scoping.scopes_len() as u32;
     for number in 0..count {
         write_scope(line, scoping, ScopeId::new(number), out)?;
     }

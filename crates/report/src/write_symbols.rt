@@ -5,7 +5,6 @@ ghost use Rattle.scoping.specs.Reading.{symbol_of, uses_of};
 ghost use Rattle.report_ends.specs.Streams.{Writes, numbered_text};
 ghost use Rattle.report.specs.TableLines.{symbol_line, redeclaration_line, uses_line, declaration_lines, symbol_lines, pure_line, all_symbol_lines};
 
-use crate::counts::id_count;
 use crate::line::Line;
 use crate::table_lines::{
     make_pure_line, make_redeclaration_line, make_symbol_line, make_uses_line,
@@ -109,7 +108,7 @@ fn write_symbols<K: Sink>(
 ) -> Result<(), ReportError>
     ensures { Writes K.held K.faults out.old out.new (numbered_text (symbol_lines scoping.now) 0 scoping.now.symbols) result }
 {
-    let count = id_count(scoping.symbols_len())?;
+    let count = scoping.symbols_len() as u32;
     for number in 0..count {
         write_symbol(line, scoping, SymbolId::new(number), out)?;
     }

@@ -32,4 +32,5 @@ sound_same a b sound names scopes bindings symbols references uses free = record
   forest = rw scopes sound.forest;
   symbols_fit = rw symbols sound.symbols_fit;
   scopes_fit = rw scopes sound.scopes_fit;
+  references_fit = rw references sound.references_fit;
 }

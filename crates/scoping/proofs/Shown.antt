@@ -129,6 +129,7 @@ module _ (a : Inside) (sound : IsSound a) (names : List Name) (name : Name) (n :
     forest = sound.forest;
     symbols_fit = sound.symbols_fit;
     scopes_fit = sound.scopes_fit;
+    references_fit = sound.references_fit;
   }
 
 -- numbers within what is shown are within the fields
@@ -220,6 +221,7 @@ module _ (a : Inside) (sound : IsSound a) where
     forest = sound.forest;
     symbols_fit = sound.symbols_fit;
     scopes_fit = sound.scopes_fit;
+    references_fit = sound.references_fit;
   }
 
   pub sound_rows : (v : Vec Row) → length v.items ≡ length a.symbols.items → AreNamed (length a.names) v.items → IsSound (record a { symbols = v })
@@ -233,6 +235,7 @@ module _ (a : Inside) (sound : IsSound a) where
     forest = sound.forest;
     symbols_fit = rw same sound.symbols_fit;
     scopes_fit = sound.scopes_fit;
+    references_fit = sound.references_fit;
   }
 
 -- one name more among the symbols

@@ -40,3 +40,4 @@ pub record IsSound (a : Inside) : Type 0 where
   pub forest : IsForest (map scope_of_row a.scopes.items)
   pub symbols_fit : length a.symbols.items < 4294967296
   pub scopes_fit : length a.scopes.items < 4294967296
+  pub references_fit : length a.references.items < 4294967296

@@ -1,5 +1,5 @@
 //! The tables of scopes, symbols, bindings and references.
-ghost use Rattle.std.specs.Prelude.{◌≡◌, [], length};
+ghost use Rattle.std.specs.Prelude.{◌≡◌, ◌<◌, [], length};
 ghost use Rattle.std.specs.BTreeSet.{insert_key};
 ghost use Rattle.std.specs.Ordering.{nat_cmp};
 ghost use Rattle.std.specs.Prelude.{OnOk, OnErr};
@@ -88,23 +88,26 @@ impl Scoping {
         }
     }
 
-    /// How many symbols there are.
+    /// How many symbols there are. There is an id for each.
     pub fn symbols_len(&self) -> usize
-        ensures { result ≡ length self.now.symbols }
+        ensures count { result ≡ length self.now.symbols }
+        ensures fits { result < 4294967296 }
     {
         self.symbols.len()
     }
 
-    /// How many references there are.
+    /// How many references there are. There is an id for each.
     pub fn references_len(&self) -> usize
-        ensures { result ≡ length self.now.references }
+        ensures count { result ≡ length self.now.references }
+        ensures fits { result < 4294967296 }
     {
         self.references.len()
     }
 
-    /// How many scopes there are.
+    /// How many scopes there are. There is an id for each.
     pub fn scopes_len(&self) -> usize
-        ensures { result ≡ length self.now.scopes }
+        ensures count { result ≡ length self.now.scopes }
+        ensures fits { result < 4294967296 }
     {
         self.scopes.len()
     }

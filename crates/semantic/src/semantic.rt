@@ -1,6 +1,6 @@
 //! The result of an analysis.
 
-ghost use Rattle.std.specs.Prelude.{◌≡◌, ◌==◌, ◌<◌, ◌-◌, ◌^◌, length, map, min, nat_eq, not};
+ghost use Rattle.std.specs.Prelude.{◌≡◌, ◌==◌, ◌<◌, length, map, nat_eq, not};
 ghost use Rattle.std.specs.Map.{lookup};
 ghost use Rattle.std.specs.Option.{option_map, is_some};
 ghost use Rattle.scoping.specs.Reading.{reference_of, symbol_of, uses_of};
@@ -30,13 +30,6 @@ pub struct Semantic<'a> {
 pub struct SemanticBuilderReturn<'a> {
     pub semantic: Semantic<'a>,
     pub diagnostics: Diagnostics,
-}
-
-/// A count of table entries, whose ids go up to `u32::MAX`.
-fn count_of(entries: usize) -> u32
-    ensures { result ≡ min entries (2 ^ 32 - 1) }
-{
-    entries.min(u32::MAX as usize) as u32
 }
 
 impl<'a> Semantic<'a> {
@@ -171,21 +164,20 @@ impl<'a> Semantic<'a> {
         ident.is_global_reference(&self.scoping, &self.tables)
     }
 
-    /// The nodes of the program, and the scopes, symbols and references that the tables have now, each at most
-    /// `u32::MAX`.
+    /// The nodes of the program, and the scopes, symbols and references that the tables have now.
     pub fn stats(&self) -> Stats
         ensures { result ≡ record {
           nodes = node_count self.now.program.now.root;
-          scopes = min (length self.now.scoping.scopes) (2 ^ 32 - 1);
-          symbols = min (length self.now.scoping.symbols) (2 ^ 32 - 1);
-          references = min (length self.now.scoping.references) (2 ^ 32 - 1);
+          scopes = length self.now.scoping.scopes;
+          symbols = length self.now.scoping.symbols;
+          references = length self.now.scoping.references;
         } }
     {
         Stats::new(
             self.program.node_count(),
-            count_of(self.scoping.scopes_len()),
-            count_of(self.scoping.symbols_len()),
-            count_of(self.scoping.references_len()),
+            self.scoping.scopes_len() as u32,
+            self.scoping.symbols_len() as u32,
+            self.scoping.references_len() as u32,
         )
     }
 }

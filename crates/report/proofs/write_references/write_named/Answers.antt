@@ -1,18 +1,14 @@
 use Rattle.scoping.specs.Reading.{no_reference}
 use Rattle.report.specs.TableLines.{reference_line}
-use Rattle.report_ends.proofs.Stages.{lacks_memory_at_once}
 use Rattle.report.proofs.Items.{places_go_on, places_fail}
 use Rattle.report.proofs.write_references.write_named.Goals as goal
 
 pub returns-in_err-write_reference : goal.returns-in_err-write_reference
 returns-in_err-write_reference g c =
     places_fail g.K.Sink.held g.K.Sink.faults (reference_line c.args.scoping.now) c.loop-number.number c.args.scoping.now.references no_reference _ _ _ _ _ c.from_residual-in_err-write_reference.result c.loop-number.invariant
-    (rw (c.in_ok-count.ensures, c.references_len.ensures) at c.loop-number-test.true) (rw c.new.ensures at c.in_err-write_reference.ensures) c.from_residual-in_err-write_reference.ensures.1
+    (rw c.references_len.ensures.count at c.loop-number-test.true) (rw c.new.ensures at c.in_err-write_reference.ensures) c.from_residual-in_err-write_reference.ensures.1
 
 pub loop-number-preserved : goal.loop-number-preserved
 loop-number-preserved g c =
     places_go_on g.K.Sink.held g.K.Sink.faults (reference_line c.args.scoping.now) c.loop-number.number c.args.scoping.now.references no_reference _ _ _ _ _ c.loop-number.invariant
-    (rw (c.in_ok-count.ensures, c.references_len.ensures) at c.loop-number-test.true) (rw c.new.ensures at c.in_ok-write_reference.ensures)
-
-pub returns-in_err-count : goal.returns-in_err-count
-returns-in_err-count g c = lacks_memory_at_once g.K.Sink.held g.K.Sink.faults c.args.out.now _ c.from_residual.result c.from_residual.ensures.1
+    (rw c.references_len.ensures.count at c.loop-number-test.true) (rw c.new.ensures at c.in_ok-write_reference.ensures)

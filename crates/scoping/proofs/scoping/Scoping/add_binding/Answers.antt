@@ -31,6 +31,7 @@ invariant_of-self-2 c =
       forest = sound.forest;
       symbols_fit = sound.symbols_fit;
       scopes_fit = sound.scopes_fit;
+      references_fit = sound.references_fit;
     }
 
 pub returns-clause-ok : goal.returns-clause-ok

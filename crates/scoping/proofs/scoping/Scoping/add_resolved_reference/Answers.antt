@@ -22,6 +22,7 @@ invariant_of-self c =
       forest = before.forest;
       symbols_fit = before.symbols_fit;
       scopes_fit = before.scopes_fit;
+      references_fit = before.references_fit;
     }
 
 pub returns-in_err-push-clause-err : goal.returns-in_err-push-clause-err
@@ -50,6 +51,7 @@ invariant_of-self-2 c =
       forest = before.forest;
       symbols_fit = before.symbols_fit;
       scopes_fit = before.scopes_fit;
+      references_fit = before.references_fit;
     }
 
 pub returns-clause-ok : goal.returns-clause-ok

@@ -19,4 +19,5 @@ invariant_of-self-2 c =
       forest = rw (pushed, map-append) (IsForest-push _ (record { parent = c.args.parent; node = c.args.node; flags = c.args.flags }) before.forest (rw (← c.self.view_is) at c.requires.parent));
       symbols_fit = before.symbols_fit;
       scopes_fit = rw pushed (omega (arith, c.requires.room, rw length-map at (rw (← c.self.view_is) at c.requires.room), length-append c.self.inside.scopes.items (record { parent = c.args.parent; node = c.args.node; flags = c.args.flags } ∷ [])));
+      references_fit = before.references_fit;
     }

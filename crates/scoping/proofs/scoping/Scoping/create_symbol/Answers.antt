@@ -26,6 +26,7 @@ invariant_of-self-2 c =
       forest = sound.forest;
       symbols_fit = rw made (omega (arith, more, rw length-map at (rw (← c.self.view_is) at c.requires.room)));
       scopes_fit = sound.scopes_fit;
+      references_fit = sound.references_fit;
     }
 
 pub returns-clause-ok : goal.returns-clause-ok

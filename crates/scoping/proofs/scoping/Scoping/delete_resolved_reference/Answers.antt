@@ -24,6 +24,7 @@ invariant_of-self c =
       forest = before.forest;
       symbols_fit = before.symbols_fit;
       scopes_fit = before.scopes_fit;
+      references_fit = before.references_fit;
     }
 
 pub returns : goal.returns

@@ -18,6 +18,7 @@ invariant_of-self c =
       forest = sound.forest;
       symbols_fit = sound.symbols_fit;
       scopes_fit = sound.scopes_fit;
+      references_fit = sound.references_fit;
     }
 
 pub returns-in-Some : goal.returns-in-Some

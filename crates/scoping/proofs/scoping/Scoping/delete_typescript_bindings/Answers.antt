@@ -32,6 +32,7 @@ invariant_of-self c =
       forest = sound.forest;
       symbols_fit = sound.symbols_fit;
       scopes_fit = sound.scopes_fit;
+      references_fit = sound.references_fit;
     }
 
 pub returns : goal.returns

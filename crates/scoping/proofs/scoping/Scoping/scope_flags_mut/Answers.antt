@@ -21,6 +21,7 @@ invariant_of-self-lent c = λ w.
       forest = IsForest-same _ _ (parents_kept c.self.inside.scopes.items c.args.scope c.index.result c.index_mut-row.result.now row c.index.ensures within c.index_mut-row.ensures.value refl) before.forest;
       symbols_fit = before.symbols_fit;
       scopes_fit = rw same before.scopes_fit;
+      references_fit = before.references_fit;
     }
 
 pub returns : goal.returns

@@ -22,6 +22,7 @@ invariant_of-self c =
           (IsForest-reparent _ c.args.scope c.args.parent before.forest requires (rw (← c.self.view_is) at c.requires.parent) (rw (← c.self.view_is) at c.requires.acyclic));
       symbols_fit = before.symbols_fit;
       scopes_fit = rw same before.scopes_fit;
+      references_fit = before.references_fit;
     }
 
 pub returns : goal.returns

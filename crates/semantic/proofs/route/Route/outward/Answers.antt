@@ -37,12 +37,12 @@ returns-clause-way c =
     let bits = c.args.flags.bits in
     elim c.loop-test.branch [
       | else-loop-test w ↦
-          let out : length t.scopes - c.loop.counter ≡ 0 = omega (arith, w.loop-test.false, c.scopes_len-end.ensures) in
+          let out : length t.scopes - c.loop.counter ≡ 0 = omega (arith, w.loop-test.false, c.scopes_len-end.ensures.count) in
           way_none t c.args.from bits c.requires
           (goes_on-out t c.args.from bits c.loop.scope c.loop.passed.items (subst (λ n. GoesOn t c.args.from bits n c.loop.scope c.loop.passed.items) out c.loop.invariant.way))
           _ c.new.ensures.items refl
       | then-loop-test+else-intersects+in_ok-push+in-None w ↦
-          let turn : length t.scopes - c.loop.counter ≡ suc (length t.scopes - (c.loop.counter + 1)) = omega (arith, w.loop-test.true, c.scopes_len-end.ensures) in
+          let turn : length t.scopes - c.loop.counter ≡ suc (length t.scopes - (c.loop.counter + 1)) = omega (arith, w.loop-test.true, c.scopes_len-end.ensures.count) in
           way_none t c.args.from bits c.requires
           (goes_on-last t c.args.from bits (length t.scopes - (c.loop.counter + 1)) c.loop.scope c.loop.passed.items
           (subst (λ n. GoesOn t c.args.from bits n c.loop.scope c.loop.passed.items) turn c.loop.invariant.way)
