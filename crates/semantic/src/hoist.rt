@@ -75,9 +75,9 @@ impl<'a> Declared<'a> {
         ensures within { IfOk result (λ o. IfSome o (λ h. (h.scope < length self.new.tables.scopes) × (h.symbol < length self.new.tables.symbols))) }
     {
         for scope in route.passed.as_slice() {
-            if let Some(symbol) = self.asked(*scope, declaration)? {
+            if let Some(symbol) = self.asked(scope.id(), declaration)? {
                 return Ok(Some(Hit {
-                    scope: *scope,
+                    scope: scope.id(),
                     symbol,
                 }));
             }
@@ -162,7 +162,7 @@ impl<'a> Declared<'a> {
         ensures goes { Goes self.old self.new }
     {
         for scope in route.passed.as_slice() {
-            self.remember(*scope, name, symbol)?;
+            self.remember(scope.id(), name, symbol)?;
         }
         Ok(())
     }

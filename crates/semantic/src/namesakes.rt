@@ -15,10 +15,10 @@ ghost use Rattle.semantic.specs.WrittenNames.{Adds, openers_of, stands_on};
 use crate::declaring::binds_under;
 use crate::inside::{is_inside, is_parameter_decorator};
 use crate::questions::reads;
-use crate::route::Route;
+use crate::route::{PassedScope, Route};
 use scoping::Scoping;
 use scoping::name_table::NameTable;
-use semantic_syntax::{Ident, NodeId, ScopeId, SourceType};
+use semantic_syntax::{Ident, NodeId, SourceType};
 use semantic_tree::{AstKind, AstType, Program, Role};
 use std::alloc::{AllocError, Global};
 use std::collections::HashSet;
@@ -137,7 +137,7 @@ fn openers_in_child(kind: AstKind<'_>, role: Role, openers: &Openers) -> Openers
 }
 
 /// The scopes that the route passes, but for the one where it begins.
-fn between(route: &Route) -> &[ScopeId]
+fn between(route: &Route) -> &[PassedScope]
     ensures { result.now ≡ drop 1 route.now.passed.items }
 {
     match route.passed.as_slice().split_first() {
@@ -190,7 +190,7 @@ impl Namesakes {
         ensures { result ≡ stands_on scoping.now self.now (chars name.entry.text.now) (drop 1 route.now.passed.items) }
     {
         for scope in between(route) {
-            if self.has(scoping.get_node_id(*scope), name) {
+            if self.has(scoping.get_node_id(scope.id()), name) {
                 return true;
             }
         }

@@ -6,12 +6,48 @@ ghost use Rattle.semantic.specs.Routes.{IsRoute, IsWay, way_from};
 
 use scoping::Scoping;
 use semantic_syntax::{ScopeFlags, ScopeId};
+use smallvec::SmallVec;
 use std::alloc::{AllocError, Global};
+use std::marker::Model;
 
-/// The scopes that are passed, from inner to outer, and the one where the way ends.
+/// A scope that is passed. A place of a list that isn't used yet holds the root.
+#[derive(Clone, Copy)]
+pub struct PassedScope {
+    id: ScopeId,
+}
+
+impl Model for PassedScope {
+    ghost use Rattle.std.specs.Prelude.{ℕ};
+
+    ghost Value = { ℕ };
+
+    ghost view = { λ p. p.id };
+
+    ghost inverse = { λ n. record { id = n } };
+}
+
+impl PassedScope {
+    /// The scope.
+    pub fn id(self) -> ScopeId
+        ensures { result ≡ self }
+    {
+        self.id
+    }
+}
+
+impl Default for PassedScope {
+    fn default() -> PassedScope {
+        PassedScope {
+            id: ScopeId::new(0),
+        }
+    }
+}
+
+/// The scopes that are passed, from inner to outer, and the one where the way ends. Most ways pass few, which take
+/// no memory.
 #[derive(Drop)]
 pub struct Route {
-    pub passed: Vec<ScopeId>,
+    pub passed: SmallVec<PassedScope, 8>,
     pub target: ScopeId,
 }
 
@@ -39,7 +75,7 @@ impl Route {
         ensures way { IfOk result (λ route. IsWay (way_from scoping.now from flags.bits) route) }
         ensures within { IfOk result (λ route. IsRoute (length scoping.now.scopes) route) }
     {
-        let mut passed = Vec::new(alloc);
+        let mut passed = SmallVec::new(alloc);
         let mut scope = from;
         for _ in 0..scoping.scopes_len() {
             if scoping.scope_flags(scope).intersects(flags) {
@@ -48,14 +84,14 @@ impl Route {
                     target: scope,
                 });
             }
-            passed.push(scope)?;
+            passed.push(PassedScope { id: scope })?;
             match parent(scoping, scope) {
                 Some(around) => scope = around,
                 None => break,
             }
         }
         Ok(Route {
-            passed: Vec::new(alloc),
+            passed: SmallVec::new(alloc),
             target: from,
         })
     }

@@ -1,4 +1,4 @@
-use Rattle.std.proofs.Common.{◌≡◌, ◌+◌, ◌<◌, None, length, drop, sym, ap, ◌∙◌, arith}
+use Rattle.std.proofs.Common.{◌≡◌, ◌+◌, ◌<◌, None, length, get_or, drop, sym, ap, subst, ◌∙◌, arith}
 use Rattle.walk_model.specs.Declares.{found}
 use Rattle.walk_model.specs.Hoists.{counting, against_way, hit}
 use Rattle.semantic.specs.Named.{naming}
@@ -13,11 +13,13 @@ loop-scope-preserved c =
     let items = c.as_slice-scope-items.result.now in
     let i = c.loop-scope.scope-index in
     let within : i < length items = omega arith in
-    let none : counting w.tables (found w c.scope-item.result d.name) ≡ None = sym c.in_ok-symbol.ensures.symbol ∙ c.in_default.is in
+    let here = c.id.result in
+    let is = subst (λ s. s ≡ get_or items i s) (sym c.id.ensures) c.scope-item.is in
+    let none : counting w.tables (found w here d.name) ≡ None = sym c.in_ok-symbol.ensures.symbol ∙ c.in_default.is in
     let noted = c.in_ok-symbol.ensures.noted in
     record {
       items = c.loop-scope.invariant.items;
-      noted = ap (λ v. against_way v d (drop (i + 1) items)) noted ∙ sym (way_on w d items i c.scope-item.result within c.scope-item.is none) ∙ c.loop-scope.invariant.noted;
-      asked = ap (λ v. hit v (drop (i + 1) items) d.name) noted ∙ sym (hit_on w d items i c.scope-item.result within c.scope-item.is none) ∙ c.loop-scope.invariant.asked;
+      noted = ap (λ v. against_way v d (drop (i + 1) items)) noted ∙ sym (way_on w d items i here within is none) ∙ c.loop-scope.invariant.noted;
+      asked = ap (λ v. hit v (drop (i + 1) items) d.name) noted ∙ sym (hit_on w d items i here within is none) ∙ c.loop-scope.invariant.asked;
       goes = goes-trans _ _ _ c.loop-scope.invariant.goes c.in_ok-symbol.ensures.goes;
     }

@@ -27,8 +27,8 @@ loop-preserved c =
     c.in-Some.around (sym c.in-Some.ensures.value) in
     record {
       scope = c.in-Some.ensures.within;
-      passed = rw c.in_ok-push.ensures.items (All-push (length t.scopes) c.loop.passed.items c.loop.scope c.loop.invariant.passed c.loop.invariant.scope);
-      way = subst (λ xs. GoesOn t c.args.from bits (length t.scopes - (c.loop.counter + 1)) c.in-Some.around xs) (sym c.in_ok-push.ensures.items) next;
+      passed = rw c.in_ok-push.ensures.ok (All-push (length t.scopes) c.loop.passed.items c.loop.scope c.loop.invariant.passed c.loop.invariant.scope);
+      way = subst (λ xs. GoesOn t c.args.from bits (length t.scopes - (c.loop.counter + 1)) c.in-Some.around xs) (sym c.in_ok-push.ensures.ok) next;
     }
 
 pub returns-clause-way : goal.returns-clause-way
