@@ -10,3 +10,4 @@ pub mod PathOf
 pub mod Store
 pub mod PathLeft
 pub mod HeldKinds
+pub mod Entered

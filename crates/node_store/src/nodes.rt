@@ -62,7 +62,7 @@ impl<'a> AstNodes<'a> {
     }
 
     /// Where the nodes are kept.
-    pub(crate) fn allocator(&self) -> Global {
+    pub fn allocator(&self) -> Global {
         *self.nodes.allocator()
     }
 
@@ -96,6 +96,17 @@ impl<'a> AstNodes<'a> {
         ensures root { n ≡ 0 → result ≡ 0 }
     {
         self.parents[n.index()]
+    }
+
+    /// The parent of a node, or the root where there is no such node.
+    pub(crate) fn parent_or_root(&self, n: NodeId) -> NodeId
+        ensures parent { result ≡ slice_index self.now.parents n }
+        ensures before { result ≤ n - 1 }
+    {
+        match self.parents.get(n.index()) {
+            Some(parent) => *parent,
+            None => NodeId::ROOT,
+        }
     }
 
     /// The view of the parent of a node; that of the root is the root.
@@ -259,8 +270,8 @@ impl<'a> AstNodes<'a> {
         self.push(n, kind, scope, parent, flags)
     }
 
-    /// Adds a node under the next id.
-    fn push(
+    /// Adds a node under the next id. For want of memory the nodes are as before.
+    pub(crate) fn push(
         &mut self,
         n: NodeId,
         kind: AstKind<'a>,

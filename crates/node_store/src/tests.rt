@@ -4,6 +4,7 @@ ghost use Rattle.semantic_kinds.specs.declared.kind.AstType.TheVariants.{Program
 
 use crate::{
     AncestorKinds, Ancestry, AncestryStack, AstNode, AstNodeStore, AstNodes, AstTypesBitset,
+    EnteredNodes,
 };
 use semantic_syntax::{NodeFlags, NodeId, ScopeId, Span};
 use semantic_tree::{AstKind, AstType, Marks, Node};
@@ -108,6 +109,22 @@ fn room_is_no_node(rt: HostRuntime) -> Result<(), Fail> {
     store.reserve(2)?;
     assert_eq!(rt; store.node_count(), 0);
     assert!(rt; store.into_nodes().is_empty());
+    Ok(())
+}
+
+#[test]
+fn a_node_that_was_left_is_no_parent(rt: HostRuntime) -> Result<(), Fail> {
+    let root = root(rt.alloc())?;
+    let statement = statement(rt.alloc())?;
+    let scope = ScopeId::new(0);
+    let mut entered = EnteredNodes::new(rt.alloc());
+    entered.enter(AstKind::new(&root), scope)?;
+    entered.enter(AstKind::new(&statement), scope)?;
+    entered.leave();
+    entered.enter(AstKind::new(&statement), scope)?;
+    let nodes = entered.into_nodes();
+    assert_eq!(rt; nodes.len(), 3);
+    assert_eq!(rt; nodes.parent_id(NodeId::new(2)), NodeId::ROOT);
     Ok(())
 }
 
