@@ -62,7 +62,7 @@ impl<'a> AstNodes<'a> {
     }
 
     /// Where the nodes are kept.
-    pub fn allocator(&self) -> Global {
+    pub(crate) fn allocator(&self) -> Global {
         *self.nodes.allocator()
     }
 
@@ -226,6 +226,15 @@ impl<'a> AstNodes<'a> {
         ensures { node_at self.now 0 ≡ Some result.node.now }
     {
         self.kind(NodeId::ROOT)
+    }
+
+    /// Lets go of all nodes.
+    pub fn clear(&mut self)
+        ensures { self.new ≡ no_nodes }
+    {
+        self.nodes.clear();
+        self.parents.clear();
+        self.flags.clear();
     }
 
     /// Makes room for so many more nodes. For want of memory the nodes are as before.

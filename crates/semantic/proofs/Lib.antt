@@ -21,6 +21,7 @@ pub mod Counting
 pub mod Beginning
 pub mod Opening
 pub mod TurnEnds
+pub mod Listing
 pub mod Visiting
 pub mod EachName
 pub mod RowActs

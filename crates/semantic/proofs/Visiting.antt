@@ -1,5 +1,5 @@
 -- A walk over the children of a place, one child at a time.
-use Rattle.std.proofs.Common.{◌≡◌, ℕ, ◌+◌, ◌-◌, List, [], ◌∷◌, ◌++◌, Option, Some, None, Bool, true, false, cond, inl, option_map, length, take, reverse, length-append, refl, sym, ap, subst, ◌∙◌, arith}
+use Rattle.std.proofs.Common.{◌≡◌, ℕ, ◌+◌, ◌-◌, List, [], ◌∷◌, ◌++◌, Option, Some, None, Bool, true, false, cond, inl, IfSome, option_map, length, take, reverse, length-append, refl, sym, ap, subst, ◌∙◌, arith}
 use Rattle.std.proofs.lemmas.List.{reverse-append, take_at}
 use Rattle.std.specs.Option.{unwrap_or}
 use Rattle.semantic_kinds.specs.Kinds.{same_kind}
@@ -27,14 +27,17 @@ use Rattle.walk_model.specs.Recursion.{IsReady, IsBetween}
 use Rattle.walk_model.proofs.Turned.{node_turn}
 use Rattle.walk_model.proofs.TurnParts.{within_at}
 use Rattle.walk_model.proofs.WalkTurns as turns
+use Rattle.node_store.specs.Entered.{Entered, leaving as leaving_node}
+use Rattle.semantic.specs.Listed.{IsAmong, all_listed}
 use Rattle.semantic.specs.Walker.{Walker}
 use Rattle.semantic.specs.Turns.{child_scope, own_or}
-use Rattle.semantic.specs.AtPlace.{ComesTo, IsWithin, IsTurnAt, IsBetweenAt, IsOpenAtRoot, IsComing, entered, walked_over}
+use Rattle.semantic.specs.AtPlace.{ComesTo, IsWithin, IsTurnAt, IsBetweenAt, IsOpenAtRoot, IsComing, entered, kept_at, walked_over}
 use Rattle.semantic.specs.declared.visit.Turn.{Turn}
+use Rattle.semantic.proofs.Listing.{last_without, child_kept, rest_kept, rest_lists, first_kept, left_kept}
 
 -- a walk is what it has made and where it stands
-same_walker : (w v : Walker) → w.made ≡ v.made → w.source_type ≡ v.source_type → w.node_count ≡ v.node_count → w.namesakes ≡ v.namesakes → w.path ≡ v.path → w.current ≡ v.current → w.cursor ≡ v.cursor → w.is_ambient ≡ v.is_ambient → w ≡ v
-same_walker w v made source_type node_count namesakes path current cursor is_ambient = λ i. record {
+same_walker : (w v : Walker) → w.made ≡ v.made → w.source_type ≡ v.source_type → w.node_count ≡ v.node_count → w.namesakes ≡ v.namesakes → w.path ≡ v.path → w.current ≡ v.current → w.cursor ≡ v.cursor → w.is_ambient ≡ v.is_ambient → w.nodes ≡ v.nodes → w ≡ v
+same_walker w v made source_type node_count namesakes path current cursor is_ambient nodes = λ i. record {
   made = made i;
   source_type = source_type i;
   node_count = node_count i;
@@ -43,6 +46,7 @@ same_walker w v made source_type node_count namesakes path current cursor is_amb
   current = current i;
   cursor = cursor i;
   is_ambient = is_ambient i;
+  nodes = nodes i;
 }
 
 named_left : (ds : List Declaration) (ws : List Written) (xs ys : List Step) → AllNamed ds ws (xs ++ ys) → AllNamed ds ws xs
@@ -76,6 +80,10 @@ module _ (ds : List Declaration) (first : Walker) (p : Place) (own : Option Open
   abbrev pub cursor_last : ℕ
   cursor_last = cursor_after p.node p.is_ambient (on_entering p.node.kind p.cursor) p.node.children
 
+  -- all nodes of the node, once they are entered
+  abbrev pub all_kept : Option Entered
+  all_kept = option_map (all_listed (steps_below p own n (on_entering p.node.kind p.cursor) p.node.children)) (kept_at first p)
+
   -- the walk stands between two children of the place, and goes over those that are left to where it is walked over
   pub record Rests (w : Walker) (turn : Turn) (f : Forest) : Type 0 where
     pub scope : Option OpenScope
@@ -86,6 +94,8 @@ module _ (ds : List Declaration) (first : Walker) (p : Place) (own : Option Open
     pub made : after_all ds w.made (steps_below p scope next cursor f) ≡ all_made
     pub moves : cursor_after p.node p.is_ambient cursor f ≡ cursor_last
     pub namesakes : w.namesakes ≡ first.namesakes
+    pub kept : IfSome w.nodes (IsAmong p f)
+    pub lists : option_map (all_listed (steps_below p scope next cursor f)) w.nodes ≡ all_kept
 
   own_first : (turn : Turn) (current : ℕ) → turn.own ≡ cond (same_kind p.node.kind kind.Program) (Some current) None → current ≡ at p → IsOpenAtRoot p own → turn.own ≡ option_map (λ s. s.number) own
   own_first turn current e at_p h = e ∙ by own h
@@ -100,7 +110,7 @@ module _ (ds : List Declaration) (first : Walker) (p : Place) (own : Option Open
 
   -- it does so once the node is entered
   pub rests_first : (w : Walker) (turn : Turn) (k : AstType) (f : Forest) → IsComing ds first p own n → k ≡ p.node.kind → f ≡ p.node.children
-      → w ≡ record first { made = entered ds first p; path = first.path ++ p.node ∷ []; cursor = on_entering p.node.kind p.cursor }
+      → w ≡ record first { made = entered ds first p; path = first.path ++ p.node ∷ []; cursor = on_entering p.node.kind p.cursor; nodes = kept_at first p }
       → turn ≡ record { outer = w.current; is_ambient = w.is_ambient; own = cond (same_kind k kind.Program) (Some w.current) None; header_start = length w.made.waiting }
       → Rests w turn f
   rests_first w turn k f h kind_same is e t =
@@ -108,6 +118,7 @@ module _ (ds : List Declaration) (first : Walker) (p : Place) (own : Option Open
       let current : w.current ≡ at p = ap (λ (v : Walker). v.current) e ∙ comes.current in
       let ambient : w.is_ambient ≡ p.is_ambient = ap (λ (v : Walker). v.is_ambient) e ∙ comes.is_ambient in
       let made : w.made ≡ entered ds first p = ap (λ (v : Walker). v.made) e in
+      let nodes : w.nodes ≡ kept_at first p = ap (λ (v : Walker). v.nodes) e in
       let cursor : ℕ = on_entering p.node.kind p.cursor in
       record {
         scope = own;
@@ -137,20 +148,23 @@ module _ (ds : List Declaration) (first : Walker) (p : Place) (own : Option Open
         made = λ i. after_all ds (made i) (steps_below p own n cursor (is i));
         moves = ap (λ (g : Forest). cursor_after p.node p.is_ambient cursor g) is;
         namesakes = ap (λ (v : Walker). v.namesakes) e;
+        kept = subst (λ (o : Option Entered). IfSome o (IsAmong p f)) (sym nodes)
+            (subst (λ (g : Forest). IfSome (kept_at first p) (IsAmong p g)) (sym is) (first_kept p first.nodes h.kept));
+        lists = λ i. option_map (all_listed (steps_below p own n cursor (is i))) (nodes i);
       }
 
   -- behind all children the scope may still open, and then the node is left
   pub walked : (w last left : Walker) (turn : Turn) → IsComing ds first p own n → (h : Rests w turn nothing)
       → last ≡ record w { made = after_all ds w.made (opening_last p h.scope h.next) }
-      → left ≡ record last { path = take (length last.path - 1) last.path; cursor = on_leaving p.node.kind last.cursor }
+      → left ≡ record last { path = take (length last.path - 1) last.path; cursor = on_leaving p.node.kind last.cursor; nodes = option_map leaving_node last.nodes }
       → left ≡ walked_over ds first p own n
   walked w last left turn c h e l =
       let comes : ComesTo first p = c.comes in
       let within : IsWithin w p p.chain = h.between.within in
-      let is : left ≡ record w { made = after_all ds w.made (opening_last p h.scope h.next); path = take (length w.path - 1) w.path; cursor = on_leaving p.node.kind w.cursor } =
-      l ∙ ap (λ (v : Walker). record v { path = take (length v.path - 1) v.path; cursor = on_leaving p.node.kind v.cursor }) e in
+      let is : left ≡ record w { made = after_all ds w.made (opening_last p h.scope h.next); path = take (length w.path - 1) w.path; cursor = on_leaving p.node.kind w.cursor; nodes = option_map leaving_node w.nodes } =
+      l ∙ ap (λ (v : Walker). record v { path = take (length v.path - 1) v.path; cursor = on_leaving p.node.kind v.cursor; nodes = option_map leaving_node v.nodes }) e in
       is
-      ∙ same_walker (record w { made = after_all ds w.made (opening_last p h.scope h.next); path = take (length w.path - 1) w.path; cursor = on_leaving p.node.kind w.cursor }) (walked_over ds first p own n)
+      ∙ same_walker (record w { made = after_all ds w.made (opening_last p h.scope h.next); path = take (length w.path - 1) w.path; cursor = on_leaving p.node.kind w.cursor; nodes = option_map leaving_node w.nodes }) (walked_over ds first p own n)
       h.made
       (within.source_type ∙ sym comes.source_type)
       (within.count ∙ sym comes.count)
@@ -159,6 +173,7 @@ module _ (ds : List Declaration) (first : Walker) (p : Place) (own : Option Open
       (within.current ∙ sym comes.current)
       (ap (on_leaving p.node.kind) (h.between.flags ∙ h.moves))
       (h.between.is_ambient ∙ sym comes.is_ambient)
+      (left_kept p (steps_below p own n (on_entering p.node.kind p.cursor) p.node.children) (opening_last p h.scope h.next) (last_without p h.scope h.next) w.nodes first.nodes h.kept c.kept h.lists)
 
 -- a child where it begins, and how many scopes there are behind it
 abbrev pub place_of : Place → Option OpenScope → (n cursor : ℕ) → Role × Node → Place
@@ -249,11 +264,13 @@ module _ (ds : List Declaration) (p : Place) (own : Option OpenScope) (n cursor 
       ∙ sym (turns.child_stands_at ds w.made p own n cursor start child rest h.between))
       (λ i. cursor_before p.node (ambient_inside p.node (t.is_ambient i)) child.0 child.1 ((ap (λ (v : Walker). v.cursor) o ∙ h.flags) i))
       (ap (λ (b : Bool). ambient_round p.node b child.0) t.is_ambient)
+      (ap (λ (v : Walker). v.nodes) o)
 
   -- so it comes to the child with all that the recursion knows
   pub comes_to_child : (w v : Walker) (turn : Turn) → IsBetweenAt ds w turn p own n cursor start (forest_of (child ∷ rest))
+      → IfSome w.nodes (IsAmong p (forest_of (child ∷ rest)))
       → v ≡ at_child w (opened_here w) place_here → IsComing ds v place_here None next_here
-  comes_to_child w v turn h e =
+  comes_to_child w v turn h among e =
       let opened : Standing = opened_here w in
       let within : IsWithin w p p.chain = h.within in
       let ready : IsReady opened place_here next_here = turns.child_ready ds w.made p own n cursor start child rest h.between in
@@ -267,6 +284,7 @@ module _ (ds : List Declaration) (p : Place) (own : Option OpenScope) (n cursor 
         root = ready.seat.other;
         between = record { some = below.some; stands = below.stands; holds = record { sound = below.holds.sound; header = omega arith }; seated = below.seated; inside = below.inside };
         named = names.below;
+        kept = child_kept p own n cursor child rest w.nodes among;
       } in
       subst (λ (u : Walker). IsComing ds u place_here None next_here) (sym e) coming
 
@@ -332,6 +350,9 @@ rests_past ds first p own n child rest w v past ended before turn h e t k b =
     let scope : Option OpenScope = scope_at p child.0 h.scope h.next in
     let next : ℕ = next_past p h.scope h.next child in
     let place : Place = place_of p h.scope h.next h.cursor child in
+    let inner : List Step = steps_below place None (next_at p child.0 h.scope h.next) (on_entering child.1.kind place.cursor) child.1.children in
+    let nodes : ended.nodes ≡ option_map (all_listed (entering place ∷ inner)) w.nodes =
+    ap (λ (u : Walker). u.nodes) b ∙ ap (λ (u : Walker). u.nodes) k ∙ ap (λ (u : Walker). option_map (all_listed (entering place ∷ inner)) u.nodes) e in
     record {
       scope = scope;
       next = next;
@@ -342,6 +363,9 @@ rests_past ds first p own n child rest w v past ended before turn h e t k b =
           ∙ sym (turns.turn_is ds w.made p h.scope h.next h.cursor h.start child rest) ∙ h.made;
       moves = h.moves;
       namesakes = ap (λ (u : Walker). u.namesakes) b ∙ ap (λ (u : Walker). u.namesakes) k ∙ ap (λ (u : Walker). u.namesakes) e ∙ h.namesakes;
+      kept = subst (λ (o : Option Entered). IfSome o (IsAmong p (forest_of rest))) (sym nodes) (rest_kept p h.scope h.next h.cursor child rest w.nodes h.kept);
+      lists = ap (option_map (all_listed (steps_below p scope next (cursor_past p child.0 h.cursor place) (forest_of rest)))) nodes
+          ∙ rest_lists p h.scope h.next h.cursor child rest w.nodes ∙ h.lists;
     }
 
 module _ (p : Place) (own : Option OpenScope) (start : ℕ) (k : AstType) (r : Role) (turn : Turn) (before : ℕ) (past back turned : Walker) where

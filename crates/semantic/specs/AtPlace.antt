@@ -1,5 +1,5 @@
 -- A walk that stands at a place of the program.
-use Rattle.std.specs.Prelude.{◌≡◌, ℕ, List, ◌∷◌, Option, Some, None, option_map, length, reverse}
+use Rattle.std.specs.Prelude.{◌≡◌, ℕ, List, ◌∷◌, Option, Some, None, IfSome, option_map, length, reverse}
 use Rattle.semantic_kinds.specs.declared.kind.AstType.TheVariants as kind
 use Rattle.semantic_tree.specs.Forest.{Forest}
 use Rattle.semantic_model.specs.Place.{Place, OpenScope, innermost, at}
@@ -12,6 +12,8 @@ use Rattle.walk_model.specs.Walks.{after, after_all}
 use Rattle.walk_model.specs.Shown.{ShowsChain, IsGrounded}
 use Rattle.walk_model.specs.NamedScopes.{IsStepNamed, AllNamed}
 use Rattle.walk_model.specs.Recursion.{IsBetween}
+use Rattle.node_store.specs.Entered.{Entered}
+use Rattle.semantic.specs.Listed.{IsNext, all_listed, entered_at}
 use Rattle.semantic.specs.Walker.{Walker}
 use Rattle.semantic.specs.declared.visit.Turn.{Turn}
 
@@ -64,6 +66,10 @@ IsOpenAtRoot p (Some s) = (p.node.kind ≡ kind.Program) × (s.number ≡ at p)
 abbrev pub entered : List Declaration → Walker → Place → Standing
 entered ds w p = after ds w.made (entering p)
 
+-- the nodes that are kept then
+abbrev pub kept_at : Walker → Place → Option Entered
+kept_at w p = option_map (entered_at p) w.nodes
+
 -- the walk comes to a node, with all that a recursion knows of what is below it
 pub record IsComing (ds : List Declaration) (w : Walker) (p : Place) (own : Option OpenScope) (n : ℕ) : Type 0 where
   pub comes : ComesTo w p
@@ -71,10 +77,12 @@ pub record IsComing (ds : List Declaration) (w : Walker) (p : Place) (own : Opti
   pub root : IsOpenAtRoot p own
   pub between : IsBetween (entered ds w p) p own n (on_entering p.node.kind p.cursor) (length (entered ds w p).waiting) p.node.children
   pub named : AllNamed ds w.namesakes (steps_below p own n (on_entering p.node.kind p.cursor) p.node.children)
+  pub kept : IfSome w.nodes (IsNext p)
 
 -- the walk has done the steps of the node, and stands where it stood before
 abbrev pub walked_over : List Declaration → Walker → Place → Option OpenScope → ℕ → Walker
 walked_over ds w p own n = record w {
   made = after_all ds (entered ds w p) (steps_below p own n (on_entering p.node.kind p.cursor) p.node.children);
   cursor = on_leaving p.node.kind (cursor_after p.node p.is_ambient (on_entering p.node.kind p.cursor) p.node.children);
+  nodes = option_map (all_listed (entering p ∷ steps_below p own n (on_entering p.node.kind p.cursor) p.node.children)) w.nodes;
 }

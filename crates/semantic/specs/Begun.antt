@@ -1,5 +1,5 @@
 -- A walk at the root of a program, and what belongs to a program beside its tables.
-use Rattle.std.specs.Prelude.{◌≡◌, ℕ, List, [], ◌&&◌, map}
+use Rattle.std.specs.Prelude.{◌≡◌, ℕ, List, [], Bool, ◌&&◌, map}
 use Rattle.semantic_syntax.specs.SourceTypes.{is_typescript_definition}
 use Rattle.semantic_syntax.specs.Tables.{Name, Tables}
 use Rattle.scoping.specs.NodeEntries.{NodeEntries}
@@ -21,11 +21,12 @@ use Rattle.walk_model.specs.Opens.{open_scope}
 use Rattle.walk_model.specs.Noted.{pairs_of}
 use Rattle.walk_model.specs.WrittenNames.{Written, is_written, is_sloppy, names_written}
 use Rattle.semantic.specs.Conflicting.{told}
+use Rattle.semantic.specs.Listed.{kept_from}
 use Rattle.semantic.specs.Walker.{Walker}
 
 -- the walk stands at the root, whose scope is open
-abbrev pub begun : Tree → List Written → Walker
-begun program ws =
+abbrev pub begun : Tree → List Written → (keeps : Bool) → Walker
+begun program ws keeps =
     let p : Place = root_place program in
     record {
       made = open_scope nothing_made p (opened_scope p 0);
@@ -36,6 +37,7 @@ begun program ws =
       current = 0;
       cursor = 0;
       is_ambient = is_typescript_definition program.source_type;
+      nodes = kept_from keeps;
     }
 
 -- the names are those that the program writes, if functions move in it

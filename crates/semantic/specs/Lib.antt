@@ -20,5 +20,7 @@ pub mod Numbered
 pub mod Tally
 pub mod FreeReference
 pub mod LabelStack
+pub mod Listed
 pub mod AtPlace
 pub mod Begun
+pub mod Lending

@@ -1,5 +1,5 @@
 -- A walk: what it has made so far, and where it stands.
-use Rattle.std.specs.Prelude.{ℕ, List, [], ◌∷◌, Bool, Some, length, map}
+use Rattle.std.specs.Prelude.{ℕ, List, [], ◌∷◌, Bool, Option, Some, option_map, length, map}
 use Rattle.semantic_syntax.specs.declared.source_type.SourceType.{SourceType}
 use Rattle.semantic_kinds.specs.declared.role.Role.{Role}
 use Rattle.semantic_tree.specs.declared.node.Node.{Node}
@@ -9,6 +9,7 @@ use Rattle.semantic_syntax.specs.declared.scope_flags.TheConstants.ScopeFlags as
 use Rattle.semantic_syntax.specs.Sets.{meets, union}
 use Rattle.scoping.specs.Reading.{scope_of}
 use Rattle.scoping.specs.Writing.{taken_over}
+use Rattle.node_store.specs.Entered.{Entered, entering}
 use Rattle.semantic_model.specs.Cursor.{way_of}
 use Rattle.semantic_model.specs.ScopeKind.{flags_of_kind, strict_if}
 use Rattle.walk_model.specs.Standing.{Standing}
@@ -30,6 +31,8 @@ pub record Walker : Type 0 where
   -- the flags of the next reference
   pub cursor : ℕ
   pub is_ambient : Bool
+  -- the nodes that it has entered, if they are kept
+  pub nodes : Option Entered
 
 abbrev pub walker : Inside → Walker
 walker w = record {
@@ -41,6 +44,7 @@ walker w = record {
   current = w.current_scope;
   cursor = w.cursor.bits;
   is_ambient = w.is_ambient;
+  nodes = w.nodes;
 }
 
 -- the parent of the last node of a path, alone
@@ -61,6 +65,10 @@ place_in w r node = record {
   cursor = w.cursor;
   is_ambient = w.is_ambient;
 }
+
+-- the node is entered where the walk stands, if nodes are kept
+abbrev pub noting_node : Walker → Node → Walker
+noting_node w node = record w { nodes = option_map (λ e. entering e node w.current) w.nodes }
 
 -- the node is a reference where the walk stands, under its cursor
 abbrev pub referring : Walker → Node → Walker

@@ -1,7 +1,8 @@
 //! The builder, which analyses a program.
 
-ghost use Rattle.std.specs.Prelude.{◌≡◌, [], IfOk};
+ghost use Rattle.std.specs.Prelude.{◌≡◌, false, [], IfOk};
 ghost use Rattle.semantic.specs.Begun.{BelongsToNodes, IsAnalysis};
+ghost use Rattle.semantic.specs.Listed.{kept_nodes};
 
 use crate::semantic::SemanticBuilderReturn;
 use crate::walk::Walk;
@@ -9,15 +10,26 @@ use semantic_syntax::Steps;
 use semantic_tree::{Program, Role};
 use std::alloc::{AllocError, Global};
 
-/// The settings of an analysis. There are none yet: early errors, the node store and the table of classes are not
-/// there.
+/// The settings of an analysis. Early errors and the table of classes are not there yet.
 #[derive(Clone, Copy, PartialEq, Eq, Debug, Default)]
-pub struct SemanticBuilder {}
+pub struct SemanticBuilder {
+    /// Whether the nodes of the program are kept.
+    pub(crate) build_nodes: bool,
+}
 
 impl SemanticBuilder {
     /// All settings off.
-    pub fn new() -> SemanticBuilder {
-        SemanticBuilder {}
+    pub fn new() -> SemanticBuilder
+        ensures { result ≡ record { build_nodes = false } }
+    {
+        SemanticBuilder { build_nodes: false }
+    }
+
+    /// Keeps the nodes of the program, or doesn't.
+    pub fn with_build_nodes(self, yes: bool) -> SemanticBuilder
+        ensures { result ≡ record self { build_nodes = yes } }
+    {
+        SemanticBuilder { build_nodes: yes }
     }
 
     /// Analyses a program. The only error is want of memory.
@@ -29,6 +41,8 @@ impl SemanticBuilder {
         ensures program { IfOk result (λ ret. ret.semantic.program.now ≡ program.now) }
         ensures analysis { IfOk result (λ ret. IsAnalysis program.now ret.semantic.scoping ret.diagnostics) }
         ensures nodes { IfOk result (λ ret. BelongsToNodes program.now ret.semantic.tables) }
+        ensures node_list { IfOk result (λ ret. ret.semantic.nodes ≡ kept_nodes self.build_nodes program.now) }
+        ensures comments { IfOk result (λ ret. ret.semantic.comments.now ≡ program.now.comments) }
         ensures whitespace { IfOk result (λ ret. ret.semantic.irregular_whitespaces.items ≡ []) }
     {
         let mut steps = Steps::new(());
@@ -46,9 +60,11 @@ impl SemanticBuilder {
         ensures program { IfOk result (λ ret. ret.semantic.program.now ≡ program.now) }
         ensures analysis { IfOk result (λ ret. IsAnalysis program.now ret.semantic.scoping ret.diagnostics) }
         ensures nodes { IfOk result (λ ret. BelongsToNodes program.now ret.semantic.tables) }
+        ensures node_list { IfOk result (λ ret. ret.semantic.nodes ≡ kept_nodes self.build_nodes program.now) }
+        ensures comments { IfOk result (λ ret. ret.semantic.comments.now ≡ program.now.comments) }
         ensures whitespace { IfOk result (λ ret. ret.semantic.irregular_whitespaces.items ≡ []) }
     {
-        let mut walk = Walk::new(alloc, program)?;
+        let mut walk = Walk::new(alloc, program, self.build_nodes)?;
         walk.visit(program.root(), Role::Root, steps)?;
         walk.end(steps)?;
         walk.into_return(program)

@@ -17,6 +17,7 @@ pub mod instance_state;
 pub mod labels;
 pub mod names;
 pub mod namesakes;
+pub mod node_queries;
 pub mod questions;
 pub mod reaching;
 pub mod remembered;

@@ -1,6 +1,7 @@
 //! The result of an analysis.
 
 ghost use Rattle.std.specs.Prelude.{◌≡◌, ◌==◌, ◌<◌, length, map, nat_eq, not};
+ghost use Rattle.std.specs.Borrow.{sem};
 ghost use Rattle.std.specs.Map.{lookup};
 ghost use Rattle.std.specs.Option.{option_map, is_some};
 ghost use Rattle.scoping.specs.Reading.{reference_of, symbol_of, uses_of};
@@ -8,9 +9,11 @@ ghost use Rattle.semantic_tree.specs.Children.{node_count};
 ghost use Rattle.semantic_tree.specs.CommentIter.{comments_left, shown_comment};
 ghost use Rattle.semantic_tree.specs.Comments.{comments_within, comment_at};
 ghost use Rattle.semantic.specs.FreeReference.{is_free_at};
+ghost use Rattle.semantic.specs.Lending.{LendsScoping};
 
 use crate::global_reference::IsGlobalReference;
 use crate::stats::Stats;
+use node_store::AstNodes;
 use scoping::{NodeTables, ReferencesIter, Scoping};
 use semantic_diagnostics::Diagnostics;
 use semantic_syntax::{NodeId, ReferenceId, ScopeId, SourceType, Span, SymbolId};
@@ -22,6 +25,8 @@ pub struct Semantic<'a> {
     pub(crate) program: &'a Program,
     pub(crate) scoping: Scoping,
     pub(crate) tables: NodeTables,
+    pub(crate) nodes: AstNodes<'a>,
+    pub(crate) comments: &'a [Comment],
     pub(crate) irregular_whitespaces: Vec<Span>,
 }
 
@@ -41,7 +46,10 @@ impl<'a> Semantic<'a> {
     }
 
     /// Scopes, symbols, bindings and references, to be changed.
-    pub fn scoping_mut(&mut self) -> &mut Scoping {
+    pub fn scoping_mut(&mut self) -> &mut Scoping
+        ensures* writes_back { sem 𝓛 (LendsScoping self.entry result) }
+        ensures value { result.now ≡ self.old.scoping }
+    {
         &mut self.scoping
     }
 
@@ -71,11 +79,11 @@ impl<'a> Semantic<'a> {
         self.program.source_type()
     }
 
-    /// The comments of the program, in order.
+    /// The comments of the program, in order; none once they are cleared.
     pub fn comments(&self) -> &'a [Comment]
-        ensures { result.now ≡ self.now.program.now.comments }
+        ensures { result.now ≡ self.now.comments.now }
     {
-        self.program.comments()
+        self.comments
     }
 
     /// The symbol that a binding identifier or an enum member declares, if any.
@@ -100,28 +108,28 @@ impl<'a> Semantic<'a> {
     }
     /// The comments that start at one byte or after it, and before another, in order.
     pub fn comments_range(&self, start: u32, end: u32) -> CommentsRange<'_>
-        ensures { comments_left result ≡ comments_within start end self.now.program.now.comments }
+        ensures { comments_left result ≡ comments_within start end self.now.comments.now }
     {
         comment::comments_range(self.comments(), start, end)
     }
 
     /// Whether a comment starts in the span.
     pub fn has_comments_between(&self, span: Span) -> bool
-        ensures { result ≡ not (length (comments_within span.start span.end self.now.program.now.comments) == 0) }
+        ensures { result ≡ not (length (comments_within span.start span.end self.now.comments.now) == 0) }
     {
         comment::has_comments_between(self.comments(), span)
     }
 
     /// Whether the byte is in a comment.
     pub fn is_inside_comment(&self, pos: u32) -> bool
-        ensures { result ≡ is_some (comment_at pos self.now.program.now.comments) }
+        ensures { result ≡ is_some (comment_at pos self.now.comments.now) }
     {
         comment::is_inside_comment(self.comments(), pos)
     }
 
     /// The comment that the byte is in, if any.
     pub fn get_comment_at(&self, pos: u32) -> Option<&Comment>
-        ensures { option_map shown_comment result ≡ comment_at pos self.now.program.now.comments }
+        ensures { option_map shown_comment result ≡ comment_at pos self.now.comments.now }
     {
         comment::get_comment_at(self.comments(), pos)
     }

@@ -75,6 +75,66 @@ fn a_use_of_built_tables_is_deleted(rt: HostRuntime) -> Result<(), Fail> {
     Ok(())
 }
 
+/// `Promise.resolve();`
+fn promise(alloc: Global) -> Result<Node, AllocError> {
+    let member = leaf(alloc, AstType::StaticMemberExpression, "")?;
+    let object = leaf(alloc, AstType::IdentifierReference, "Promise")?;
+    let member = with(member, Role::Object, object)?;
+    let property = leaf(alloc, AstType::IdentifierName, "resolve")?;
+    let member = with(member, Role::Property, property)?;
+    let call = with(
+        leaf(alloc, AstType::CallExpression, "")?,
+        Role::Callee,
+        member,
+    )?;
+    let statement = leaf(alloc, AstType::ExpressionStatement, "")?;
+    with(statement, Role::Expression, call)
+}
+
+/// `Promise`, as parameters.
+fn parameters(alloc: Global) -> Result<Node, AllocError> {
+    let name = leaf(alloc, AstType::BindingIdentifier, "Promise")?;
+    let parameter = with(
+        leaf(alloc, AstType::FormalParameter, "")?,
+        Role::Pattern,
+        name,
+    )?;
+    let parameters = leaf(alloc, AstType::FormalParameters, "formal")?;
+    with(parameters, Role::Items, parameter)
+}
+
+/// `function f(Promise) { Promise.resolve(); }`
+fn hiding(alloc: Global) -> Result<Node, AllocError> {
+    let function = leaf(alloc, AstType::Function, "declaration")?;
+    let name = leaf(alloc, AstType::BindingIdentifier, "f")?;
+    let function = with(function, Role::Id, name)?;
+    let function = with(function, Role::Params, parameters(alloc)?)?;
+    let body = leaf(alloc, AstType::FunctionBody, "")?;
+    with(
+        function,
+        Role::Body,
+        with(body, Role::Body, promise(alloc)?)?,
+    )
+}
+
+#[test]
+fn a_parameter_hides_a_global_variable(rt: HostRuntime) -> Result<(), Fail> {
+    let alloc = rt.alloc();
+    let root = leaf(alloc, AstType::Program, "")?;
+    let root = with(root, Role::Body, promise(alloc)?)?;
+    let program = program_of(alloc, Lang::Js, with(root, Role::Body, hiding(alloc)?)?)?;
+    let builder = SemanticBuilder::new().with_build_nodes(true);
+    let semantic = builder.build(alloc, &program)?.semantic;
+    let nodes = semantic.nodes();
+    let (free, bound) = (NodeId::new(4), NodeId::new(15));
+    assert_eq!(rt; nodes.len(), 17);
+    assert!(rt; semantic.is_unresolved_reference(free));
+    assert!(rt; semantic.is_reference_to_global_variable(nodes.kind(free)));
+    assert!(rt; !semantic.is_unresolved_reference(bound));
+    assert!(rt; !semantic.is_reference_to_global_variable(nodes.kind(bound)));
+    Ok(())
+}
+
 /// `namespace N {}`
 fn namespace(alloc: Global) -> Result<Node, AllocError> {
     let namespace = leaf(alloc, AstType::TSNamespaceDeclaration, "")?;

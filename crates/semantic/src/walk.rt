@@ -1,6 +1,6 @@
 //! The walker's state, and what each step of the walk does to it.
 
-ghost use Rattle.std.specs.Prelude.{◌≡◌, ◌==◌, ◌&&◌, ◌<◌, ◌≤◌, ◌-◌, List, [], ◌∷◌, ◌++◌, true, false, codes, cond, length, map, take, drop, IfSome, IfOk, OnOk};
+ghost use Rattle.std.specs.Prelude.{◌≡◌, ◌==◌, ◌&&◌, ◌<◌, ◌≤◌, ◌-◌, List, [], ◌∷◌, ◌++◌, true, false, codes, cond, length, map, option_map, take, drop, IfSome, IfOk, OnOk};
 ghost use Rattle.std.specs.Str.{chars};
 ghost use Rattle.semantic_kinds.specs.declared.kind.AstType.TheVariants.{IdentifierReference as identifier_reference, CatchClause as catch_clause};
 ghost use Rattle.scoping.specs.Reading.{bindings_of, scope_of};
@@ -21,13 +21,15 @@ ghost use Rattle.walk_model.specs.Walks.{after};
 ghost use Rattle.walk_model.specs.Opens.{add_eval, close_scope};
 ghost use Rattle.semantic.specs.Settled.{settled_from};
 ghost use Rattle.semantic.specs.Seen.{path_of};
-ghost use Rattle.semantic.specs.Walker.{parent_in, place_in, referring, opening_in, taking_over};
+ghost use Rattle.semantic.specs.Walker.{parent_in, place_in, noting_node, referring, opening_in, taking_over};
+ghost use Rattle.semantic.specs.Listed.{kept_from, list_kept};
+ghost use Rattle.node_store.specs.Entered.{leaving};
 ghost use Rattle.semantic.specs.Begun.{begun, AreNamesOf};
 ghost use Rattle.semantic.specs.Conflicting.{told};
 ghost use Rattle.semantic.specs.Growth.{Grows, Goes};
 ghost use Rattle.semantic_model.specs.Declaration.{Declaration};
 ghost use Rattle.semantic.specs.Binds.{block_target, is_bound_inside, acting};
-ghost use Rattle.semantic.specs.AtPlace.{ComesTo, IsWithin, IsShown, entered};
+ghost use Rattle.semantic.specs.AtPlace.{ComesTo, IsWithin, IsShown, entered, kept_at};
 
 use crate::binder::Binder;
 use crate::cursor;
@@ -38,6 +40,7 @@ use crate::route::Route;
 use crate::rows::is_statement;
 use crate::scope_kind::{flags_of, root_flags};
 use crate::semantic::{Semantic, SemanticBuilderReturn};
+use node_store::{AstNodes, EnteredNodes};
 use semantic_syntax::{Ident, ReferenceFlags, ScopeFlags, ScopeId, SourceType, Steps};
 use semantic_tree::{AstKind, AstType, Mark, Program, Role};
 use std::alloc::{AllocError, Global};
@@ -60,17 +63,20 @@ pub struct Walk<'a> {
     pub(crate) cursor: ReferenceFlags,
     /// Whether the code where the walk stands is ambient.
     pub(crate) is_ambient: bool,
+    /// The nodes that the walk has entered, if they are kept.
+    pub(crate) nodes: Option<EnteredNodes<'a>>,
 }
 
 impl<'a> Model for Walk<'a> {
     ghost use Rattle.std.specs.Prelude.{◌<◌, length};
     ghost use Rattle.std.specs.Coded.{codes};
     ghost use Rattle.semantic_tree.specs.contracts.node.Node as node;
+    ghost use Rattle.semantic_syntax.specs.contracts.node_flags.NodeFlags as eight_flags;
     ghost use Rattle.semantic.specs.Walker.{Walker, walker};
 
     ghost Value = { Walker };
 
-    ghost coded = { Prim.hlevel (codes, node.the_row.coded) };
+    ghost coded = { Prim.hlevel (codes, node.the_row.coded, eight_flags.the_row.coded) };
 
     ghost view = { walker };
 
@@ -117,11 +123,36 @@ fn is_direct_eval(kind: AstKind<'_>) -> bool
     kind.ty() == AstType::CallExpression && !kind.has_mark(Mark::Optional) && calls_eval(kind)
 }
 
+/// What keeps the nodes that a walk enters, if they are to be kept.
+fn keeping<'a>(alloc: Global, keeps: bool) -> Option<EnteredNodes<'a>>
+    ensures { result ≡ kept_from keeps }
+{
+    if keeps {
+        Some(EnteredNodes::new(alloc))
+    } else {
+        None
+    }
+}
+
+/// The nodes that were kept; none where nothing keeps them.
+fn nodes_kept<'a>(alloc: Global, kept: Option<EnteredNodes<'a>>) -> AstNodes<'a>
+    ensures { result ≡ list_kept kept.entry }
+{
+    match kept {
+        Some(nodes) => nodes.into_nodes(),
+        None => AstNodes::new(alloc),
+    }
+}
+
 #[tactic(auto, using(crate::proofs::Waiting::going))]
 impl<'a> Walk<'a> {
-    /// The state at the root, whose scope is open.
-    pub(crate) fn new(alloc: Global, program: &'a Program) -> Result<Walk<'a>, AllocError>
-        ensures begins { IfOk result (λ w. w ≡ begun program.now w.namesakes) }
+    /// The state at the root, whose scope is open. The nodes that are entered are kept, or not.
+    pub(crate) fn new(
+        alloc: Global,
+        program: &'a Program,
+        keeps: bool,
+    ) -> Result<Walk<'a>, AllocError>
+        ensures begins { IfOk result (λ w. w ≡ begun program.now w.namesakes keeps) }
         ensures names { IfOk result (λ w. AreNamesOf program.now w.namesakes) }
     {
         let source_type = program.source_type();
@@ -139,6 +170,7 @@ impl<'a> Walk<'a> {
             current_scope: scope,
             cursor: ReferenceFlags::empty(),
             is_ambient: source_type.is_typescript_definition(),
+            nodes: keeping(alloc, keeps),
         })
     }
 
@@ -159,12 +191,35 @@ impl<'a> Walk<'a> {
         self.declared.scoping().scope_flags(self.current_scope)
     }
 
+    /// Keeps the node, if nodes are kept.
+    fn note_node(&mut self, kind: AstKind<'a>) -> Result<(), AllocError>
+        ensures made { OnOk result (self.new ≡ noting_node self.old kind.entry.node.now) }
+        ensures goes { OnOk result (Goes self.old.made self.new.made) }
+    {
+        match &mut self.nodes {
+            Some(nodes) => nodes.enter(kind, self.current_scope),
+            None => Ok(()),
+        }
+    }
+
+    /// Goes back to the parent of the node, if nodes are kept.
+    fn leave_node(&mut self)
+        ensures made { self.new ≡ record self.old { nodes = option_map leaving self.old.nodes } }
+        ensures goes { Goes self.old.made self.new.made }
+    {
+        match &mut self.nodes {
+            Some(nodes) => nodes.leave(),
+            None => {}
+        }
+    }
+
     /// Steps to a node.
     #[tactic(auto, using(crate::proofs::Waiting::going, crate::proofs::Growing::growing))]
     fn step_to(&mut self, kind: AstKind<'a>) -> Result<(), AllocError>
-        ensures made { OnOk result (self.new ≡ record self.old { path = self.old.path ++ kind.entry.node.now ∷ []; cursor = on_entering kind.entry.node.now.kind self.old.cursor }) }
+        ensures made { OnOk result (self.new ≡ record (noting_node self.old kind.entry.node.now) { path = self.old.path ++ kind.entry.node.now ∷ []; cursor = on_entering kind.entry.node.now.kind self.old.cursor }) }
         ensures goes { OnOk result (Goes self.old.made self.new.made) }
     {
+        self.note_node(kind)?;
         self.path.push(kind)?;
         self.cursor = cursor::on_entering(kind.ty(), self.cursor);
         Ok(())
@@ -209,7 +264,7 @@ impl<'a> Walk<'a> {
     /// Enters a node: what it declares outside of its own scope is declared, and a reference is noted.
     pub(crate) fn enter(&mut self, kind: AstKind<'a>) -> Result<(), AllocError>
         ensures walks { (ds : List Declaration) (p : Place) → p.node ≡ kind.entry.node.now → ComesTo self.old p → IsShown ds self.old p →
-            OnOk result (self.new ≡ record self.old { made = entered ds self.old p; path = self.old.path ++ p.node ∷ []; cursor = on_entering p.node.kind p.cursor }) }
+            OnOk result (self.new ≡ record self.old { made = entered ds self.old p; path = self.old.path ++ p.node ∷ []; cursor = on_entering p.node.kind p.cursor; nodes = kept_at self.old p }) }
         ensures goes { OnOk result (Goes self.old.made self.new.made) }
     {
         self.step_to(kind)?;
@@ -327,9 +382,10 @@ impl<'a> Walk<'a> {
 
     /// Leaves the node that is visited.
     pub(crate) fn leave(&mut self, kind: AstKind<'a>)
-        ensures made { self.new ≡ record self.old { path = take (length self.old.path - 1) self.old.path; cursor = on_leaving kind.entry.node.now.kind self.old.cursor } }
+        ensures made { self.new ≡ record self.old { path = take (length self.old.path - 1) self.old.path; cursor = on_leaving kind.entry.node.now.kind self.old.cursor; nodes = option_map leaving self.old.nodes } }
         ensures goes { Goes self.old.made self.new.made }
     {
+        self.leave_node();
         self.cursor = cursor::on_leaving(kind.ty(), self.cursor);
         let _left = self.path.pop();
     }
@@ -373,6 +429,8 @@ impl<'a> Walk<'a> {
         ensures scoping { IfOk result (λ ret. ret.semantic.scoping ≡ self.entry.made.tables) }
         ensures tables { IfOk result (λ ret. ret.semantic.tables ≡ self.entry.made.nodes) }
         ensures diagnostics { IfOk result (λ ret. ret.diagnostics ≡ map told self.entry.made.conflicts) }
+        ensures node_list { IfOk result (λ ret. ret.semantic.nodes ≡ list_kept self.entry.nodes) }
+        ensures comments { IfOk result (λ ret. ret.semantic.comments.now ≡ program.now.comments) }
         ensures whitespace { IfOk result (λ ret. ret.semantic.irregular_whitespaces.items ≡ []) }
     {
         let declared = self.declared;
@@ -382,6 +440,8 @@ impl<'a> Walk<'a> {
                 program,
                 scoping: declared.scoping,
                 tables: declared.tables,
+                nodes: nodes_kept(declared.alloc, self.nodes),
+                comments: program.comments(),
                 irregular_whitespaces: Vec::new(declared.alloc),
             },
             diagnostics,

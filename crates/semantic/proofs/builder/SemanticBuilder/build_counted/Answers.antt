@@ -15,8 +15,10 @@ use Rattle.semantic_diagnostics.specs.declared.diagnostic.Diagnostic.{Diagnostic
 use Rattle.walk_model.specs.Walks.{walked}
 use Rattle.walk_model.proofs.RootSteps.{root_scope}
 use Rattle.semantic.specs.Begun.{BelongsToNodes, FitsProgram, IsAnalysis}
+use Rattle.semantic.specs.AtPlace.{walked_over}
 use Rattle.semantic.specs.Conflicting.{told}
-use Rattle.semantic.proofs.Beginning.{walk_comes, walk_ends, root_tables, root_conflicts, root_nodes, of_answer, of_both}
+use Rattle.semantic.specs.Listed.{list_kept, kept_nodes}
+use Rattle.semantic.proofs.Beginning.{walk_comes, walk_ends, walk_lists, root_tables, root_conflicts, root_nodes, of_answer, of_both}
 use Rattle.semantic.proofs.builder.SemanticBuilder.build_counted.Given as given
 use Rattle.semantic.proofs.builder.SemanticBuilder.build_counted.Goals as goal
 
@@ -27,13 +29,19 @@ module _ (g : given.Over) (c : goal.After-into_return g) where
   fits : first_fault program ≡ None
   fits = IsShaped-no_fault program c.root.ensures.shaped
 
+  -- the walk goes over the whole program
+  over : c.visit.new.self ≡ walked_over (written_declarations (steps program)) c.in_ok-walk.walk (root_place program) (Some (root_scope (root_place program))) 1
+  over =
+      c.in_ok-visit.ensures.walks (written_declarations (steps program)) (root_place program) (Some (root_scope (root_place program))) 1 (sym c.root.ensures.root) refl
+      (walk_comes program fits c.root.ensures.numbered c.args.self.build_nodes c.in_ok-walk.walk c.in_ok-walk.ensures.begins c.in_ok-walk.ensures.names)
+
   -- what the walk has made is what its definition says
   whole : c.end.new.self.made ≡ walked program
-  whole =
-      walk_ends program fits c.in_ok-walk.walk c.visit.new.self c.end.new.self c.in_ok-walk.ensures.begins
-      (c.in_ok-visit.ensures.walks (written_declarations (steps program)) (root_place program) (Some (root_scope (root_place program))) 1 (sym c.root.ensures.root) refl
-      (walk_comes program fits c.root.ensures.numbered c.in_ok-walk.walk c.in_ok-walk.ensures.begins c.in_ok-walk.ensures.names))
-      c.in_ok-end.ensures
+  whole = walk_ends program fits c.args.self.build_nodes c.in_ok-walk.walk c.visit.new.self c.end.new.self c.in_ok-walk.ensures.begins over c.in_ok-end.ensures
+
+  -- and it has kept the program's nodes, if it was to
+  listed : list_kept c.end.new.self.nodes ≡ kept_nodes c.args.self.build_nodes program
+  listed = walk_lists program fits c.args.self.build_nodes c.in_ok-walk.walk c.visit.new.self c.end.new.self c.in_ok-walk.ensures.begins over c.in_ok-end.ensures
 
   tables : IfOk c.into_return.result (λ ret. ret.semantic.scoping ≡ tables_of program)
   tables = subst (λ (t : Tables). IfOk c.into_return.result (λ ret. ret.semantic.scoping ≡ t)) (root_tables program fits c.end.new.self.made whole) c.into_return.ensures.scoping
@@ -59,3 +67,8 @@ pub returns-clause-nodes : goal.returns-clause-nodes
 returns-clause-nodes g c =
     of_answer c.into_return.result (λ ret. ret.semantic.tables ≡ c.end.new.self.made.nodes) (λ ret. BelongsToNodes c.args.program.now ret.semantic.tables)
     (λ ret e. subst (BelongsToNodes c.args.program.now) (sym e) (root_nodes c.args.program.now (fits g c) c.root.ensures.numbered c.end.new.self.made (whole g c))) c.into_return.ensures.tables
+
+pub returns-clause-node_list : goal.returns-clause-node_list
+returns-clause-node_list g c =
+    of_answer c.into_return.result (λ ret. ret.semantic.nodes ≡ list_kept c.end.new.self.nodes) (λ ret. ret.semantic.nodes ≡ kept_nodes c.args.self.build_nodes c.args.program.now)
+    (λ ret e. e ∙ listed g c) c.into_return.ensures.node_list

@@ -1,4 +1,4 @@
-use Rattle.std.proofs.Common.{◌≡◌, ℕ, List, [], ◌∷◌, Option, None, refl, ap, sym, subst, ◌∙◌, length, take, ◌-◌, arith}
+use Rattle.std.proofs.Common.{◌≡◌, ℕ, List, [], ◌∷◌, Option, None, option_map, refl, ap, sym, subst, ◌∙◌, length, take, ◌-◌, arith}
 use Rattle.semantic_kinds.specs.declared.role.Role.{Role}
 use Rattle.semantic_kinds.specs.declared.kind.AstType.{AstType}
 use Rattle.semantic_tree.specs.Forest.{Forest, nothing, count}
@@ -10,6 +10,7 @@ use Rattle.semantic_model.specs.Step.{scope_at, next_at, ending_after}
 use Rattle.walk_model.specs.Standing.{Standing}
 use Rattle.walk_model.specs.Waits.{HoldsAt, start_at}
 use Rattle.walk_model.specs.Walks.{after_all}
+use Rattle.node_store.specs.Entered.{leaving}
 use Rattle.semantic.specs.Walker.{Walker}
 use Rattle.semantic.specs.AtPlace.{IsComing, walked_over}
 use Rattle.semantic.specs.declared.visit.Turn.{Turn}
@@ -58,7 +59,7 @@ loop-child_role-preserved g t c =
           let start : ℕ = start_at p child.0 h.scope h.start w.made in
           let place : Place = place_of p h.scope h.next h.cursor child in
           let came = c.in_ok-begin_child.ensures.comes ds p h.scope h.next h.cursor h.start rest node role h.between in
-          let comes : IsComing ds v place None next = comes_to_child ds p h.scope h.next h.cursor h.start child rest w v c.loop-child_role.turn h.between came.0 in
+          let comes : IsComing ds v place None next = comes_to_child ds p h.scope h.next h.cursor h.start child rest w v c.loop-child_role.turn h.between h.kept came.0 in
           let went : past ≡ walked_over ds v place None next = c.in_ok-visit.ensures.walks ds place None next refl refl comes in
           let holds : HoldsAt past.made scope start = holds_past ds p h.scope h.next h.cursor h.start child rest w v past c.loop-child_role.turn h.between came.0 went in
           let made : Standing = after_all ds past.made (ending_after p child.0 scope (forest_of rest)) in
@@ -80,7 +81,7 @@ returns-clause-walks g t c = λ ds p own n node role coming.
     let last : Walker = c.open_last.new.self in
     let h : Rests ds c.args.self.now p own n w c.loop-child_role.turn nothing =
     subst (λ (f : Forest). Rests ds c.args.self.now p own n w c.loop-child_role.turn f) (no_children c.loop-child_role.left.now c.in_default.ensures.cases) (c.loop-child_role.invariant.rests ds p own n node role coming) in
-    let left : c.leave.new.self ≡ record last { path = take (length last.path - 1) last.path; cursor = on_leaving p.node.kind last.cursor } =
-    ◌∙◌ {b = record last { path = take (length last.path - 1) last.path; cursor = on_leaving c.args.kind.node.now.kind last.cursor }} c.leave.ensures.made
-    (ap (λ (x : Node). record last { path = take (length last.path - 1) last.path; cursor = on_leaving x.kind last.cursor }) (sym node)) in
+    let left : c.leave.new.self ≡ record last { path = take (length last.path - 1) last.path; cursor = on_leaving p.node.kind last.cursor; nodes = option_map leaving last.nodes } =
+    ◌∙◌ {b = record last { path = take (length last.path - 1) last.path; cursor = on_leaving c.args.kind.node.now.kind last.cursor; nodes = option_map leaving last.nodes }} c.leave.ensures.made
+    (ap (λ (x : Node). record last { path = take (length last.path - 1) last.path; cursor = on_leaving x.kind last.cursor; nodes = option_map leaving last.nodes }) (sym node)) in
     walked ds c.args.self.now p own n w last c.leave.new.self c.loop-child_role.turn coming h (c.in_ok-open_last.ensures.ends ds p h.scope h.next h.cursor h.start node role h.between) left

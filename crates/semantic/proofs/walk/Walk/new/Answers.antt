@@ -21,5 +21,5 @@ returns-clause-begins c =
     let made : c.open_root.new.self ≡ open_scope nothing_made (root_place program) (root_scope (root_place program)) =
     made_first program is_program c.new-declared.result c.open_root.new.self c.root-root.result.node.now c.source_type-source_type.result c.root_flags.result.bits c.new-declared.ensures c.root-root.ensures.root
     c.source_type-source_type.ensures c.root_flags.ensures c.in_ok-scope.ensures.made in
-    begins program _ made c.source_type-source_type.ensures c.node_count.ensures (ap (map shown) c.new.ensures.items) (c.in_ok-scope.ensures.number ∙ ap (λ (d : Standing). length d.tables.scopes) c.new-declared.ensures) c.empty.ensures
-    (c.is_typescript_definition.ensures ∙ ap is_typescript_definition c.source_type-source_type.ensures)
+    begins program _ c.args.keeps made c.source_type-source_type.ensures c.node_count.ensures (ap (map shown) c.new.ensures.items) (c.in_ok-scope.ensures.number ∙ ap (λ (d : Standing). length d.tables.scopes) c.new-declared.ensures) c.empty.ensures
+    (c.is_typescript_definition.ensures ∙ ap is_typescript_definition c.source_type-source_type.ensures) c.keeping.ensures
