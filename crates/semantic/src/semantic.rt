@@ -4,6 +4,7 @@ ghost use Rattle.std.specs.Prelude.{◌≡◌, ◌==◌, ◌<◌, length, map, n
 ghost use Rattle.std.specs.Borrow.{sem};
 ghost use Rattle.std.specs.Map.{lookup};
 ghost use Rattle.std.specs.Option.{option_map, is_some};
+ghost use Rattle.std.specs.Str.{chars};
 ghost use Rattle.scoping.specs.Reading.{reference_of, symbol_of, uses_of};
 ghost use Rattle.semantic_tree.specs.Children.{node_count};
 ghost use Rattle.semantic_tree.specs.CommentIter.{comments_left, shown_comment};
@@ -68,7 +69,9 @@ impl<'a> Semantic<'a> {
     }
 
     /// The source of the program.
-    pub fn source_text(&self) -> &'a str {
+    pub fn source_text(&self) -> &'a str
+        ensures { chars result.now ≡ self.now.program.now.source }
+    {
         self.program.source_text()
     }
 
@@ -106,6 +109,7 @@ impl<'a> Semantic<'a> {
     {
         self.tables.reference_of(node)
     }
+
     /// The comments that start at one byte or after it, and before another, in order.
     pub fn comments_range(&self, start: u32, end: u32) -> CommentsRange<'_>
         ensures { comments_left result ≡ comments_within start end self.now.comments.now }
