@@ -1,5 +1,5 @@
 -- The nodes that a walk has entered are those of the steps that it has done.
-use Rattle.std.proofs.Common.{◌≡◌, ℕ, ◌+◌, ◌<◌, List, [], ◌∷◌, ◌++◌, Bool, true, false, ◌&&◌, not, cond, Option, Some, None, IfSome, option_map, map, length, append_assoc, append-nil, length-append, slice_index, refl, sym, ap, ◌∙◌, arith}
+use Rattle.std.proofs.Common.{◌≡◌, ℕ, ◌+◌, List, [], ◌∷◌, ◌++◌, Bool, true, false, ◌&&◌, not, cond, Option, Some, None, IfSome, option_map, map, length, append_assoc, append-nil, length-append, slice_index, refl, sym, ap, ◌∙◌, arith}
 use Rattle.std.proofs.lemmas.List.{map-append, length-map, get_or_push, get_or_append_left}
 use Rattle.std.proofs.lemmas.Option.{none-some, same_Some}
 use Rattle.semantic_kinds.specs.declared.kind.AstType.{AstType}
@@ -18,7 +18,6 @@ use Rattle.semantic_model.specs.Step.{Step, entering, opening, header_ending, cl
 use Rattle.node_store.specs.Entered.{Entered, no_flags}
 use Rattle.node_store.specs.Entered as store
 use Rattle.node_store.specs.NodeList.{NodeList, SeenNode}
-use Rattle.node_store.specs.Path.{current_id_in}
 use Rattle.semantic.specs.Listed.{entered_places, seen_at, parent_at, listed, all_listed, entered_at, IsNext, IsAmong}
 
 -- steps one after another enter their places one after another
