@@ -5,3 +5,4 @@ pub mod Utf8
 pub mod NamesOnce
 pub mod Meanings
 pub mod NamesFound
+pub mod Decimals

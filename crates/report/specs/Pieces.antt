@@ -1,5 +1,5 @@
 -- The pieces of which the lines of a report are made.
-use Rattle.std.specs.Prelude.{ℕ, ◌*◌, List, [], ◌∷◌, ◌++◌, Bool, Option, Some, None, if◌then◌else◌, ◌==◌, ◌&&◌, not, nat_le, codes, decimal}
+use Rattle.std.specs.Prelude.{ℕ, ◌+◌, ◌*◌, ◌/◌, ◌%◌, List, [], ◌∷◌, ◌++◌, Bool, Option, Some, None, if◌then◌else◌, ◌==◌, ◌&&◌, not, nat_le, codes, decimal}
 use Rattle.std.specs.List.{concat, flat_map}
 use Rattle.std.specs.Int.RustNames.{bit_and}
 use Rattle.serde_json.specs.Data.{string}
@@ -28,6 +28,10 @@ quoted_or_dash (Some text) = quoted text
 abbrev pub plain_or_dash : Option (List ℕ) → List ℕ
 plain_or_dash None = codes "-"
 plain_or_dash (Some text) = text
+
+-- both digits of a number below a hundred
+abbrev pub two_digits : ℕ → List ℕ
+two_digits number = (48 + number / 10) ∷ (48 + number % 10) ∷ []
 
 -- a number, or a dash
 abbrev pub number_or_dash : Option ℕ → List ℕ
