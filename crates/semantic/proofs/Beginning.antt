@@ -15,7 +15,7 @@ use Rattle.semantic_tree.specs.Forest.{Forest, nothing, tree}
 use Rattle.semantic_tree.specs.Faults.{first_fault}
 use Rattle.semantic_tree.specs.Tree.{Tree, IsNumbered}
 use Rattle.semantic_tree.proofs.Preorder.{root_in_preorder}
-use Rattle.semantic_model.specs.Place.{Place}
+use Rattle.semantic_model.specs.Place.{Place, at}
 use Rattle.semantic_model.specs.Cursor.{on_entering}
 use Rattle.semantic_model.specs.Declaration.{Declaration}
 use Rattle.semantic_model.specs.Event.{written_declarations}
@@ -39,7 +39,8 @@ use Rattle.walk_model.proofs.WalkTurns.{root_between}
 use Rattle.semantic.specs.AtPlace.{IsComing, entered, walked_over}
 use Rattle.semantic.specs.Begun.{begun, conflicts_of, AreNamesOf, BelongsToNodes}
 use Rattle.node_store.specs.NodeList.{no_nodes}
-use Rattle.semantic.specs.Listed.{IsNext, entered_places, listed, all_listed, kept_from, list_kept, kept_nodes}
+use Rattle.semantic.specs.Listed.{IsNext, listed, all_listed, kept_from, list_kept, kept_nodes}
+use Rattle.semantic_model.specs.NodeTable.{NodeEntry, nodes as entered_nodes}
 use Rattle.semantic.specs.Walker.{Walker}
 use Rattle.semantic.proofs.Listing.{places_within, last_without}
 
@@ -75,7 +76,7 @@ between p cursor f v w e none h =
 -- the root is to be entered first
 root_next : (program : Tree) → IsNumbered program.root → (keeps : Bool) → IfSome (kept_from keeps) (IsNext (root_place program))
 root_next program numbered false = tt
-root_next program numbered true = record { next = ap (λ (x : Node). x.node_id) numbered; above = refl; order = root_in_preorder program.root numbered; parents = refl }
+root_next program numbered true = record { next = ap (λ (x : Node). x.node_id) numbered; above = ap (λ (id : ℕ). (record { node = program.root; scope = at (root_place program); parent = id }) ∷ []) (sym (ap (λ (x : Node). x.node_id) numbered)); order = root_in_preorder program.root numbered; parents = refl }
 
 -- the walk comes to the root
 root_comes_at : (ds : List Declaration) (program : Tree) (ws : List Written) (keeps : Bool) → program.root.kind ≡ kind.Program → IsNumbered program.root
@@ -155,9 +156,9 @@ walk_ends program fits keeps w v u first over last =
     ∙ ap (λ (x : Walker). (walked_over (written_declarations (steps program)) x (root_place program) (Some (root_scope (root_place program))) 1).made) first)
 
 -- the root's scope may be open before, or not: the same nodes are entered
-root_places : (p : Place) (cursor : ℕ) (f : Forest) → p.node.kind ≡ kind.Program → entered_places (steps_below p None 0 cursor f) ≡ entered_places (steps_below p (Some (root_scope p)) 1 cursor f)
+root_places : (p : Place) (cursor : ℕ) (f : Forest) → p.node.kind ≡ kind.Program → entered_nodes (steps_below p None 0 cursor f) ≡ entered_nodes (steps_below p (Some (root_scope p)) 1 cursor f)
 root_places p cursor nothing e = last_without p None 0
-root_places p cursor (tree r k span text marks below id after) e = ap entered_places opens_first
+root_places p cursor (tree r k span text marks below id after) e = ap entered_nodes opens_first
   where
     opens_first : steps_below p None 0 cursor (tree r k span text marks below id after) ≡ opening p (root_scope p) ∷ steps_below p (Some (root_scope p)) 1 cursor (tree r k span text marks below id after)
     opens_first = rw e refl
@@ -170,7 +171,7 @@ root_listed program e false = refl
 root_listed program e true =
     let p : Place = root_place program in
     ap (listed no_nodes)
-    (ap (λ (ps : List Place). p ∷ ps) (sym (root_places p (on_entering program.root.kind 0) program.root.children e))
+    (ap (λ (ns : List NodeEntry). entered_nodes (entering p ∷ []) ++ ns) (sym (root_places p (on_entering program.root.kind 0) program.root.children e))
     ∙ sym (places_within p p (steps_below p None 0 (on_entering program.root.kind 0) program.root.children)))
 
 -- so these are kept in the end, if nodes are

@@ -1,5 +1,5 @@
 -- The nodes that a walk has entered are those of the steps that it has done.
-use Rattle.std.proofs.Common.{◌≡◌, ℕ, ◌+◌, List, [], ◌∷◌, ◌++◌, Bool, true, false, ◌&&◌, not, cond, Option, Some, None, IfSome, option_map, map, length, append_assoc, append-nil, length-append, slice_index, refl, sym, ap, ◌∙◌, arith}
+use Rattle.std.proofs.Common.{◌≡◌, ℕ, ◌+◌, List, [], ◌∷◌, ◌++◌, Bool, true, false, ◌&&◌, not, cond, Option, Some, None, IfSome, option_map, map, length, append_assoc, append-nil, length-append, slice_index, refl, sym, ap, subst, ◌∙◌, arith}
 use Rattle.std.proofs.lemmas.List.{map-append, length-map, get_or_push, get_or_append_left}
 use Rattle.std.proofs.lemmas.Option.{none-some, same_Some}
 use Rattle.semantic_kinds.specs.declared.kind.AstType.{AstType}
@@ -18,58 +18,59 @@ use Rattle.semantic_model.specs.Step.{Step, entering, opening, header_ending, cl
 use Rattle.node_store.specs.Entered.{Entered, no_flags}
 use Rattle.node_store.specs.Entered as store
 use Rattle.node_store.specs.NodeList.{NodeList, SeenNode}
-use Rattle.semantic.specs.Listed.{entered_places, seen_at, parent_at, listed, all_listed, entered_at, IsNext, IsAmong}
+use Rattle.semantic_model.specs.NodeTable.{NodeEntry, nodes as entered_nodes}
+use Rattle.semantic.specs.Listed.{seen_of, listed, all_listed, entered_at, IsBelow, IsNext, IsAmong}
 
 -- steps one after another enter their places one after another
-pub places-append : (xs ys : List Step) → entered_places (xs ++ ys) ≡ entered_places xs ++ entered_places ys
+pub places-append : (xs ys : List Step) → entered_nodes (xs ++ ys) ≡ entered_nodes xs ++ entered_nodes ys
 places-append [] ys = refl
-places-append (entering p ∷ xs) ys = ap (λ (ps : List Place). p ∷ ps) (places-append xs ys)
+places-append (entering p ∷ xs) ys = ap (λ (ns : List NodeEntry). entered_nodes (entering p ∷ []) ++ ns) (places-append xs ys)
 places-append (opening p s ∷ xs) ys = places-append xs ys
 places-append (header_ending p s ∷ xs) ys = places-append xs ys
 places-append (closing p s ∷ xs) ys = places-append xs ys
 places-append (leaving p ∷ xs) ys = places-append xs ys
 
 -- where no node is entered
-opens_without : (p : Place) (r : Role) (own : Option OpenScope) (n : ℕ) → entered_places (opening_at p r own n) ≡ []
+opens_without : (p : Place) (r : Role) (own : Option OpenScope) (n : ℕ) → entered_nodes (opening_at p r own n) ≡ []
 opens_without p r (Some s) n = refl
 opens_without p r None n = by (is_inside p.node.kind r)
   where
-    by : (b : Bool) → entered_places (cond b (opening p (opened_scope p n) ∷ []) []) ≡ []
+    by : (b : Bool) → entered_nodes (cond b (opening p (opened_scope p n) ∷ []) []) ≡ []
     by true = refl
     by false = refl
 
-ends_without : (p : Place) (r : Role) (own : Option OpenScope) (after : Forest) → entered_places (ending_after p r own after) ≡ []
+ends_without : (p : Place) (r : Role) (own : Option OpenScope) (after : Forest) → entered_nodes (ending_after p r own after) ≡ []
 ends_without p r None after = refl
 ends_without p r (Some s) after =
     by (is_in_header p.node.kind r && not (has_role (header_roles p.node.kind) after)) (is_inside p.node.kind r && not (any_inside p.node.kind after))
   where
-    by : (b c : Bool) → entered_places (cond b (header_ending p s ∷ []) [] ++ cond c (closing p s ∷ []) []) ≡ []
+    by : (b c : Bool) → entered_nodes (cond b (header_ending p s ∷ []) [] ++ cond c (closing p s ∷ []) []) ≡ []
     by true true = refl
     by true false = refl
     by false true = refl
     by false false = refl
 
-pub last_without : (p : Place) (own : Option OpenScope) (n : ℕ) → entered_places (opening_last p own n) ≡ []
+pub last_without : (p : Place) (own : Option OpenScope) (n : ℕ) → entered_nodes (opening_last p own n) ≡ []
 last_without p (Some s) n = refl
 last_without p None n = by (opens p.node.kind)
   where
-    by : (b : Bool) → entered_places (cond b (opening p (opened_scope p n) ∷ closing p (opened_scope p n) ∷ []) []) ≡ []
+    by : (b : Bool) → entered_nodes (cond b (opening p (opened_scope p n) ∷ closing p (opened_scope p n) ∷ []) []) ≡ []
     by true = refl
     by false = refl
 
 -- the steps of a node without its own enter what those below it do
-pub places_within : (p child : Place) (xs : List Step) → entered_places (entering child ∷ (xs ++ leaving p ∷ [])) ≡ child ∷ entered_places xs
-places_within p child xs = ap (λ (ps : List Place). child ∷ ps) (places-append xs (leaving p ∷ []) ∙ append-nil (entered_places xs))
+pub places_within : (p child : Place) (xs : List Step) → entered_nodes (entering child ∷ (xs ++ leaving p ∷ [])) ≡ entered_nodes (entering child ∷ xs)
+places_within p child xs = ap (λ (ns : List NodeEntry). entered_nodes (entering child ∷ []) ++ ns) (places-append xs (leaving p ∷ []) ∙ append-nil (entered_nodes xs))
 
-places_turn : (before steps behind later : List Step) → entered_places before ≡ [] → entered_places behind ≡ []
-    → entered_places (before ++ steps ++ behind ++ later) ≡ entered_places steps ++ entered_places later
+places_turn : (before steps behind later : List Step) → entered_nodes before ≡ [] → entered_nodes behind ≡ []
+    → entered_nodes (before ++ steps ++ behind ++ later) ≡ entered_nodes steps ++ entered_nodes later
 places_turn before steps behind later b e =
     places-append (before ++ steps ++ behind) later
-    ∙ ap (λ (ps : List Place). ps ++ entered_places later)
+    ∙ ap (λ (ps : List NodeEntry). ps ++ entered_nodes later)
     (places-append (before ++ steps) behind
     ∙ (λ i. places-append before steps i ++ e i)
-    ∙ append-nil (entered_places before ++ entered_places steps)
-    ∙ ap (λ (ps : List Place). ps ++ entered_places steps) b)
+    ∙ append-nil (entered_nodes before ++ entered_nodes steps)
+    ∙ ap (λ (ps : List NodeEntry). ps ++ entered_nodes steps) b)
 
 module _ (p : Place) (own : Option OpenScope) (n cursor : ℕ) (child : Role × Node) (after : Forest) where
   abbrev first_place : Place
@@ -86,24 +87,24 @@ module _ (p : Place) (own : Option OpenScope) (n cursor : ℕ) (child : Role × 
   first_tree = tree child.0 child.1.kind child.1.span child.1.text child.1.marks child.1.children child.1.node_id after
 
   -- the nodes of children are entered in order
-  pub places_below : entered_places (steps_below p own n cursor first_tree) ≡ (first_place ∷ entered_places first_steps) ++ entered_places later_steps
+  pub places_below : entered_nodes (steps_below p own n cursor first_tree) ≡ entered_nodes (entering first_place ∷ first_steps) ++ entered_nodes later_steps
   places_below =
       places_turn (opening_at p child.0 own n) (entering first_place ∷ (first_steps ++ leaving first_place ∷ [])) (ending_after p child.0 (scope_at p child.0 own n) after) later_steps
       (opens_without p child.0 own n) (ends_without p child.0 (scope_at p child.0 own n) after)
-      ∙ ap (λ (ps : List Place). ps ++ entered_places later_steps) (places_within first_place first_place first_steps)
+      ∙ ap (λ (ps : List NodeEntry). ps ++ entered_nodes later_steps) (places_within first_place first_place first_steps)
 
 -- a node is entered once
-pub count_places : (p : Place) (own : Option OpenScope) (n cursor : ℕ) (f : Forest) → length (entered_places (steps_below p own n cursor f)) ≡ count f
-count_places p own n cursor nothing = ap (λ (ps : List Place). length ps) (last_without p own n)
+pub count_places : (p : Place) (own : Option OpenScope) (n cursor : ℕ) (f : Forest) → length (entered_nodes (steps_below p own n cursor f)) ≡ count f
+count_places p own n cursor nothing = ap (λ (ps : List NodeEntry). length ps) (last_without p own n)
 count_places p own n cursor (tree r kind span text marks below id after) =
     let node : Node = record { kind = kind; span = span; text = text; marks = marks; children = below; node_id = id } in
     let place : Place = child_place p (scope_at p r own n) cursor r node in
     let inner : List Step = first_steps p own n cursor (r, node) after in
     let later : List Step = later_steps p own n cursor (r, node) after in
-    let within : length (entered_places inner) ≡ count below = count_places place None (next_at p r own n) (on_entering kind place.cursor) below in
-    let rest : length (entered_places later) ≡ count after = count_places p (scope_at p r own n) (next_at p r own n + cond (opens kind) 1 0 + scopes_in below) (cursor_past p r cursor place) after in
-    ap (λ (ps : List Place). length ps) (places_below p own n cursor (r, node) after)
-    ∙ length-append (place ∷ entered_places inner) (entered_places later)
+    let within : length (entered_nodes inner) ≡ count below = count_places place None (next_at p r own n) (on_entering kind place.cursor) below in
+    let rest : length (entered_nodes later) ≡ count after = count_places p (scope_at p r own n) (next_at p r own n + cond (opens kind) 1 0 + scopes_in below) (cursor_past p r cursor place) after in
+    ap (λ (ps : List NodeEntry). length ps) (places_below p own n cursor (r, node) after)
+    ∙ length-append (entered_nodes (entering place ∷ inner)) (entered_nodes later)
     ∙ omega (arith, within, rest)
 
 mapped_on : {A B : Type 0} (f : A → B) (l : List B) (xs ys : List A) → (l ++ map f xs) ++ map f ys ≡ l ++ map f (xs ++ ys)
@@ -113,30 +114,32 @@ same_list : (l m : NodeList) → l.nodes ≡ m.nodes → l.parents ≡ m.parents
 same_list l m nodes parents flags = λ i. record { nodes = nodes i; parents = parents i; flags = flags i }
 
 -- to list places and then more is to list them all
-pub listed_on : (l : NodeList) (xs ys : List Place) → listed (listed l xs) ys ≡ listed l (xs ++ ys)
+pub listed_on : (l : NodeList) (xs ys : List NodeEntry) → listed (listed l xs) ys ≡ listed l (xs ++ ys)
 listed_on l xs ys =
     same_list (listed (listed l xs) ys) (listed l (xs ++ ys))
-    (mapped_on seen_at l.nodes xs ys) (mapped_on parent_at l.parents xs ys) (mapped_on (λ (p : Place). no_flags) l.flags xs ys)
+    (mapped_on seen_of l.nodes xs ys) (mapped_on (λ (n : NodeEntry). n.parent) l.parents xs ys) (mapped_on (λ (n : NodeEntry). no_flags) l.flags xs ys)
 
 listed_none : (l : NodeList) → listed l [] ≡ l
 listed_none l = same_list (listed l []) l (append-nil l.nodes) (append-nil l.parents) (append-nil l.flags)
 
 -- as many more are listed
-listed_count : (l : NodeList) (ps : List Place) → length (listed l ps).nodes ≡ length l.nodes + length ps
-listed_count l ps = length-append l.nodes (map seen_at ps) ∙ ap (λ m. length l.nodes + m) (length-map ps seen_at)
+listed_count : (l : NodeList) (ps : List NodeEntry) → length (listed l ps).nodes ≡ length l.nodes + length ps
+listed_count l ps = length-append l.nodes (map seen_of ps) ∙ ap (λ m. length l.nodes + m) (length-map ps seen_of)
 
-listed_parents : (l : NodeList) (ps : List Place) → length l.parents ≡ length l.nodes → length (listed l ps).parents ≡ length (listed l ps).nodes
+listed_parents : (l : NodeList) (ps : List NodeEntry) → length l.parents ≡ length l.nodes → length (listed l ps).parents ≡ length (listed l ps).nodes
 listed_parents l ps h =
-    let parents : length (l.parents ++ map parent_at ps) ≡ length l.parents + length ps = length-append l.parents (map parent_at ps) ∙ ap (λ m. length l.parents + m) (length-map ps parent_at) in
+    let parents : length (l.parents ++ map (λ (n : NodeEntry). n.parent) ps) ≡ length l.parents + length ps = length-append l.parents (map (λ (n : NodeEntry). n.parent) ps) ∙ ap (λ m. length l.parents + m) (length-map ps (λ (n : NodeEntry). n.parent)) in
     omega (arith, h, parents, listed_count l ps)
 
 -- to enter the node that comes next is to list it
-entered_lists : (p : Place) (e : Entered) → IsNext p e → (entered_at p e).list ≡ listed e.list (p ∷ [])
-entered_lists p e h = λ i. record {
-  nodes = e.list.nodes ++ (record { node = p.node; id = h.next i; scope = at p }) ∷ [];
-  parents = e.list.parents ++ h.above i ∷ [];
-  flags = e.list.flags ++ no_flags ∷ [];
-}
+entered_lists : (p : Place) (e : Entered) → IsNext p e → (entered_at p e).list ≡ listed e.list (entered_nodes (entering p ∷ []))
+entered_lists p e h =
+    (λ i. record {
+      nodes = e.list.nodes ++ (record { node = p.node; id = h.next i; scope = at p }) ∷ [];
+      parents = e.list.parents ++ e.current ∷ [];
+      flags = e.list.flags ++ no_flags ∷ [];
+    })
+    ∙ ap (listed e.list) (sym h.above)
 
 -- and then its children come next
 pub entered_among : (p : Place) (e : Entered) → IsNext p e → IsAmong p p.node.children (entered_at p e)
@@ -148,7 +151,7 @@ entered_among p e h =
       order = ap (λ m. numbered m p.node.children) grown ∙ ap (λ (x : Node). x.children) h.order;
       inside = omega (arith, grown);
       current = h.next;
-      parent = get_or_push e.list.parents e.current 0 p.node.node_id (h.parents ∙ h.next) ∙ h.above;
+      parent = subst (IsBelow p) (sym (get_or_push e.list.parents e.current 0 p.node.node_id (h.parents ∙ h.next))) h.above;
       parents = parents ∙ sym grown;
     }
 
@@ -168,7 +171,7 @@ module _ (p : Place) (own : Option OpenScope) (n cursor : ℕ) (child : Role × 
       let parts = tree_parts h.order in
       record {
         next = parts.1;
-        above = h.current;
+        above = ap (λ (id : ℕ). (record { node = child.1; scope = at place; parent = id }) ∷ []) (sym h.current);
         order = ap (λ (b : Forest). record child.1 { children = b }) (ap (λ m. numbered (m + 1) child.1.children) (sym parts.1) ∙ parts.0);
         parents = h.parents;
       }
@@ -177,21 +180,21 @@ module _ (p : Place) (own : Option OpenScope) (n cursor : ℕ) (child : Role × 
   rest_among : (e : Entered) → IsAmong p (forest_of (child ∷ rest)) e → IsAmong p (forest_of rest) (all_listed (entering place ∷ inner) e)
   rest_among e h =
       let parts = tree_parts h.order in
-      let places : List Place = place ∷ entered_places inner in
-      let below : length (entered_places inner) ≡ count child.1.children = count_places place None (next_at p child.0 own n) (on_entering child.1.kind place.cursor) child.1.children in
+      let places : List NodeEntry = entered_nodes (entering place ∷ inner) in
+      let below : length (entered_nodes inner) ≡ count child.1.children = count_places place None (next_at p child.0 own n) (on_entering child.1.kind place.cursor) child.1.children in
       let grown : length (listed e.list places).nodes ≡ length e.list.nodes + 1 + count child.1.children = listed_count e.list places ∙ omega (arith, below) in
       record {
         order = ap (λ m. numbered m (forest_of rest)) grown ∙ parts.2;
         inside = omega (arith, grown, h.inside);
         current = h.current;
-        parent = get_or_append_left e.list.parents (map parent_at places) 0 p.node.node_id (omega (arith, h.inside, h.parents)) ∙ h.parent;
+        parent = subst (IsBelow p) (sym (get_or_append_left e.list.parents (map (λ (n : NodeEntry). n.parent) places) 0 p.node.node_id (omega (arith, h.inside, h.parents)))) h.parent;
         parents = listed_parents e.list places h.parents;
       }
 
   lists_rest : (e : Entered) → all_listed (later_steps p own n cursor child (forest_of rest)) (all_listed (entering place ∷ inner) e) ≡ all_listed (steps_below p own n cursor (forest_of (child ∷ rest))) e
   lists_rest e =
       ap (λ (l : NodeList). record e { list = l })
-      (listed_on e.list (place ∷ entered_places inner) (entered_places (later_steps p own n cursor child (forest_of rest)))
+      (listed_on e.list (entered_nodes (entering place ∷ inner)) (entered_nodes (later_steps p own n cursor child (forest_of rest)))
       ∙ ap (listed e.list) (sym (places_below p own n cursor child (forest_of rest))))
 
   -- the same of nodes that may be kept
@@ -212,16 +215,24 @@ pub first_kept : (p : Place) (o : Option Entered) → IfSome o (IsNext p) → If
 first_kept p None h = tt
 first_kept p (Some e) h = entered_among p e h
 
-module _ (p : Place) (steps last : List Step) (without : entered_places last ≡ []) where
+-- a node has one parent
+same_parent : (p : Place) (m n : ℕ) → IsBelow p m → IsBelow p n → m ≡ n
+same_parent p m n a b = ap parent_first (sym a ∙ b)
+  where
+    parent_first : List NodeEntry → ℕ
+    parent_first [] = 0
+    parent_first (n ∷ ns) = n.parent
+
+module _ (p : Place) (steps last : List Step) (without : entered_nodes last ≡ []) where
   -- what is left is at the parent again
   left_one : (d e : Entered) → IsAmong p nothing d → IsNext p e → all_listed last d ≡ all_listed steps (entered_at p e) → store.leaving d ≡ all_listed (entering p ∷ steps) e
   left_one d e among next same =
       λ i. record {
         list = (sym (ap (listed d.list) without ∙ listed_none d.list)
             ∙ ap (λ (x : Entered). x.list) same
-            ∙ ap (λ (l : NodeList). listed l (entered_places steps)) (entered_lists p e next)
-            ∙ listed_on e.list (p ∷ []) (entered_places steps)) i;
-        current = (ap (slice_index d.list.parents) among.current ∙ among.parent ∙ sym next.above) i;
+            ∙ ap (λ (l : NodeList). listed l (entered_nodes steps)) (entered_lists p e next)
+            ∙ listed_on e.list (entered_nodes (entering p ∷ [])) (entered_nodes steps)) i;
+        current = (ap (slice_index d.list.parents) among.current ∙ same_parent p (slice_index d.list.parents p.node.node_id) e.current among.parent next.above) i;
       }
 
   pub left_kept : (now first : Option Entered) → IfSome now (IsAmong p nothing) → IfSome first (IsNext p)

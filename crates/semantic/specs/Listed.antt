@@ -3,41 +3,28 @@ use Rattle.std.specs.Prelude.{◌≡◌, ◌<◌, ℕ, List, [], ◌∷◌, ◌+
 use Rattle.semantic_tree.specs.Forest.{Forest, numbered}
 use Rattle.semantic_tree.specs.Tree.{Tree, IsPreorder}
 use Rattle.semantic_model.specs.Place.{Place, at}
-use Rattle.semantic_model.specs.Step.{Step, entering, opening, header_ending, closing, leaving, steps}
+use Rattle.semantic_model.specs.NodeTable.{NodeEntry, nodes as entered_nodes}
+use Rattle.semantic_model.specs.Step.{Step, entering, steps}
 use Rattle.node_store.specs.Entered.{Entered, no_flags, nothing_entered}
 use Rattle.node_store.specs.Entered as store
 use Rattle.node_store.specs.NodeList.{NodeList, SeenNode, no_nodes}
-use Rattle.node_store.specs.Path.{current_id_in}
 
--- the places of the nodes that the steps enter
-abbrev pub entered_places : List Step → List Place
-entered_places [] = []
-entered_places (entering p ∷ more) = p ∷ entered_places more
-entered_places (opening p s ∷ more) = entered_places more
-entered_places (header_ending p s ∷ more) = entered_places more
-entered_places (closing p s ∷ more) = entered_places more
-entered_places (leaving p ∷ more) = entered_places more
+-- a node as a store shows it
+abbrev pub seen_of : NodeEntry → SeenNode
+seen_of entry = record { node = entry.node; id = entry.node.node_id; scope = entry.scope }
 
--- a node, with its id and the scope where it stands
-abbrev pub seen_at : Place → SeenNode
-seen_at p = record { node = p.node; id = p.node.node_id; scope = at p }
-
--- the id of the parent; the root is its own
-abbrev pub parent_at : Place → ℕ
-parent_at p = current_id_in p.path
-
--- the list with the nodes at the places
-abbrev pub listed : NodeList → List Place → NodeList
-listed list places =
+-- the list with these nodes, without flags
+abbrev pub listed : NodeList → List NodeEntry → NodeList
+listed list entries =
     record {
-      nodes = list.nodes ++ map seen_at places;
-      parents = list.parents ++ map parent_at places;
-      flags = list.flags ++ map (λ p. no_flags) places;
+      nodes = list.nodes ++ map seen_of entries;
+      parents = list.parents ++ map (λ (entry : NodeEntry). entry.parent) entries;
+      flags = list.flags ++ map (λ (entry : NodeEntry). no_flags) entries;
     }
 
 -- the nodes of a program in preorder, each with the scope where it stands and its parent, and without flags
 abbrev pub node_list : Tree → NodeList
-node_list program = listed no_nodes (entered_places (steps program))
+node_list program = listed no_nodes (entered_nodes (steps program))
 
 -- the nodes that an analysis keeps
 abbrev pub kept_nodes : Bool → Tree → NodeList
@@ -58,12 +45,16 @@ entered_at p e = store.entering e p.node (at p)
 
 -- the nodes that a walk has entered, once it has walked over steps
 abbrev pub all_listed : List Step → Entered → Entered
-all_listed steps e = record e { list = listed e.list (entered_places steps) }
+all_listed steps e = record e { list = listed e.list (entered_nodes steps) }
+
+-- the parent of the node at the place has the id; the root is its own
+abbrev pub IsBelow : Place → ℕ → Type 0
+IsBelow p id = entered_nodes (entering p ∷ []) ≡ (record { node = p.node; scope = at p; parent = id }) ∷ []
 
 -- the node at the place comes next
 pub record IsNext (p : Place) (e : Entered) : Type 0 where
   pub next : length e.list.nodes ≡ p.node.node_id
-  pub above : e.current ≡ current_id_in p.path
+  pub above : IsBelow p e.current
   pub order : IsPreorder p.node
   pub parents : length e.list.parents ≡ length e.list.nodes
 
@@ -72,5 +63,5 @@ pub record IsAmong (p : Place) (f : Forest) (e : Entered) : Type 0 where
   pub order : numbered (length e.list.nodes) f ≡ f
   pub inside : p.node.node_id < length e.list.nodes
   pub current : e.current ≡ p.node.node_id
-  pub parent : slice_index e.list.parents p.node.node_id ≡ current_id_in p.path
+  pub parent : IsBelow p (slice_index e.list.parents p.node.node_id)
   pub parents : length e.list.parents ≡ length e.list.nodes
