@@ -42,7 +42,7 @@ use Rattle.node_store.specs.NodeList.{no_nodes}
 use Rattle.semantic.specs.Listed.{IsNext, listed, all_listed, kept_from, list_kept, kept_nodes}
 use Rattle.semantic_model.specs.NodeTable.{NodeEntry, nodes as entered_nodes}
 use Rattle.semantic.specs.Walker.{Walker}
-use Rattle.semantic.proofs.Listing.{places_within, last_without}
+use Rattle.semantic.proofs.Listing.{nodes_within, last_without}
 
 named_left : (ds : List Declaration) (ws : List Written) (xs ys : List Step) → AllNamed ds ws (xs ++ ys) → AllNamed ds ws xs
 named_left ds ws [] ys h = tt
@@ -156,9 +156,9 @@ walk_ends program fits keeps w v u first over last =
     ∙ ap (λ (x : Walker). (walked_over (written_declarations (steps program)) x (root_place program) (Some (root_scope (root_place program))) 1).made) first)
 
 -- the root's scope may be open before, or not: the same nodes are entered
-root_places : (p : Place) (cursor : ℕ) (f : Forest) → p.node.kind ≡ kind.Program → entered_nodes (steps_below p None 0 cursor f) ≡ entered_nodes (steps_below p (Some (root_scope p)) 1 cursor f)
-root_places p cursor nothing e = last_without p None 0
-root_places p cursor (tree r k span text marks below id after) e = ap entered_nodes opens_first
+root_entered : (p : Place) (cursor : ℕ) (f : Forest) → p.node.kind ≡ kind.Program → entered_nodes (steps_below p None 0 cursor f) ≡ entered_nodes (steps_below p (Some (root_scope p)) 1 cursor f)
+root_entered p cursor nothing e = last_without p None 0
+root_entered p cursor (tree r k span text marks below id after) e = ap entered_nodes opens_first
   where
     opens_first : steps_below p None 0 cursor (tree r k span text marks below id after) ≡ opening p (root_scope p) ∷ steps_below p (Some (root_scope p)) 1 cursor (tree r k span text marks below id after)
     opens_first = rw e refl
@@ -171,8 +171,8 @@ root_listed program e false = refl
 root_listed program e true =
     let p : Place = root_place program in
     ap (listed no_nodes)
-    (ap (λ (ns : List NodeEntry). entered_nodes (entering p ∷ []) ++ ns) (sym (root_places p (on_entering program.root.kind 0) program.root.children e))
-    ∙ sym (places_within p p (steps_below p None 0 (on_entering program.root.kind 0) program.root.children)))
+    (ap (λ (ns : List NodeEntry). entered_nodes (entering p ∷ []) ++ ns) (sym (root_entered p (on_entering program.root.kind 0) program.root.children e))
+    ∙ sym (nodes_within p p (steps_below p None 0 (on_entering program.root.kind 0) program.root.children)))
 
 -- so these are kept in the end, if nodes are
 pub walk_lists : (program : Tree) → first_fault program ≡ None → (keeps : Bool) (w v u : Walker) → w ≡ begun program w.namesakes keeps

@@ -21,14 +21,14 @@ use Rattle.node_store.specs.NodeList.{NodeList, SeenNode}
 use Rattle.semantic_model.specs.NodeTable.{NodeEntry, nodes as entered_nodes}
 use Rattle.semantic.specs.Listed.{seen_of, listed, all_listed, entered_at, IsBelow, IsNext, IsAmong}
 
--- steps one after another enter their places one after another
-pub places-append : (xs ys : List Step) → entered_nodes (xs ++ ys) ≡ entered_nodes xs ++ entered_nodes ys
-places-append [] ys = refl
-places-append (entering p ∷ xs) ys = ap (λ (ns : List NodeEntry). entered_nodes (entering p ∷ []) ++ ns) (places-append xs ys)
-places-append (opening p s ∷ xs) ys = places-append xs ys
-places-append (header_ending p s ∷ xs) ys = places-append xs ys
-places-append (closing p s ∷ xs) ys = places-append xs ys
-places-append (leaving p ∷ xs) ys = places-append xs ys
+-- steps one after another enter their nodes one after another
+pub nodes-append : (xs ys : List Step) → entered_nodes (xs ++ ys) ≡ entered_nodes xs ++ entered_nodes ys
+nodes-append [] ys = refl
+nodes-append (entering p ∷ xs) ys = ap (λ (ns : List NodeEntry). entered_nodes (entering p ∷ []) ++ ns) (nodes-append xs ys)
+nodes-append (opening p s ∷ xs) ys = nodes-append xs ys
+nodes-append (header_ending p s ∷ xs) ys = nodes-append xs ys
+nodes-append (closing p s ∷ xs) ys = nodes-append xs ys
+nodes-append (leaving p ∷ xs) ys = nodes-append xs ys
 
 -- where no node is entered
 opens_without : (p : Place) (r : Role) (own : Option OpenScope) (n : ℕ) → entered_nodes (opening_at p r own n) ≡ []
@@ -59,16 +59,16 @@ last_without p None n = by (opens p.node.kind)
     by false = refl
 
 -- the steps of a node without its own enter what those below it do
-pub places_within : (p child : Place) (xs : List Step) → entered_nodes (entering child ∷ (xs ++ leaving p ∷ [])) ≡ entered_nodes (entering child ∷ xs)
-places_within p child xs = ap (λ (ns : List NodeEntry). entered_nodes (entering child ∷ []) ++ ns) (places-append xs (leaving p ∷ []) ∙ append-nil (entered_nodes xs))
+pub nodes_within : (p child : Place) (xs : List Step) → entered_nodes (entering child ∷ (xs ++ leaving p ∷ [])) ≡ entered_nodes (entering child ∷ xs)
+nodes_within p child xs = ap (λ (ns : List NodeEntry). entered_nodes (entering child ∷ []) ++ ns) (nodes-append xs (leaving p ∷ []) ∙ append-nil (entered_nodes xs))
 
-places_turn : (before steps behind later : List Step) → entered_nodes before ≡ [] → entered_nodes behind ≡ []
+nodes_turn : (before steps behind later : List Step) → entered_nodes before ≡ [] → entered_nodes behind ≡ []
     → entered_nodes (before ++ steps ++ behind ++ later) ≡ entered_nodes steps ++ entered_nodes later
-places_turn before steps behind later b e =
-    places-append (before ++ steps ++ behind) later
+nodes_turn before steps behind later b e =
+    nodes-append (before ++ steps ++ behind) later
     ∙ ap (λ (ps : List NodeEntry). ps ++ entered_nodes later)
-    (places-append (before ++ steps) behind
-    ∙ (λ i. places-append before steps i ++ e i)
+    (nodes-append (before ++ steps) behind
+    ∙ (λ i. nodes-append before steps i ++ e i)
     ∙ append-nil (entered_nodes before ++ entered_nodes steps)
     ∙ ap (λ (ps : List NodeEntry). ps ++ entered_nodes steps) b)
 
@@ -87,23 +87,23 @@ module _ (p : Place) (own : Option OpenScope) (n cursor : ℕ) (child : Role × 
   first_tree = tree child.0 child.1.kind child.1.span child.1.text child.1.marks child.1.children child.1.node_id after
 
   -- the nodes of children are entered in order
-  pub places_below : entered_nodes (steps_below p own n cursor first_tree) ≡ entered_nodes (entering first_place ∷ first_steps) ++ entered_nodes later_steps
-  places_below =
-      places_turn (opening_at p child.0 own n) (entering first_place ∷ (first_steps ++ leaving first_place ∷ [])) (ending_after p child.0 (scope_at p child.0 own n) after) later_steps
+  pub nodes_below : entered_nodes (steps_below p own n cursor first_tree) ≡ entered_nodes (entering first_place ∷ first_steps) ++ entered_nodes later_steps
+  nodes_below =
+      nodes_turn (opening_at p child.0 own n) (entering first_place ∷ (first_steps ++ leaving first_place ∷ [])) (ending_after p child.0 (scope_at p child.0 own n) after) later_steps
       (opens_without p child.0 own n) (ends_without p child.0 (scope_at p child.0 own n) after)
-      ∙ ap (λ (ps : List NodeEntry). ps ++ entered_nodes later_steps) (places_within first_place first_place first_steps)
+      ∙ ap (λ (ps : List NodeEntry). ps ++ entered_nodes later_steps) (nodes_within first_place first_place first_steps)
 
 -- a node is entered once
-pub count_places : (p : Place) (own : Option OpenScope) (n cursor : ℕ) (f : Forest) → length (entered_nodes (steps_below p own n cursor f)) ≡ count f
-count_places p own n cursor nothing = ap (λ (ps : List NodeEntry). length ps) (last_without p own n)
-count_places p own n cursor (tree r kind span text marks below id after) =
+pub count_nodes : (p : Place) (own : Option OpenScope) (n cursor : ℕ) (f : Forest) → length (entered_nodes (steps_below p own n cursor f)) ≡ count f
+count_nodes p own n cursor nothing = ap (λ (ps : List NodeEntry). length ps) (last_without p own n)
+count_nodes p own n cursor (tree r kind span text marks below id after) =
     let node : Node = record { kind = kind; span = span; text = text; marks = marks; children = below; node_id = id } in
     let place : Place = child_place p (scope_at p r own n) cursor r node in
     let inner : List Step = first_steps p own n cursor (r, node) after in
     let later : List Step = later_steps p own n cursor (r, node) after in
-    let within : length (entered_nodes inner) ≡ count below = count_places place None (next_at p r own n) (on_entering kind place.cursor) below in
-    let rest : length (entered_nodes later) ≡ count after = count_places p (scope_at p r own n) (next_at p r own n + cond (opens kind) 1 0 + scopes_in below) (cursor_past p r cursor place) after in
-    ap (λ (ps : List NodeEntry). length ps) (places_below p own n cursor (r, node) after)
+    let within : length (entered_nodes inner) ≡ count below = count_nodes place None (next_at p r own n) (on_entering kind place.cursor) below in
+    let rest : length (entered_nodes later) ≡ count after = count_nodes p (scope_at p r own n) (next_at p r own n + cond (opens kind) 1 0 + scopes_in below) (cursor_past p r cursor place) after in
+    ap (λ (ps : List NodeEntry). length ps) (nodes_below p own n cursor (r, node) after)
     ∙ length-append (entered_nodes (entering place ∷ inner)) (entered_nodes later)
     ∙ omega (arith, within, rest)
 
@@ -113,7 +113,7 @@ mapped_on f l xs ys = append_assoc l (map f xs) (map f ys) ∙ ap (λ zs. l ++ z
 same_list : (l m : NodeList) → l.nodes ≡ m.nodes → l.parents ≡ m.parents → l.flags ≡ m.flags → l ≡ m
 same_list l m nodes parents flags = λ i. record { nodes = nodes i; parents = parents i; flags = flags i }
 
--- to list places and then more is to list them all
+-- to list nodes and then more is to list them all
 pub listed_on : (l : NodeList) (xs ys : List NodeEntry) → listed (listed l xs) ys ≡ listed l (xs ++ ys)
 listed_on l xs ys =
     same_list (listed (listed l xs) ys) (listed l (xs ++ ys))
@@ -180,22 +180,22 @@ module _ (p : Place) (own : Option OpenScope) (n cursor : ℕ) (child : Role × 
   rest_among : (e : Entered) → IsAmong p (forest_of (child ∷ rest)) e → IsAmong p (forest_of rest) (all_listed (entering place ∷ inner) e)
   rest_among e h =
       let parts = tree_parts h.order in
-      let places : List NodeEntry = entered_nodes (entering place ∷ inner) in
-      let below : length (entered_nodes inner) ≡ count child.1.children = count_places place None (next_at p child.0 own n) (on_entering child.1.kind place.cursor) child.1.children in
-      let grown : length (listed e.list places).nodes ≡ length e.list.nodes + 1 + count child.1.children = listed_count e.list places ∙ omega (arith, below) in
+      let more : List NodeEntry = entered_nodes (entering place ∷ inner) in
+      let below : length (entered_nodes inner) ≡ count child.1.children = count_nodes place None (next_at p child.0 own n) (on_entering child.1.kind place.cursor) child.1.children in
+      let grown : length (listed e.list more).nodes ≡ length e.list.nodes + 1 + count child.1.children = listed_count e.list more ∙ omega (arith, below) in
       record {
         order = ap (λ m. numbered m (forest_of rest)) grown ∙ parts.2;
         inside = omega (arith, grown, h.inside);
         current = h.current;
-        parent = subst (IsBelow p) (sym (get_or_append_left e.list.parents (map (λ (n : NodeEntry). n.parent) places) 0 p.node.node_id (omega (arith, h.inside, h.parents)))) h.parent;
-        parents = listed_parents e.list places h.parents;
+        parent = subst (IsBelow p) (sym (get_or_append_left e.list.parents (map (λ (n : NodeEntry). n.parent) more) 0 p.node.node_id (omega (arith, h.inside, h.parents)))) h.parent;
+        parents = listed_parents e.list more h.parents;
       }
 
   lists_rest : (e : Entered) → all_listed (later_steps p own n cursor child (forest_of rest)) (all_listed (entering place ∷ inner) e) ≡ all_listed (steps_below p own n cursor (forest_of (child ∷ rest))) e
   lists_rest e =
       ap (λ (l : NodeList). record e { list = l })
       (listed_on e.list (entered_nodes (entering place ∷ inner)) (entered_nodes (later_steps p own n cursor child (forest_of rest)))
-      ∙ ap (listed e.list) (sym (places_below p own n cursor child (forest_of rest))))
+      ∙ ap (listed e.list) (sym (nodes_below p own n cursor child (forest_of rest))))
 
   -- the same of nodes that may be kept
   pub child_kept : (o : Option Entered) → IfSome o (IsAmong p (forest_of (child ∷ rest))) → IfSome o (IsNext place)
