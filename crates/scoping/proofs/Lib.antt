@@ -24,3 +24,4 @@ pub mod Keeping
 pub mod Typeless
 pub mod Clones
 pub mod Ancestors
+pub mod Rising

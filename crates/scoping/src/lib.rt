@@ -6,6 +6,7 @@ pub mod bindings;
 pub mod free_table;
 pub mod kept;
 pub mod name_table;
+pub mod node_map;
 pub mod node_tables;
 pub mod places;
 pub mod reference_iterators;

@@ -3,7 +3,7 @@ ghost use Rattle.std.specs.Prelude.{◌≡◌, [], nat_eq, OnOk, OnErr};
 ghost use Rattle.std.specs.Map.{lookup};
 ghost use Rattle.indexmap.specs.IndexMap.{insert_entry};
 
-use indexmap::IndexMap;
+use crate::node_map::NodeMap;
 use semantic_syntax::{NodeId, ReferenceId, ScopeId, SymbolId};
 use std::alloc::{AllocError, Global};
 use std::marker::Model;
@@ -12,9 +12,9 @@ use std::marker::Model;
 /// identifier reference is. Any node may have an entry; room is taken for the entries alone.
 #[derive(Drop)]
 pub struct NodeTables {
-    scopes: IndexMap<NodeId, ScopeId>,
-    symbols: IndexMap<NodeId, SymbolId>,
-    references: IndexMap<NodeId, ReferenceId>,
+    scopes: NodeMap<ScopeId>,
+    symbols: NodeMap<SymbolId>,
+    references: NodeMap<ReferenceId>,
 }
 
 impl Model for NodeTables {
@@ -22,7 +22,7 @@ impl Model for NodeTables {
 
     ghost Value = { NodeEntries };
 
-    ghost view = { λ t. record { scopes = t.scopes.entries; symbols = t.symbols.entries; references = t.references.entries } };
+    ghost view = { λ t. record { scopes = t.scopes; symbols = t.symbols; references = t.references } };
 }
 
 impl NodeTables {
@@ -31,9 +31,9 @@ impl NodeTables {
         ensures { result ≡ record { scopes = []; symbols = []; references = [] } }
     {
         NodeTables {
-            scopes: IndexMap::new(alloc),
-            symbols: IndexMap::new(alloc),
-            references: IndexMap::new(alloc),
+            scopes: NodeMap::new(alloc),
+            symbols: NodeMap::new(alloc),
+            references: NodeMap::new(alloc),
         }
     }
 
@@ -41,21 +41,21 @@ impl NodeTables {
     pub fn scope_of(&self, node: NodeId) -> Option<ScopeId>
         ensures { result ≡ lookup (nat_eq node) self.now.scopes }
     {
-        self.scopes.get(&node).copied()
+        self.scopes.get(node)
     }
 
     /// The symbol that the node declares, if any.
     pub fn symbol_of(&self, node: NodeId) -> Option<SymbolId>
         ensures { result ≡ lookup (nat_eq node) self.now.symbols }
     {
-        self.symbols.get(&node).copied()
+        self.symbols.get(node)
     }
 
     /// The reference that the node is, if any.
     pub fn reference_of(&self, node: NodeId) -> Option<ReferenceId>
         ensures { result ≡ lookup (nat_eq node) self.now.references }
     {
-        self.references.get(&node).copied()
+        self.references.get(node)
     }
 
     /// Notes the scope that the node opens.
@@ -63,8 +63,7 @@ impl NodeTables {
         ensures ok { OnOk result (self.new ≡ record self.old { scopes = insert_entry nat_eq self.old.scopes node scope }) }
         ensures err { OnErr result (self.new ≡ self.old) }
     {
-        self.scopes.insert(node, scope)?;
-        Ok(())
+        self.scopes.insert(node, scope)
     }
 
     /// Notes the symbol that the node declares.
@@ -72,8 +71,7 @@ impl NodeTables {
         ensures ok { OnOk result (self.new ≡ record self.old { symbols = insert_entry nat_eq self.old.symbols node symbol }) }
         ensures err { OnErr result (self.new ≡ self.old) }
     {
-        self.symbols.insert(node, symbol)?;
-        Ok(())
+        self.symbols.insert(node, symbol)
     }
 
     /// Notes the reference that the node is.
@@ -81,7 +79,6 @@ impl NodeTables {
         ensures ok { OnOk result (self.new ≡ record self.old { references = insert_entry nat_eq self.old.references node reference }) }
         ensures err { OnErr result (self.new ≡ self.old) }
     {
-        self.references.insert(node, reference)?;
-        Ok(())
+        self.references.insert(node, reference)
     }
 }

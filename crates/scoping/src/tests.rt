@@ -191,3 +191,22 @@ fn nodes_tell_what_belongs_to_them(rt: HostRuntime) -> Result<(), Fail> {
     assert_eq!(rt; nodes.symbol_of(NodeId::ROOT), None);
     Ok(())
 }
+
+// Nodes that rise, one that comes late, one behind it, and two that are noted again.
+#[test]
+fn late_nodes_are_found_as_well(rt: HostRuntime) -> Result<(), Fail> {
+    let mut nodes = NodeTables::new(rt.alloc());
+    for (node, symbol) in [(2, 0), (5, 1), (9, 2), (4, 3), (11, 4), (5, 5), (4, 6)] {
+        nodes.set_symbol(NodeId::new(node), SymbolId::new(symbol))?;
+    }
+    for (node, symbol) in [(2, 0), (4, 6), (5, 5), (9, 2), (11, 4)] {
+        assert_eq!(rt;
+            nodes.symbol_of(NodeId::new(node)),
+            Some(SymbolId::new(symbol))
+        );
+    }
+    for node in [0, 3, 6, 10, 12] {
+        assert_eq!(rt; nodes.symbol_of(NodeId::new(node)), None);
+    }
+    Ok(())
+}

@@ -1,0 +1,41 @@
+use Rattle.std.proofs.Common.{◌≡◌, ℕ, ◌++◌, set, length, subst, sym, ap, ◌∙◌, nat_eq}
+use Rattle.indexmap.specs.IndexMap.{insert_entry}
+use Rattle.scoping.specs.NodeEntries.{AreBefore, AreRising, HasNone, IsPlaceOf}
+use Rattle.scoping.proofs.Rising.{insert_at, insert_behind, rise_behind, rise_set, pushed}
+use Rattle.scoping.proofs.node_map.NodeMap.insert.Goals as goal
+
+pub invariant_of-self-then-is_behind : goal.invariant_of-self-then-is_behind
+invariant_of-self-then-is_behind g c =
+    let es = c.self.inside.rising.items in
+    let before = subst (λ xs. AreBefore xs c.args.node) c.deref.ensures.value (c.is_behind.ensures c.if-is_behind.true) in
+    subst AreRising (sym c.in_ok-push.ensures.items) (rise_behind es c.self.invariant c.args.node c.args.value before)
+
+pub returns-then-is_behind-clause-ok : goal.returns-then-is_behind-clause-ok
+returns-then-is_behind-clause-ok g c =
+    let es = c.self.inside.rising.items in
+    let before = subst (λ xs. AreBefore xs c.args.node) c.deref.ensures.value (c.is_behind.ensures c.if-is_behind.true) in
+    let empty : length c.self.inside.late.entries ≡ 0 = c.is_empty.ensures.0 c.if-is_empty.true in
+    ap (λ xs. xs ++ c.self.inside.late.entries) c.in_ok-push.ensures.items ∙ pushed es _ c.args.node c.args.value empty before
+    ∙ ap (λ xs. insert_entry nat_eq xs c.args.node c.args.value) c.self.view_is
+
+pub invariant_of-self-in-Some : goal.invariant_of-self-in-Some
+invariant_of-self-in-Some g c =
+    let es = c.self.inside.rising.items in
+    let place = subst (λ xs. IsPlaceOf xs c.args.node c.in-Some.place) c.deref-2.ensures.value c.in-Some.ensures in
+    subst (λ (e : ℕ × g.row.T.Denot). AreRising (set es c.in-Some.place (e.0, c.args.value))) (sym c.index_mut.ensures.value)
+    (rise_set es c.self.invariant c.in-Some.place c.args.value c.index_mut.result.now place.in_range)
+
+pub returns-in-Some-clause-ok : goal.returns-in-Some-clause-ok
+returns-in-Some-clause-ok g c =
+    let es = c.self.inside.rising.items in
+    let late = c.self.inside.late.entries in
+    let place = subst (λ xs. IsPlaceOf xs c.args.node c.in-Some.place) c.deref-2.ensures.value c.in-Some.ensures in
+    ap (λ (e : ℕ × g.row.T.Denot). set es c.in-Some.place (e.0, c.args.value) ++ late) c.index_mut.ensures.value
+    ∙ sym (insert_at es c.self.invariant late c.args.node c.in-Some.place c.args.value c.index_mut.result.now place)
+    ∙ ap (λ xs. insert_entry nat_eq xs c.args.node c.args.value) c.self.view_is
+
+pub returns-in_ok-insert-in-None-clause-ok : goal.returns-in_ok-insert-in-None-clause-ok
+returns-in_ok-insert-in-None-clause-ok g c =
+    let es = c.self.inside.rising.items in
+    let none = subst (λ xs. HasNone xs c.args.node) c.deref-2.ensures.value c.in-None.ensures in
+    ap (λ fs. es ++ fs) c.in_ok-insert-in-None.ensures.entries ∙ sym (insert_behind es c.self.inside.late.entries c.args.node c.args.value none) ∙ ap (λ xs. insert_entry nat_eq xs c.args.node c.args.value) c.self.view_is

@@ -1,0 +1,92 @@
+//! A value for each of some nodes.
+ghost use Rattle.std.specs.Prelude.{◌≡◌, [], true, nat_eq, MatchOption, OnOk, OnErr};
+ghost use Rattle.std.specs.Map.{lookup};
+ghost use Rattle.indexmap.specs.IndexMap.{insert_entry};
+ghost use Rattle.scoping.specs.NodeEntries.{AreRising, AreBefore, HasNone, IsPlaceOf};
+
+use indexmap::IndexMap;
+use semantic_syntax::NodeId;
+use std::alloc::{AllocError, Global};
+use std::marker::Model;
+
+/// Values under nodes, in the order in which they were noted. As long as the nodes rise, as those of a walk mostly do,
+/// an entry takes its own room alone and is found by halves; from the first node that comes late, what is new stands
+/// in a map.
+#[derive(Drop)]
+pub struct NodeMap<T> {
+    rising: Vec<(NodeId, T)>,
+    late: IndexMap<NodeId, T>,
+}
+
+impl<T> Model for NodeMap<T> {
+    ghost use Rattle.std.specs.Prelude.{ℕ, List, ◌++◌};
+    ghost use Rattle.scoping.specs.NodeEntries.{AreRising};
+
+    ghost Value = { List (ℕ × T) };
+
+    ghost view = { λ a. a.rising.items ++ a.late.entries };
+
+    ghost invariant = { λ a. AreRising a.rising.items };
+}
+
+/// Whether the node comes behind those of all entries, which rise.
+fn is_behind<T>(entries: &[(NodeId, T)], node: NodeId) -> bool
+    requires { AreRising entries.now }
+    ensures { result ≡ true → AreBefore entries.now node }
+{
+    match entries.last() {
+        Some(last) => last.0 < node,
+        None => true,
+    }
+}
+
+/// The place of the node's entry, if any, among entries whose nodes rise.
+fn place_of<T>(entries: &[(NodeId, T)], node: NodeId) -> Option<usize>
+    requires { AreRising entries.now }
+    ensures { MatchOption result (HasNone entries.now node) (IsPlaceOf entries.now node) }
+{
+    match entries.binary_search_by_key(&node, |entry| entry.0) {
+        Ok(place) => Some(place),
+        Err(_) => None,
+    }
+}
+
+impl<T: Copy> NodeMap<T> {
+    /// A map without entries.
+    pub fn new(alloc: Global) -> NodeMap<T>
+        ensures { result ≡ [] }
+    {
+        NodeMap {
+            rising: Vec::new(alloc),
+            late: IndexMap::new(alloc),
+        }
+    }
+
+    /// The value of the node, if any.
+    pub fn get(&self, node: NodeId) -> Option<T>
+        ensures { result ≡ lookup (nat_eq node) self.now }
+    {
+        match place_of(&self.rising, node) {
+            Some(place) => Some(self.rising[place].1),
+            None => self.late.get(&node).copied(),
+        }
+    }
+
+    /// Notes the value of the node. A new node goes last, one that is there keeps its place.
+    pub fn insert(&mut self, node: NodeId, value: T) -> Result<(), AllocError>
+        ensures ok { OnOk result (self.new ≡ insert_entry nat_eq self.old node value) }
+        ensures err { OnErr result (self.new ≡ self.old) }
+    {
+        if self.late.is_empty() && is_behind(&self.rising, node) {
+            self.rising.push((node, value))?;
+            return Ok(());
+        }
+        match place_of(&self.rising, node) {
+            Some(place) => self.rising[place].1 = value,
+            None => {
+                self.late.insert(node, value)?;
+            }
+        }
+        Ok(())
+    }
+}
