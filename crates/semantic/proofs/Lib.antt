@@ -30,3 +30,4 @@ pub mod PlaceRows
 pub mod PlaceFunctions
 pub mod BindArms
 pub mod EnterSteps
+pub mod LentBeside

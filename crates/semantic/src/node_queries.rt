@@ -1,6 +1,7 @@
 //! Queries over the nodes that an analysis keeps.
 
 ghost use Rattle.std.specs.Prelude.{◌≡◌, ◌<◌, [], Some, IfSome, length, slice_get};
+ghost use Rattle.std.specs.Borrow.{sem};
 ghost use Rattle.std.specs.Option.{option_map};
 ghost use Rattle.std.specs.Str.{chars};
 ghost use Rattle.semantic_kinds.specs.declared.kind.AstType.TheVariants.{IdentifierReference as identifier_reference};
@@ -8,6 +9,7 @@ ghost use Rattle.node_store.specs.NodeList.{node_at, no_nodes};
 ghost use Rattle.node_store.specs.Seen.{seen};
 ghost use Rattle.scoping.specs.Reading.{symbol_of};
 ghost use Rattle.semantic.specs.FreeReference.{is_free_at};
+ghost use Rattle.semantic.specs.Lending.{LendsScoping};
 
 use crate::semantic::Semantic;
 use node_store::{AstNode, AstNodes};
@@ -32,6 +34,7 @@ impl<'a> Semantic<'a> {
 
     /// The scopes, symbols, bindings and references, to be changed, and the nodes.
     pub fn scoping_mut_and_nodes(&mut self) -> (&mut Scoping, &AstNodes<'a>)
+        ensures* writes_back { sem 𝓛 (LendsScoping self.entry result.0) }
         ensures scoping { result.0.now ≡ self.old.scoping }
         ensures nodes { result.1.now ≡ self.old.nodes }
     {
