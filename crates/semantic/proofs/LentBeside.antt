@@ -53,7 +53,7 @@ module _ {M : Type 1} {𝓤 : Ura M} (𝓛 : Logic 𝓤) (R T N : RattleType) (�
   lends_beside out back shares in_time =
       let Beside : Fml = part_at N full_share z b j in
       let again : (w : T.Denot) → ent 𝓤 (sep 𝓤 (sem 𝓛 (part_at T full_share w b i)) (sep 𝓤 (sem 𝓛 (fseps (Beside ∷ []))) Rest)) (sem 𝓛 (part_at R full_share (put w) b o)) = λ w.
-          qed 𝓛 (‵ (part_at T full_share w b i) ∷ (‵ Beside ⊛ ‵ ftrue) ∷ raw Rest ∷ []) ∵ move ! (1 ∷ []) $ split ! $ keep ! (2 ∷ 0 ∷ 3 ∷ []) $ by ! (back w) in
+      qed 𝓛 (‵ (part_at T full_share w b i) ∷ (‵ Beside ⊛ ‵ ftrue) ∷ raw Rest ∷ []) ∵ move ! (1 ∷ []) $ split ! $ keep ! (2 ∷ 0 ∷ 3 ∷ []) $ by ! (back w) in
       qed 𝓛 (‵ (fobs γ (R.coded.code x)) ∷ ‵ (fbor κ (Body (mem R) b o γ)) ∷ ‵ (flft κ q) ∷ []) ∵ updating ! $ open_ref ! tt (mem R) {b = b} {o = o} $
       use1 𝓛 (‵ (part_at T full_share y b i) ⊛ ‵ Beside ⊛ raw Rest) out $ split3 ! $ move ! (1 ∷ []) $ nothing ! $ move ! (1 ∷ 0 ∷ []) $ fjoin ! $
       -- [the shared part; the lent part; the rest; the open borrow; what the names say, in two entries]
