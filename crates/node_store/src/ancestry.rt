@@ -94,6 +94,20 @@ impl<'a, 'n> Ancestry<'a, 'n> {
         }
     }
 
+    /// What the nodes above the current one show, its parent first, by a path that is lent.
+    pub fn above(&self) -> AncestorKinds<'n, 'a>
+        requires { IsInStore self.now }
+        ensures { path_left result ≡ drop 1 (path_of self.now) }
+    {
+        match self {
+            Ancestry::Nodes {
+                nodes,
+                current_node_id,
+            } => nodes.path(*current_node_id).above(),
+            Ancestry::Stack(stack) => stack.ancestor_kinds(),
+        }
+    }
+
     /// What the nodes on the path show from the one with this id on, or from the current one on where
     /// none is asked for; nothing where it is not on the path.
     pub fn ancestor_kinds_from(self, from: Option<NodeId>) -> AncestorKinds<'n, 'a>

@@ -6,8 +6,6 @@ pub mod diagnostic;
 pub mod diagnostics;
 pub mod makers;
 mod parts;
-#[cfg(test)]
-mod tests;
 mod texts;
 
 pub use contexts::{ReservedKeywordContext, UnexpectedIdentifierAssignContext};

@@ -25,6 +25,3 @@ pub use source_type::{Goal, Lang, SourceType};
 pub use spans::Span;
 pub use symbol_flags::SymbolFlags;
 pub use texts::{Ident, Text};
-
-#[cfg(test)]
-mod tests;

@@ -29,6 +29,3 @@ pub use place::Place;
 pub use program::Program;
 pub use semantic_kinds::{AstType, Mark, Marks, Role};
 pub use view::{AstKind, ChildIter};
-
-#[cfg(test)]
-mod tests;

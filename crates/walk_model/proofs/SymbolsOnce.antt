@@ -28,7 +28,7 @@ absent x (y ∷ ys) e = by (y == x) e (absent x ys)
     by false q rest = rest (omega (arith, q))
 
 -- numbers that stand in a list no more than once
-distinct : (ys : List ℕ) → ((x : ℕ) → times x ys ≤ 1) → AreDistinct ys
+pub distinct : (ys : List ℕ) → ((x : ℕ) → times x ys ≤ 1) → AreDistinct ys
 distinct [] h = tt
 distinct (y ∷ ys) h = (
   elim (eqb_tells y y) [
@@ -140,7 +140,7 @@ module _ (x : ℕ) where
   run_times (takes_over c b ∷ es) st = run_times es (act st (takes_over c b))
   run_times (ends_header c ∷ es) st = run_times es (act st (ends_header c))
 
-  symbols_times : (p : Tree) → first_fault p ≡ None → IsNumbered p.root → made_times (run start (events (steps p))).made ≤ 1
+  pub symbols_times : (p : Tree) → first_fault p ≡ None → IsNumbered p.root → made_times (run start (events (steps p))).made ≤ 1
   symbols_times p h e = omega (
     arith,
     run_times (events (steps p)) start,

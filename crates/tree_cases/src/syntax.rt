@@ -1,5 +1,5 @@
 //! What no clause says: the sets of flags that the rules write out, and that a text is made.
-use crate::{Ident, NodeId, ReferenceFlags, ScopeFlags, Span, SymbolFlags, Text};
+use semantic_syntax::{Ident, NodeId, ReferenceFlags, ScopeFlags, Span, SymbolFlags, Text};
 use std::test::Fail;
 
 #[test]

@@ -1,9 +1,9 @@
 //! What no clause says: that trees are made, that a program is, and that the faults meant are told.
-use crate::{
+use semantic_syntax::{Goal, Lang, SourceType, Span, Text};
+use semantic_tree::{
     AstKind, AstType, Comment, CommentKind, Marks, Node, Program, Role, TreeError, comments_range,
     get_comment_at, has_comments_between, is_inside_comment,
 };
-use semantic_syntax::{Goal, Lang, SourceType, Span, Text};
 use std::alloc::{AllocError, Global};
 use std::test::Fail;
 

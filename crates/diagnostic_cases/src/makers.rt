@@ -1,5 +1,5 @@
 //! What no clause says: that each maker is called, and its whole text.
-use crate::{
+use semantic_diagnostics::{
     Diagnostic, Diagnostics, ReservedKeywordContext, UnexpectedIdentifierAssignContext, makers,
 };
 use semantic_syntax::{Span, Text};

@@ -1,0 +1,7 @@
+//! Cases of the values and the tree, through their public calls.
+#![tactic(auto)]
+
+#[cfg(test)]
+mod syntax;
+#[cfg(test)]
+mod tree;
