@@ -159,11 +159,11 @@ def main(words):
             costs.look()
             time.sleep(EVERY)
     used = resource.getrusage(resource.RUSAGE_CHILDREN)
-    whole = used.ru_utime + used.ru_stime
+    whole = max(used.ru_utime + used.ru_stime, sum(costs.seconds.values()))
     print("\nprocessor seconds")
     print_table(costs)
     print_edits(costs)
-    rest = max(whole - sum(costs.seconds.values()), 0)
+    rest = whole - sum(costs.seconds.values())
     minutes = (time.monotonic() - begun) / 60
     print(f"\n{whole / 60:.1f} processor minutes, {rest:.0f} seconds of them of no crate, in {minutes:.1f} minutes")
     return gate.returncode if gate.returncode >= 0 else 128 - gate.returncode

@@ -4,8 +4,7 @@ ghost use Rattle.semantic_kinds.specs.declared.kind.AstType.TheVariants.{Program
 
 use crate::trees::leaf;
 use node_store::{
-    AncestorKinds, Ancestry, AncestryStack, AstNodeStore, AstNodes, AstTypesBitset,
-    EnteredNodes,
+    AncestorKinds, Ancestry, AncestryStack, AstNodeStore, AstNodes, AstTypesBitset, EnteredNodes,
 };
 use semantic_syntax::{NodeFlags, NodeId, ScopeId};
 use semantic_tree::{AstKind, AstType, Node};
@@ -76,6 +75,13 @@ fn a_stack_tells_the_path(rt: HostRuntime) -> Result<(), Fail> {
     Ok(())
 }
 
+/// Puts the first statement of others in the place of the root.
+fn put_first<'a>(nodes: &mut AstNodes<'a>, others: &AstNodes<'a>) {
+    if nodes.len() > 0 && others.len() > 1 {
+        nodes.set_node(NodeId::ROOT, others.get_node(NodeId::new(1)));
+    }
+}
+
 #[test]
 fn a_node_is_put_in_place_of_another(rt: HostRuntime) -> Result<(), Fail> {
     let root = root(rt.alloc())?;
@@ -88,7 +94,7 @@ fn a_node_is_put_in_place_of_another(rt: HostRuntime) -> Result<(), Fail> {
     let mut others = AstNodes::new(rt.alloc());
     others.add_program_node(AstKind::new(&root), scope, flags)?;
     others.add_node(first, AstKind::new(&statement), scope, NodeId::ROOT, flags)?;
-    nodes.set_node(NodeId::ROOT, others.get_node(first));
+    put_first(&mut nodes, &others);
     assert!(rt; nodes.contains(AstType::VariableDeclaration));
     Ok(())
 }
