@@ -75,30 +75,6 @@ fn a_stack_tells_the_path(rt: HostRuntime) -> Result<(), Fail> {
     Ok(())
 }
 
-/// Puts the first statement of others in the place of the root.
-fn put_first<'a>(nodes: &mut AstNodes<'a>, others: &AstNodes<'a>) {
-    if nodes.len() > 0 && others.len() > 1 {
-        nodes.set_node(NodeId::ROOT, others.get_node(NodeId::new(1)));
-    }
-}
-
-#[test]
-fn a_node_is_put_in_place_of_another(rt: HostRuntime) -> Result<(), Fail> {
-    let root = root(rt.alloc())?;
-    let statement = statement(rt.alloc())?;
-    let scope = ScopeId::new(0);
-    let first = NodeId::new(1);
-    let flags = NodeFlags::empty();
-    let mut nodes = AstNodes::new(rt.alloc());
-    nodes.add_program_node(AstKind::new(&root), scope, flags)?;
-    let mut others = AstNodes::new(rt.alloc());
-    others.add_program_node(AstKind::new(&root), scope, flags)?;
-    others.add_node(first, AstKind::new(&statement), scope, NodeId::ROOT, flags)?;
-    put_first(&mut nodes, &others);
-    assert!(rt; nodes.contains(AstType::VariableDeclaration));
-    Ok(())
-}
-
 #[test]
 fn room_is_no_node(rt: HostRuntime) -> Result<(), Fail> {
     let mut store = AstNodeStore::new(rt.alloc());
