@@ -1,16 +1,10 @@
 'use strict';
 // A line of the source with a mark below it.
 
+const { visible } = require('./visible.js');
+
 // How far from the place a long line is shown, in units of the string.
 const AROUND = 60;
-
-// Control characters are shown as pictures, so that a source can't steer the terminal. A tab stays.
-function visible(text) {
-  return text.replace(/[\u0000-\u0008\u000a-\u001f\u007f-\u009f\u2028\u2029]/g, (sign) => {
-    const code = sign.charCodeAt(0);
-    return code < 0x20 ? String.fromCharCode(0x2400 + code) : '\u2421';
-  });
-}
 
 // What stands below characters that aren't marked: tabs stay, so that the mark stands below its place.
 function blank(text) {
@@ -52,4 +46,4 @@ function excerpt(positions, span, said) {
   ];
 }
 
-module.exports = { excerpt, visible };
+module.exports = { excerpt };

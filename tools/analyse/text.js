@@ -1,8 +1,9 @@
 'use strict';
 // The report for people: diagnostics and unused labels, each with its line of source.
 
-const { excerpt, visible } = require('./excerpt.js');
+const { excerpt } = require('./excerpt.js');
 const { printable } = require('./refusal.js');
+const { visible } = require('./visible.js');
 
 function placed(analysis, span) {
   const place = analysis.positions.placeOf(span.start);
