@@ -16,6 +16,19 @@ function withLineFeeds(raw) {
   return raw.replace(/\r\n?/g, '\n');
 }
 
+const ESCAPE = /\\(?:u\{([0-9a-fA-F]+)\}|u([0-9a-fA-F]{4})|x([0-9a-fA-F]{2})|([0-3][0-7]{0,2}|[4-7][0-7]?)|(\r\n|[^]))/g;
+const SINGLE = { b: '\b', f: '\f', n: '\n', r: '\r', t: '\t', v: '\v', '\n': '', '\r': '', '\r\n': '', '\u2028': '', '\u2029': '' };
+
+// The value of a string as it is spelled, without its quotes. Octal escapes count as old scripts have them.
+function stringValue(raw) {
+  return raw.replace(ESCAPE, (_, braced, four, two, octal, other) => {
+    const hex = braced || four || two;
+    if (hex) return String.fromCodePoint(parseInt(hex, 16));
+    if (octal) return String.fromCharCode(parseInt(octal, 8));
+    return other in SINGLE ? SINGLE[other] : other;
+  });
+}
+
 // The mark of a number literal.
 function numberBase(raw) {
   if (/^0[bB]/.test(raw)) return 'binary';
@@ -30,4 +43,4 @@ function isJsxReference(name) {
   return !/^[a-z]/.test(name) && !name.includes('-');
 }
 
-module.exports = { wholeCharacters, withLineFeeds, numberBase, isJsxReference };
+module.exports = { wholeCharacters, withLineFeeds, numberBase, stringValue, isJsxReference };

@@ -70,4 +70,12 @@ function closingEnd(text, from, mark) {
   return text[at] === mark ? at + 1 : from;
 }
 
-module.exports = { skipTrivia, nameEnd, openParenthesis, closingEnd, lineEndFrom };
+// The end of a member of a type without the mark that parts it from the next.
+function withoutSeparator(text, end) {
+  if (text[end - 1] !== ';' && text[end - 1] !== ',') return end;
+  let at = end - 1;
+  while (isSpace(text.charCodeAt(at - 1))) at--;
+  return at;
+}
+
+module.exports = { skipTrivia, nameEnd, openParenthesis, closingEnd, lineEndFrom, withoutSeparator };
