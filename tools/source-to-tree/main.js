@@ -1,0 +1,85 @@
+'use strict';
+// Reads a source file and writes its tree's JSON to standard output.
+
+const fs = require('fs');
+const { treeOf, Refusal } = require('./convert');
+
+const USAGE = 'usage: main.js [--parser acorn|typescript|estree] [--goal script|module|commonjs] [--source FILE] [--time] FILE';
+const CHOICES = { '--parser': ['acorn', 'typescript', 'estree'], '--goal': ['script', 'module', 'commonjs'], '--source': null };
+
+function optionsOf(words) {
+  const options = { time: false };
+  for (let i = 0; i < words.length; i++) {
+    const word = words[i];
+    if (word === '--time') options.time = true;
+    else if (word in CHOICES) {
+      const choice = words[++i];
+      if (choice === undefined || (CHOICES[word] && !CHOICES[word].includes(choice))) return null;
+      options[word.slice(2)] = choice;
+    } else if (word.startsWith('--') || options.file !== undefined) return null;
+    else options.file = word;
+  }
+  return options.file === undefined ? null : options;
+}
+
+const READING = { ENOENT: 'no such file', EISDIR: 'is a folder', EACCES: "can't be read: permission denied" };
+
+// The text of a file, refused where it isn't there or isn't UTF-8.
+function readText(file) {
+  let bytes;
+  try {
+    bytes = fs.readFileSync(file);
+  } catch (error) {
+    throw new Refusal(READING[error.code] || error.message);
+  }
+  try {
+    return new TextDecoder('utf-8', { fatal: true, ignoreBOM: true }).decode(bytes);
+  } catch {
+    throw new Refusal('not UTF-8');
+  }
+}
+
+// Writes all bytes; a pipe may take a part, or none for a moment.
+function writeOut(bytes) {
+  for (let at = 0; at < bytes.length;) {
+    try {
+      at += fs.writeSync(1, bytes, at);
+    } catch (error) {
+      if (error.code !== 'EAGAIN') throw error;
+    }
+  }
+}
+
+function report(file, error) {
+  process.stderr.write(`${error.lineFor(file)}\n`);
+  return 1;
+}
+
+function convert(options) {
+  const clock = {};
+  const { json } = treeOf(readText(options.file), { ...options, filename: options.file, clock });
+  const started = performance.now();
+  writeOut(json);
+  clock.writing = performance.now() - started;
+  if (options.time) {
+    const times = Object.entries(clock).map(([part, ms]) => `${part} ${ms.toFixed(1)} ms`);
+    process.stderr.write(`${times.join(', ')}\n`);
+  }
+  return 0;
+}
+
+function main(words) {
+  const options = optionsOf(words);
+  if (options === null) {
+    process.stderr.write(`${USAGE}\n`);
+    return 2;
+  }
+  try {
+    return convert(options);
+  } catch (error) {
+    if (error instanceof Refusal) return report(options.file, error);
+    throw error;
+  }
+}
+
+process.exitCode = main(process.argv.slice(2));
