@@ -21,8 +21,8 @@ Analyses JavaScript and TypeScript files. One file gives its report; several giv
 
   --text     for people: diagnostics with their lines of source, and unused labels
   --json     for programs: one object a file, one a line (docs/analyse.md)
-  --time     how long the parser and the analysis took, on standard error
-  --parser P acorn, typescript or estree (a file that holds an ESTree); else by the file's ending
+  --time     how long reading, parser, conversion to a tree and analysis took, on standard error
+  --parser P acorn or typescript; else by the file's ending (.js .mjs .cjs by acorn)
   --goal G   script, module or commonjs; else by the file's ending
   --tree     the files hold trees already, as JSON
   --check --nodes --classes --stats go on to the report program.

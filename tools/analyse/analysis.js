@@ -5,62 +5,73 @@ const { Positions } = require('./positions.js');
 const { Refusal } = require('./refusal.js');
 const { RefusedTree, runReport } = require('./program.js');
 const { checkSize } = require('./files.js');
-const { convert, readTree, rowOf, textOf } = require('./tree.js');
+const { convert, readTree } = require('./tree.js');
 const { parseReport } = require('./report-parser.js');
 
 const DEEPEST = '1,000';
 
-// Times what `work` does, in milliseconds, under this name.
-function timed(times, name, work) {
-  const start = process.hrtime.bigint();
+// Whether the tree has a row of this number; a refused tree may be anything.
+function hasRow(tree, id) {
   try {
-    return work();
-  } finally {
-    times[name] = Number(process.hrtime.bigint() - start) / 1e6;
+    return Array.isArray(tree.value.rows[id]) && typeof tree.value.source === 'string';
+  } catch {
+    return false;
   }
 }
 
 // What is said of a tree that the program refused, with the place of the node to blame.
 function explain(refusal, tree) {
   const { cause, kind, id } = refusal;
-  if (kind !== 'node' || tree.rows === undefined || tree.rows[id] === undefined) {
-    return new Refusal(`its tree is refused: ${cause}${id === null ? '' : ` at ${kind} ${id}`}`);
+  if (kind !== 'node' || !hasRow(tree, id)) {
+    return new Refusal(`its tree is refused: ${cause}${kind === undefined ? '' : ` at ${kind} ${id}`}`);
   }
-  const row = rowOf(tree, id);
-  const place = new Positions(tree.source).placeOf(row.span.start);
+  const row = tree.row(id);
+  const place = new Positions(tree.value.source).placeOf(row.span.start);
   if (cause === 'too deep') {
     return new Refusal(`too deep: its tree has more than ${DEEPEST} levels`, place);
   }
   return new Refusal(`its tree is refused: ${cause} at node ${id} (${row.kind})`, place);
 }
 
-function askProgram(treeText, words, tree) {
+function askProgram(tree, words) {
   try {
-    return runReport(treeText, words);
+    return runReport(tree.json, words);
   } catch (error) {
     throw error instanceof RefusedTree ? explain(error.refusal, tree) : error;
   }
 }
 
-// The tree of a file and the text of its report.
+// The tree of a file and the text of its report, with the milliseconds of each part.
 function analyseFile(file, settings) {
-  const times = {};
-  const tree = timed(times, 'parser', () => (settings.tree ? readTree(file) : convert(file, settings)));
-  const treeText = timed(times, 'tree', () => textOf(tree));
-  checkSize(Buffer.byteLength(treeText, 'utf8'), 'its tree');
-  const answer = timed(times, 'analysis', () => askProgram(treeText, settings.words, tree));
+  const clock = { parser: 0, conversion: 0 };
+  const started = performance.now();
+  const tree = settings.tree ? readTree(file) : convert(file, settings, clock);
+  const converted = performance.now();
+  checkSize(tree.json.length, 'its tree');
+  const answer = askProgram(tree, settings.words);
+  const times = {
+    reading: converted - started - clock.parser - clock.conversion,
+    parser: clock.parser,
+    conversion: clock.conversion,
+    analysis: performance.now() - converted,
+  };
   return { file, tree, bytes: answer.bytes, diagnosed: answer.diagnosed, times };
 }
 
 // The same with the report read, and the places of its nodes.
 function readAnalysis(analysis) {
+  const { file, tree } = analysis;
   const report = parseReport(analysis.bytes.toString('utf8'));
+  const { source, goal, lang, comments } = tree.value;
   return {
-    file: analysis.file,
-    tree: analysis.tree,
+    file,
+    goal,
+    lang,
+    comments,
     report,
-    positions: new Positions(analysis.tree.source),
-    spanOf: (node) => rowOf(analysis.tree, node).span,
+    positions: new Positions(source),
+    kindOf: (node) => tree.row(node).kind,
+    spanOf: (node) => tree.row(node).span,
   };
 }
 

@@ -13,7 +13,7 @@ function nodeSpan(analysis, node) {
 }
 
 function scopeObject(analysis, scope) {
-  const kind = analysis.tree.rows[scope.node][2];
+  const kind = analysis.kindOf(scope.node);
   return { ...scope, kind, span: nodeSpan(analysis, scope.node) };
 }
 
@@ -53,11 +53,11 @@ function askedFor(analysis) {
 }
 
 function jsonObject(analysis) {
-  const { report, tree } = analysis;
+  const { report } = analysis;
   return {
     file: analysis.file,
-    goal: tree.goal,
-    lang: tree.lang,
+    goal: analysis.goal,
+    lang: analysis.lang,
     scopes: report.scopes.map((scope) => scopeObject(analysis, scope)),
     symbols: report.symbols.map((symbol) => symbolObject(analysis, symbol)),
     references: report.references.map((entry) => ({ ...entry, span: nodeSpan(analysis, entry.node) })),

@@ -43,8 +43,9 @@ function lastAtMost(list, value) {
   return low;
 }
 
+// A byte order mark belongs to no line.
 function lineStartsOf(text) {
-  const starts = [0];
+  const starts = [text.startsWith('\ufeff') ? 1 : 0];
   for (const end of text.matchAll(LINE_ENDS)) {
     starts.push(end.index + end[0].length);
   }
@@ -116,12 +117,16 @@ class Positions {
     return lastAtMost(this.lineStarts, index);
   }
 
-  // Line and column of a byte, for people.
-  placeOf(byte) {
-    const index = this.indexOf(byte);
+  // Line and column, for people, of a place in the string.
+  placeAt(index) {
     const line = this.lineOf(index);
     const before = this.charactersBefore(this.lineStarts[line]);
-    return { line: line + 1, column: this.charactersBefore(index) - before + 1 };
+    return { line: line + 1, column: Math.max(1, this.charactersBefore(index) - before + 1) };
+  }
+
+  // Line and column of a byte.
+  placeOf(byte) {
+    return this.placeAt(this.indexOf(byte));
   }
 
   // Where the text of a line, from 0, ends: before what ends the line.

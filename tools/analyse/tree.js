@@ -1,52 +1,65 @@
 'use strict';
-// The tree of a file, as text for the report program and as rows.
+// The tree of a file: its text for the report program, and its rows.
 
 const path = require('path');
-const { Refusal } = require('./refusal.js');
 const { readText } = require('./files.js');
+const { Positions } = require('./positions.js');
+const { Refusal } = require('./refusal.js');
 
 const CONVERTER = path.join(__dirname, '..', 'source-to-tree', 'convert.js');
 
-// A stack that ran out is that of a parser, which goes as deep as the source does.
-function refusalOf(error) {
+// What a fault of the converter means for the file. A parser's place counts units of the string.
+function refusalOf(error, source) {
   if (error instanceof RangeError && /call stack/i.test(error.message)) {
-    return new Refusal('too deep: the parser has no room for so many levels');
+    return new Refusal('too deep');
   }
-  if (error instanceof RangeError || /heap|allocation/i.test(error.message)) {
-    return new Refusal(`too large: ${error.message}`);
+  if (error.name !== 'Refusal') {
+    return new Refusal(`its tree can't be made: ${error.message}`);
   }
-  return new Refusal(error.message, { line: error.line, column: error.column });
+  if (typeof error.offset !== 'number') {
+    return new Refusal(error.message);
+  }
+  const mark = source.startsWith('\ufeff') ? 1 : 0;
+  return new Refusal(error.message, new Positions(source).placeAt(error.offset + mark));
 }
 
-// The tree that a parser makes of the source.
-function convert(file, settings) {
+// A tree's text, and the tree itself once it is asked for.
+class Tree {
+  constructor(json) {
+    this.json = json;
+    this.read = null;
+  }
+
+  get value() {
+    if (this.read === null) {
+      this.read = JSON.parse(this.json.toString('utf8'));
+    }
+    return this.read;
+  }
+
+  // One row, by the number of its node.
+  row(node) {
+    const [depth, role, kind, start, end, text, marks] = this.value.rows[node];
+    return { depth, role, kind, span: { start, end }, text, marks };
+  }
+}
+
+// The tree that a parser makes of the source. `clock` gets the milliseconds of parser and conversion.
+function convert(file, settings, clock) {
   const source = readText(file);
   const { treeOf } = require(CONVERTER);
   try {
-    return treeOf(source, { filename: file, parser: settings.parser, goal: settings.goal });
+    const { parser, goal } = settings;
+    const options = { filename: file, clock, ...(parser && { parser }), ...(goal && { goal }) };
+    return new Tree(Buffer.from(treeOf(source, options).json));
   } catch (error) {
-    throw refusalOf(error);
+    throw refusalOf(error, source);
   }
 }
 
 // A tree that stands in the file already.
 function readTree(file) {
-  try {
-    return JSON.parse(readText(file));
-  } catch (error) {
-    throw error instanceof Refusal ? error : new Refusal(`not JSON: ${error.message}`);
-  }
+  return new Tree(Buffer.from(readText(file), 'utf8'));
 }
 
-// The text of the tree's JSON.
-function textOf(tree) {
-  return typeof tree === 'string' ? tree : JSON.stringify(tree);
-}
-
-// One row of the tree, by the number of its node.
-function rowOf(tree, node) {
-  const [depth, role, kind, start, end, text, marks] = tree.rows[node];
-  return { depth, role, kind, span: { start, end }, text, marks };
-}
-
-module.exports = { convert, readTree, rowOf, textOf };
+module.exports = { convert, readTree };

@@ -7,7 +7,7 @@ class WordFault extends Error {}
 // Words that go on to the report program as they are.
 const REPORT_WORDS = ['--check', '--nodes', '--classes', '--stats'];
 
-const PARSERS = ['acorn', 'typescript', 'estree'];
+const PARSERS = ['acorn', 'typescript'];
 const GOALS = ['script', 'module', 'commonjs'];
 
 function oneOf(word, value, known) {

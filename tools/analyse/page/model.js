@@ -23,7 +23,7 @@ function declarationsOf(positions, symbol) {
 function scopeModel(analysis, scope) {
   const span = placed(analysis.positions, analysis.spanOf(scope.node));
   const last = analysis.positions.lineOf(Math.max(span.start, span.end - 1)) + 1;
-  return { ...scope, span, lastLine: last, kind: scopeKind(analysis.tree.rows[scope.node][2]) };
+  return { ...scope, span, lastLine: last, kind: scopeKind(analysis.kindOf(scope.node)) };
 }
 
 // The root's scope holds the whole file, also what stands before and behind the program's span.
@@ -45,11 +45,11 @@ function unusedLabelModel(analysis, label) {
 }
 
 function modelOf(analysis) {
-  const { report, positions, tree } = analysis;
+  const { report, positions } = analysis;
   return {
     file: analysis.file,
-    goal: tree.goal,
-    lang: tree.lang,
+    goal: analysis.goal,
+    lang: analysis.lang,
     positions,
     scopes: scopeModels(analysis),
     symbols: report.symbols.map((symbol) => ({ ...symbol, declarations: declarationsOf(positions, symbol) })),
@@ -57,7 +57,7 @@ function modelOf(analysis) {
     free: report.free,
     unusedLabels: report.unusedLabels.map((label) => unusedLabelModel(analysis, label)),
     diagnostics: report.diagnostics.map((diagnostic) => diagnosticModel(positions, diagnostic)),
-    comments: tree.comments.map(([start, end]) => placed(positions, { start, end })),
+    comments: analysis.comments.map(([start, end]) => placed(positions, { start, end })),
   };
 }
 
