@@ -51,6 +51,7 @@ function readWords(words, own, settings) {
   return settings;
 }
 
+// What all commands begin with.
 function emptySettings() {
   return { files: [], words: [], tree: false, help: false, parser: undefined, goal: undefined };
 }
