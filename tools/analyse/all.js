@@ -6,13 +6,13 @@ const { spawnSync } = require('child_process');
 const fs = require('fs');
 const os = require('os');
 const path = require('path');
+const { packBundles, unpackAnswers } = require('./bundles.js');
 const { summarise } = require('./collect.js');
 const { checkEngine, runJobs } = require('./engine.js');
 const { sourceFiles } = require('./folder.js');
 const { batchSize, dealt } = require('./jobs.js');
 const { say, tell } = require('./output.js');
 const { ProgramFault, programPath } = require('./program.js');
-const { endingOf } = require('./results.js');
 const { WordFault, emptySettings, readWords } = require('./words.js');
 
 const USAGE = 'usage: analyse-all [--json|--text|--report] [--out OUT] [--resume] [--jobs N] [--batch N] [--node-modules] [--sshloginfile FILE [--transfer]] [words of analyse] FOLDER';
@@ -29,7 +29,7 @@ there are processors, several files a job.
   --batch N               how many files a job has
   --node-modules          folders of that name too
   --sshloginfile FILE     the machines to use, as GNU parallel reads them; all see FOLDER, OUT and this clone in one place
-  --transfer              the machines don't see FOLDER and OUT: files are copied there and results back, by rsync
+  --transfer              the machines don't see FOLDER and OUT: bundles of files go there and results come back, by rsync
 
 In OUT: results/ has a result for each file, summary.jsonl a row for each (its counts, or why it was refused), joblog what
 each job took.
@@ -75,6 +75,9 @@ function settingsOf(words) {
   if (!isFolder(settings.files[0])) {
     throw new WordFault(`${settings.files[0]} is no folder`);
   }
+  if (settings.transfer && settings.machines === null) {
+    throw new WordFault('--transfer wants --sshloginfile');
+  }
   return settings;
 }
 
@@ -85,7 +88,10 @@ function placesOf(settings) {
     out,
     folder: path.resolve(settings.files[0]),
     results: path.join(out, 'results'),
-    list: path.join(out, 'files'),
+    files: path.join(out, 'files'),
+    jobs: path.join(out, 'jobs'),
+    bundles: path.join(out, 'bundles'),
+    answers: path.join(out, 'answers'),
     asked: path.join(out, 'asked.json'),
     joblog: path.join(out, 'joblog'),
     rows: path.join(out, 'rows.jsonl'),
@@ -95,8 +101,12 @@ function placesOf(settings) {
 
 // What may not change when a run goes on.
 function askedOf(settings, places, batch) {
-  const { form, words, parser, goal } = settings;
-  return { folder: places.folder, batch, form, words, parser: parser || null, goal: goal || null };
+  const { form, words, parser, goal, transfer } = settings;
+  return { folder: places.folder, batch, form, words, parser: parser || null, goal: goal || null, transfer };
+}
+
+function writeNames(file, names) {
+  fs.writeFileSync(file, names.map((name) => `${name}\0`).join(''));
 }
 
 // Lists the files of a new run and deals them to jobs.
@@ -107,8 +117,10 @@ function begin(settings, places) {
   const skips = (name, whole) => whole === places.out || (name === 'node_modules' && !settings.nodeModules);
   const files = sourceFiles(places.folder, skips);
   const batch = settings.batch || batchSize(files.length, os.availableParallelism());
+  const names = dealt(files, batch).map((file) => file.name);
   fs.mkdirSync(places.results, { recursive: true });
-  fs.writeFileSync(places.list, dealt(files, batch).map((file) => `${file.name}\0`).join(''));
+  writeNames(places.files, names);
+  writeNames(places.jobs, settings.transfer ? packBundles(places, names, batch) : names);
   fs.writeFileSync(places.rows, '');
   fs.writeFileSync(places.asked, JSON.stringify(askedOf(settings, places, batch)));
   return batch;
@@ -139,23 +151,24 @@ function buildProgram() {
 }
 
 function runOf(settings, places, batch) {
-  const { form, words, parser, goal } = settings;
+  const { form, words, parser, goal, transfer } = settings;
   return {
-    ...places,
-    batch,
-    ending: endingOf(form),
+    out: places.out,
+    list: places.jobs,
+    joblog: places.joblog,
+    batch: transfer ? 1 : batch,
     resume: settings.resume,
     jobs: settings.jobs,
     bar: process.stderr.isTTY === true,
     machines: settings.machines === null ? null : path.resolve(settings.machines),
-    transfer: settings.transfer,
-    settings: { folder: places.folder, results: places.results, form, words, parser, goal },
+    transfer,
+    settings: { folder: places.folder, results: places.results, bundled: transfer, form, words, parser, goal },
   };
 }
 
 // Writes the summary and prints its end.
 function conclude(settings, places, ended) {
-  const names = fs.readFileSync(places.list, 'utf8').split('\0').slice(0, -1).sort();
+  const names = fs.readFileSync(places.files, 'utf8').split('\0').slice(0, -1).sort();
   const { rows, sum, missing, lines } = summarise(names, places.rows);
   fs.writeFileSync(places.summary, rows.map((row) => `${JSON.stringify(row)}\n`).join(''));
   say(lines.map((line) => `${line}\n`).join(''));
@@ -174,6 +187,9 @@ async function analyseAll(settings) {
   buildProgram();
   const rows = fs.openSync(places.rows, 'a');
   const ended = await runJobs(runOf(settings, places, batch), rows);
+  if (settings.transfer) {
+    unpackAnswers(places);
+  }
   return conclude(settings, places, ended);
 }
 

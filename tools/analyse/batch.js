@@ -1,10 +1,13 @@
 #!/usr/bin/env node
 'use strict';
-// One job of bin/analyse-all: batch.js SETTINGS FILE.. writes the result of each file below a folder, and a row on
-// standard output for each. SETTINGS is JSON. Status 0 says that all have their results, refused files too.
+// One job of bin/analyse-all: batch.js SETTINGS NAME.. writes the result of each file, and a row on standard output for
+// each. SETTINGS is JSON. The names are those of files below a folder, or that of a bundle of files, which is answered by
+// a bundle of results. Status 0 says that all have their results, refused files too.
 
 const fs = require('fs');
 const path = require('path');
+const { pack, unpack } = require('./bundles.js');
+const { sourceFiles } = require('./folder.js');
 const { say, tell } = require('./output.js');
 const { endingOf, resultOf } = require('./results.js');
 
@@ -18,11 +21,35 @@ function analyse(name, settings) {
   return row;
 }
 
+function analyseFiles(names, settings) {
+  for (const name of names) {
+    say(`${JSON.stringify(analyse(name, settings))}\n`);
+  }
+}
+
+// Answers `bundles/NAME` by `answers/NAME`, both below the current folder.
+function analyseBundle(bundle, settings) {
+  const scratch = fs.mkdtempSync(path.join(process.cwd(), 'job-'));
+  try {
+    const folder = path.join(scratch, 'files');
+    const results = path.join(scratch, 'results');
+    unpack(path.join('bundles', bundle), folder);
+    fs.mkdirSync(results);
+    analyseFiles(sourceFiles(folder, () => false).map((file) => file.name), { ...settings, folder, results });
+    fs.mkdirSync('answers', { recursive: true });
+    pack(path.resolve('answers', bundle), results, ['.']);
+  } finally {
+    fs.rmSync(scratch, { recursive: true, force: true });
+  }
+}
+
 function main([text, ...names]) {
   const settings = JSON.parse(text);
   try {
-    for (const name of names) {
-      say(`${JSON.stringify(analyse(name, settings))}\n`);
+    if (settings.bundled) {
+      analyseBundle(names[0], settings);
+    } else {
+      analyseFiles(names, settings);
     }
     return 0;
   } catch (error) {

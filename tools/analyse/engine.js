@@ -24,17 +24,13 @@ function jobCommand(settings) {
   return `${report} node --max-old-space-size=8192 --stack-size=3900 ${quoted(BATCH)} ${quoted(words)} {}`;
 }
 
-// Where the jobs of other machines find the files: in the same folder, which they share, or in copies.
+// What the engine does for other machines. Bundles go to a folder there that is taken away again.
 function machineWords(run) {
-  if (run.machines === null) {
-    return [];
-  }
-  const words = ['--sshloginfile', run.machines];
+  const machines = run.machines === null ? [] : ['--sshloginfile', run.machines];
   if (!run.transfer) {
-    return words;
+    return machines;
   }
-  const returned = `${path.basename(run.results)}/{}${run.ending}`;
-  return [...words, '--workdir', '...', '--cleanup', '--transferfile', `${run.folder}/./{}`, '--return', returned];
+  return [...machines, '--workdir', '...', '--cleanup', '--transferfile', 'bundles/{}', '--return', 'answers/{}'];
 }
 
 function engineWords(run) {
@@ -44,7 +40,7 @@ function engineWords(run) {
     ...(run.jobs === null ? [] : ['--jobs', run.jobs]),
     ...(run.bar ? ['--bar'] : []),
     ...machineWords(run),
-    jobCommand(run.transfer ? { ...run.settings, folder: '.', results: path.basename(run.results) } : run.settings),
+    jobCommand(run.settings),
   ];
 }
 
