@@ -2,8 +2,10 @@
 // Compares the analyser's references and scopes with those of eslint-scope. Each difference is of a listed kind or unlisted;
 // docs/DIFFERENCES.md explains the listed kinds.
 
-const { Analysis } = require('./analysis');
+const { treeOf } = require('../source-to-tree/convert');
+const { Analysis, reportOf } = require('./analysis');
 const { EslintScopes } = require('./eslint-scope');
+const { SHOWN, NONE } = require('./differences');
 
 // True where a declaration of the symbol is a function in a block.
 const isBlockFunction = (ours, symbol) => symbol !== undefined && [...symbol.starts].some((start) => ours.blockFunctions.has(start));
@@ -123,4 +125,24 @@ function compareWithEslint(source, tree, report) {
   return { counts, unlisted, references: ours.references.length, scopes: ours.scopes.length };
 }
 
-module.exports = { compareWithEslint };
+function comparisonOf(source) {
+  const { json } = treeOf(source, { filename: 'x.js' });
+  return compareWithEslint(source, JSON.parse(json), reportOf(json).report);
+}
+
+// That each listed difference shows where it is said to, and no other there.
+function checkDifferences(tally) {
+  for (const [kind, sources] of Object.entries(SHOWN)) {
+    for (const source of sources) {
+      const { counts, unlisted } = comparisonOf(source);
+      const kinds = Object.keys(counts).join(', ');
+      tally.check(`${kind}: ${source}`, unlisted.length === 0 && kinds === kind, `${kinds}; ${unlisted.join('; ')}`);
+    }
+  }
+  for (const source of NONE) {
+    const { counts, unlisted } = comparisonOf(source);
+    tally.check(`no difference: ${source}`, unlisted.length === 0 && Object.keys(counts).length === 0, `${JSON.stringify(counts)} ${unlisted.join('; ')}`);
+  }
+}
+
+module.exports = { compareWithEslint, checkDifferences };

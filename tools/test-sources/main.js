@@ -5,6 +5,8 @@ const fs = require('fs');
 const path = require('path');
 const { Tally } = require('./tally');
 const { checkCases, checkStored } = require('./small');
+const { checkDifferences } = require('./compare-scopes');
+const { checkCommands } = require('./commands');
 const { Files } = require('./files');
 
 const INSTALLED = '/usr/share/nodejs';
@@ -34,6 +36,8 @@ function filesOf(words) {
 function main(words) {
   const tally = new Tally();
   checkCases(tally);
+  checkDifferences(tally);
+  checkCommands(tally);
   console.log(`${checkStored(tally)} stored trees`);
   const files = new Files(tally);
   for (const file of filesOf(words)) files.check(file);
