@@ -16,7 +16,7 @@ function languageOf(filename) {
 // The goal that the name alone decides, else undefined.
 function goalOf(filename) {
   if (/\.m[jt]s$/i.test(filename)) return 'module';
-  if (/\.c[jt]s$/i.test(filename)) return 'script';
+  if (/\.cjs$/i.test(filename)) return 'script';
   return undefined;
 }
 

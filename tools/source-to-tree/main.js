@@ -55,9 +55,27 @@ function report(file, error) {
   return 1;
 }
 
+// The source file and, for an ESTree in a file of its own, the tree: its source is the file of that name without `.json`.
+function inputOf({ file, parser, source }) {
+  if (parser !== 'estree') return { text: readText(file), filename: file };
+  const filename = source || file.replace(/\.json$/, '');
+  if (filename === file) throw new Refusal('an ESTree ends in .json, or comes with --source');
+  return { text: readText(filename), filename, tree: readTree(file) };
+}
+
+function readTree(file) {
+  try {
+    return JSON.parse(readText(file));
+  } catch (error) {
+    throw error instanceof Refusal ? error : new Refusal(`not JSON: ${error.message}`);
+  }
+}
+
 function convert(options) {
   const clock = {};
-  const { json } = treeOf(readText(options.file), { ...options, filename: options.file, clock });
+  const { text, filename, tree } = inputOf(options);
+  const { parser, goal } = options;
+  const { json } = treeOf(text, { filename, parser, goal, tree, clock });
   const started = performance.now();
   writeOut(json);
   clock.writing = performance.now() - started;

@@ -45,7 +45,7 @@ class TreeWriter {
     const comma = this.bytes === 0 && this.piece === '' ? '' : ',';
     this.piece += `${comma}[${depth},"${role}","${kind}",${at.at(start)},${at.at(end)},${quoted},[${marksText(marks)}]]`;
     if (this.piece.length > PIECE) this.flush();
-    this.notice(kind, depth, marks);
+    this.notice(kind, depth, text, marks);
     this.open_kinds.push(kind);
   }
 
@@ -59,11 +59,11 @@ class TreeWriter {
   }
 
   // What tells that the file is a module.
-  notice(kind, depth, marks) {
+  notice(kind, depth, text, marks) {
     if (FUNCTIONS.has(kind)) this.functions++;
     else if (depth === 1 && MODULE_STATEMENTS.has(kind)) this.isModule = true;
     else if (depth === 2 && kind === 'TSExternalModuleReference') this.isModule = true;
-    else if (this.functions === 0 && (kind === 'AwaitExpression' || marks[0] === 'await')) this.isModule = true;
+    else if (this.functions === 0 && (kind === 'AwaitExpression' || marks[0] === 'await' || text === 'await using')) this.isModule = true;
   }
 
   flush() {

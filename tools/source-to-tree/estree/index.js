@@ -12,6 +12,8 @@ require('./functions');
 require('./classes');
 require('./expressions');
 require('./modules');
+require('./types');
+require('./jsx');
 
 // One conversion: the text, where the rows go, and what is said of pure code.
 class EstreeConversion {

@@ -1,28 +1,29 @@
 'use strict';
 // Types and the members of interfaces.
 
-const { closingEnd, withoutSeparator } = require('../trivia');
+const { Refusal } = require('../refusal');
+const { closingEnd } = require('../trivia');
 const { visit, each, plain, byKind, marksOf } = require('./visit');
 const { modifierMarks } = require('./modifiers');
 const { isComputed } = require('./patterns');
 
 // An annotation is as long as its type.
-visit.typeAnnotation = plain('TSTypeAnnotation');
 visit.typeAnnotation = (c, role, node) => {
   c.open(role, 'TSTypeAnnotation', node);
   visit.type(c, 'element', node);
   c.close();
 };
 
-function bracketed(kind, name) {
+function bracketed(kind, name, mayBeEmpty) {
   return (c, role, list) => {
+    if (list.length === 0 && !mayBeEmpty) throw new Refusal('Type parameter list cannot be empty.', list.pos - 1);
     c.writer.open(role, kind, list.pos - 1, closingEnd(c.text, list.end, '>'));
     each(c, 'params', list, name);
     c.close();
   };
 }
-visit.typeParameters = bracketed('TSTypeParameterDeclaration', 'typeParameter');
-visit.typeArguments = bracketed('TSTypeParameterInstantiation', 'type');
+visit.typeParameters = bracketed('TSTypeParameterDeclaration', 'typeParameter', false);
+visit.typeArguments = bracketed('TSTypeParameterInstantiation', 'type', true);
 
 visit.typeParameter = (c, role, node) => {
   c.open(role, 'TSTypeParameter', node, '', modifierMarks(c, node, ['const', 'in', 'out']));

@@ -6,7 +6,7 @@ const { load } = require('../load');
 const { EstreeConversion } = require('../estree');
 
 // What acorn would refuse, and the analysis tells with both places.
-const LEFT_TO_THE_ANALYSIS = /^Identifier '[^#].*' has already been declared$/;
+const LEFT_TO_THE_ANALYSIS = /^(?:Identifier '[^#].*' has already been declared|Argument name clash)$/;
 
 const parsers = new Map();
 

@@ -8,9 +8,10 @@ const { TypeScriptConversion } = require('../typescript');
 
 const SCRIPT_KINDS = { js: 'JS', jsx: 'JSX', ts: 'TS', tsx: 'TSX', dts: 'TS' };
 
-function read(text, { filename, lang }) {
+function read(text, { filename, lang, goal }) {
   const ts = load('typescript');
   const options = { languageVersion: ts.ScriptTarget.Latest };
+  if (goal === 'module') options.setExternalModuleIndicator = (file) => { file.externalModuleIndicator = file; };
   if (ts.JSDocParsingMode) options.jsDocParsingMode = ts.JSDocParsingMode.ParseNone;
   const file = ts.createSourceFile(filename, text, options, false, ts.ScriptKind[SCRIPT_KINDS[lang]]);
   const [fault] = file.parseDiagnostics;
