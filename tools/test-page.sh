@@ -12,8 +12,7 @@ else
 fi
 cd "$here/analyse/test"
 "$here/../bin/scopes" shown.mjs >"$folder/shown.html"
-printf 'let twice = 1;\nlet twice = 2;\nunused: for (;;) {}\n' >"$folder/faulty.ts"
-"$here/../bin/scopes" "$folder/faulty.ts" >"$folder/faulty.html"
+BOLGWYR_REPORT=./stored-report.sh "$here/../bin/scopes" faulty.ts >"$folder/faulty.html"
 node long-source.js >"$folder/long.mjs"
 "$here/../bin/scopes" "$folder/long.mjs" >"$folder/long.html"
 node page.js "$folder"

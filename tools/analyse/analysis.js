@@ -5,10 +5,8 @@ const { Positions } = require('./positions.js');
 const { Refusal } = require('./refusal.js');
 const { RefusedTree, runReport } = require('./program.js');
 const { checkSize } = require('./files.js');
-const { convert, readTree } = require('./tree.js');
+const { BOUNDS, convert, readTree } = require('./tree.js');
 const { parseReport } = require('./report-parser.js');
-
-const DEEPEST = '1,000';
 
 // Whether the tree has a row of this number; a refused tree may be anything.
 function hasRow(tree, id) {
@@ -27,8 +25,8 @@ function explain(refusal, tree) {
   }
   const row = tree.row(id);
   const place = new Positions(tree.value.source).placeOf(row.span.start);
-  if (cause === 'too deep') {
-    return new Refusal(`too deep: its tree has more than ${DEEPEST} levels`, place);
+  if (BOUNDS[cause] !== undefined) {
+    return new Refusal(BOUNDS[cause], place);
   }
   return new Refusal(`its tree is refused: ${cause} at node ${id} (${row.kind})`, place);
 }

@@ -6,18 +6,24 @@ const { readText } = require('./files.js');
 const { Positions } = require('./positions.js');
 const { Refusal } = require('./refusal.js');
 
+// What a refusal that names no bound means.
+const BOUNDS = {
+  'too deep': 'too deep: its tree has more than 1,000 levels',
+  'too large': 'too large: its tree has more than 67,108,864 bytes',
+};
+
 const CONVERTER = path.join(__dirname, '..', 'source-to-tree', 'convert.js');
 
 // What a fault of the converter means for the file. A parser's place counts units of the string.
 function refusalOf(error, source) {
   if (error instanceof RangeError && /call stack/i.test(error.message)) {
-    return new Refusal('too deep');
+    return new Refusal(BOUNDS['too deep']);
   }
   if (error.name !== 'Refusal') {
     return new Refusal(`its tree can't be made: ${error.message}`);
   }
   if (typeof error.offset !== 'number') {
-    return new Refusal(error.message);
+    return new Refusal(BOUNDS[error.message] || error.message);
   }
   const mark = source.startsWith('\ufeff') ? 1 : 0;
   return new Refusal(error.message, new Positions(source).placeAt(error.offset + mark));
@@ -62,4 +68,4 @@ function readTree(file) {
   return new Tree(Buffer.from(readText(file), 'utf8'));
 }
 
-module.exports = { convert, readTree };
+module.exports = { BOUNDS, convert, readTree };

@@ -35,17 +35,26 @@ function boxesInside(scopes, range, inline) {
   return boxes;
 }
 
-// The root's box with all boxes inside it, and the scopes without a box.
-function layOut(scopes) {
+// How many boxes from this one inward begin at one column, so that their edges stand side by side.
+function rank(boxes, indents) {
+  for (const box of boxes.reverse()) {
+    box.indent = indents(box.first);
+    const alike = box.inside.filter((inner) => inner.indent <= box.indent);
+    box.rank = 1 + alike.reduce((most, inner) => Math.max(most, inner.rank), 0);
+  }
+}
+
+// The root's box with all boxes inside it, and the scopes without a box. `indents` tells how far a line is indented.
+function layOut(scopes, indents) {
   const children = childrenOf(scopes);
   const inline = [];
   const root = { scope: scopes[0], first: 1, last: scopes[0].lastLine, inside: [] };
-  const waiting = [root];
-  while (waiting.length > 0) {
-    const box = waiting.pop();
+  const boxes = [root];
+  for (const box of boxes) {
     box.inside = boxesInside(children[box.scope.id], box, inline);
-    waiting.push(...box.inside);
+    box.inside.forEach((inner) => boxes.push(inner));
   }
+  rank(boxes, indents);
   return { root, inline: withInner(inline, children) };
 }
 

@@ -5,6 +5,9 @@ const { childrenOf } = require('./boxes.js');
 const { escape } = require('./html.js');
 const { plural } = require('./names.js');
 
+// How many places of a free name are listed.
+const FIRST = 4;
+
 function placeOf(span) {
   return `${span.line}:${span.column}`;
 }
@@ -29,11 +32,15 @@ function symbolsPanel(model) {
   return section('symbols', 'Symbols', symbols.length, filter + list(symbols.map(symbolItem)), true);
 }
 
+// Selecting the name tells all its places; the list has the first.
+function freeItem(model, entry, place) {
+  const first = entry.references.slice(0, FIRST).map((id) => `<a href="#ref-${id}">${placeOf(model.references[id].span)}</a>`);
+  const more = entry.references.length > FIRST ? ` and ${entry.references.length - FIRST} more` : '';
+  return `<li id="free-${place}"><a href="#free-${place}">${escape(entry.name)}</a> <small>${first.join(' ')}${more}</small></li>`;
+}
+
 function freePanel(model) {
-  const items = model.free.map((entry, place) => {
-    const links = entry.references.map((id) => `<a href="#ref-${id}">${placeOf(model.references[id].span)}</a>`);
-    return `<li id="free-${place}"><b>${escape(entry.name)}</b> <small>${links.join(' ')}</small></li>`;
-  });
+  const items = model.free.map((entry, place) => freeItem(model, entry, place));
   return section('free', 'Free names', items.length, list(items), true);
 }
 

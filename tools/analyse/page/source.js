@@ -8,6 +8,12 @@ const { LineWriter } = require('./line-writer.js');
 // Lines are kept together in pieces, and a browser lays out only those that are seen.
 const PIECE = 40;
 
+// How many edges of boxes that begin at one column stand side by side.
+const MOST_EDGES = 5;
+
+// How wide a tab is, in letters, as page.css says too.
+const TAB = 4;
+
 function writeLines(writer, first, last, out) {
   for (let start = first; start <= last; start += PIECE) {
     const end = Math.min(last, start + PIECE - 1);
@@ -22,7 +28,8 @@ function writeLines(writer, first, last, out) {
 function openBox(box) {
   const { id, kind, span, lastLine } = box.scope;
   const label = `scope ${id}: ${kind}, lines ${span.line} to ${lastLine}`;
-  return `<div class="scope" id="scope-${id}" role="group" aria-label="${label}">`;
+  const edge = `--indent:${box.indent};--rank:${Math.min(box.rank, MOST_EDGES)}`;
+  return `<div class="scope" id="scope-${id}" style="${edge}" role="group" aria-label="${label}">`;
 }
 
 // A box is its lines and the boxes inside it, in order.
@@ -52,9 +59,18 @@ function widthOf(positions) {
   let width = 0;
   for (let line = 0; line < positions.lines; line += 1) {
     const text = positions.text.slice(positions.lineStarts[line], positions.lineEnd(line));
-    width = Math.max(width, text.length + 3 * count(text, TABS) + count(text, WIDE));
+    width = Math.max(width, text.length + (TAB - 1) * count(text, TABS) + count(text, WIDE));
   }
   return width;
+}
+
+// How far a line, from 1, is indented, in letters.
+function indentOf(positions, line) {
+  const start = positions.lineStarts[line - 1];
+  const space = /[ \t]*/y;
+  space.lastIndex = start;
+  const found = space.exec(positions.text)[0];
+  return found.length + (TAB - 1) * count(found, TABS);
 }
 
 function lineNumbers(count) {
@@ -62,7 +78,7 @@ function lineNumbers(count) {
 }
 
 function sourceHtml(model) {
-  const { root, inline } = layOut(model.scopes);
+  const { root, inline } = layOut(model.scopes, (line) => indentOf(model.positions, line));
   const writer = new LineWriter(model.positions, eventsOf(model, inline));
   const out = [];
   writeBox(root, writer, out);

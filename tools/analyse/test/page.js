@@ -78,8 +78,10 @@ async function tryAddress(browser) {
   expect('text of the source is no markup', await browser.ask("document.querySelector('.source b') === null"), true);
   expect('the source is whole', await browser.ask("document.querySelector('.source').textContent.includes('\"<b>&amp;</b>\"')"), true);
   await browser.open(address('faulty.html', '#diagnostic-0-1'));
-  expect('diagnostics are listed', await browser.ask("document.querySelectorAll('.message').length"), 1);
-  expect('and marked', await browser.ask(texts('.source .diagnostic')), ['twice', 'twice']);
+  expect('diagnostics are listed', await browser.ask("document.querySelectorAll('.message').length"), 2);
+  expect('and marked', await browser.ask(texts('.source .diagnostic')), ['twice', 'twice', 'm']);
+  expect('unused labels are listed', await browser.ask(texts('#panel-labels li a')), ['unused']);
+  expect('and marked', await browser.ask(texts('.source .label')), ['unused']);
 }
 
 async function tryLong(browser) {
