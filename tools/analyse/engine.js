@@ -21,7 +21,7 @@ function checkEngine() {
 function jobCommand(settings) {
   const words = JSON.stringify(settings);
   const report = `BOLGWYR_REPORT=${quoted(programPath())}`;
-  return `${report} node --max-old-space-size=8192 --stack-size=3900 ${quoted(BATCH)} ${quoted(words)} {}`;
+  return `${report} node --max-old-space-size=8192 ${quoted(BATCH)} ${quoted(words)} {}`;
 }
 
 // What the engine does for other machines. Bundles go to a folder there that is taken away again.

@@ -23,7 +23,8 @@ function refusalOf(error, source) {
     return new Refusal(`its tree can't be made: ${error.message}`);
   }
   if (typeof error.offset !== 'number') {
-    return new Refusal(BOUNDS[error.message] || error.message);
+    const place = typeof error.line === 'number' ? { line: error.line, column: error.column } : {};
+    return new Refusal(BOUNDS[error.message] || error.message, place);
   }
   const mark = source.startsWith('\ufeff') ? 1 : 0;
   return new Refusal(error.message, new Positions(source).placeAt(error.offset + mark));
