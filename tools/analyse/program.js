@@ -57,18 +57,25 @@ function fail(program, run) {
   if (refusal !== null) {
     throw new RefusedTree(refusal);
   }
-  const end = run.status === null ? `ended by ${run.signal}` : `status ${run.status}`;
-  throw new ProgramFault(`${program}: ${end}${line === '' ? '' : `: ${line}`}`);
+  if (run.signal !== null) {
+    throw new Refusal(`the report program was ended by ${run.signal}`);
+  }
+  throw new ProgramFault(`${program}: status ${run.status}${line === '' ? '' : `: ${line}`}`);
+}
+
+// A report is never empty; a program that could not be built answers with status 1 too.
+function hasReport(run) {
+  return (run.status === 0 || run.status === 1) && run.stdout.length > 0;
 }
 
 // The report of a tree, and whether there are diagnostics.
 function runReport(treeText, words) {
   const program = programPath();
   const run = spawnSync(program, words, { input: treeText, maxBuffer: Infinity });
-  if (run.error !== undefined && run.status === null) {
+  if (run.error !== undefined && run.status === null && run.signal === null) {
     throw new ProgramFault(`${program} can't be run: ${run.error.message}`);
   }
-  if (run.status !== 0 && run.status !== 1) {
+  if (!hasReport(run)) {
     fail(program, run);
   }
   return { bytes: run.stdout, diagnosed: run.status === 1 };
