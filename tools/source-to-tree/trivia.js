@@ -1,7 +1,7 @@
 'use strict';
 // Finds marks of punctuation that no parser tells, by passing spaces and comments from a place that it does tell.
 
-const LINE_END = /[\n\r\u2028\u2029]/;
+const LINE_END = /[\n\r\u2028\u2029]/g;
 const SPACE = /[\s\ufeff]/;
 const NAME_PART = /[$_\u200c\u200d\p{ID_Continue}]/u;
 
@@ -11,9 +11,9 @@ function isSpace(unit) {
 }
 
 function lineEndFrom(text, at) {
-  let end = at;
-  while (end < text.length && !LINE_END.test(text[end])) end++;
-  return end;
+  LINE_END.lastIndex = at;
+  const found = LINE_END.exec(text);
+  return found === null ? text.length : found.index;
 }
 
 // The end of the comment that begins here, or -1. The comments of HTML are those of scripts.
