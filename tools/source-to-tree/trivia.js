@@ -70,6 +70,17 @@ function closingEnd(text, from, mark) {
   return text[at] === mark ? at + 1 : from;
 }
 
+// The place behind the words that begin here and match; a name that is such a word itself is none of them.
+function afterWords(text, from, words) {
+  let at = from;
+  for (;;) {
+    const end = nameEnd(text, at);
+    const next = skipTrivia(text, end);
+    if (!words.test(text.slice(at, end)) || nameEnd(text, next) === next) return at;
+    at = next;
+  }
+}
+
 // The end of a member of a type without the mark that parts it from the next.
 function withoutSeparator(text, end) {
   if (text[end - 1] !== ';' && text[end - 1] !== ',') return end;
@@ -78,4 +89,4 @@ function withoutSeparator(text, end) {
   return at;
 }
 
-module.exports = { skipTrivia, nameEnd, openParenthesis, closingEnd, lineEndFrom, withoutSeparator };
+module.exports = { skipTrivia, nameEnd, openParenthesis, closingEnd, lineEndFrom, afterWords, withoutSeparator };
