@@ -22,9 +22,13 @@ class Annotations {
   constructor(text) {
     this.PURE = new Set();
     this.NO_SIDE_EFFECTS = new Set();
-    for (const found of text.matchAll(WORD)) {
-      const end = endOfCommentRound(text, found.index);
-      if (end >= 0) this[found[1]].add(skipTrivia(text, end));
+    let start = -1; // of the code behind the last comment; words before it stand in comments before the same code
+    for (const { index, 1: word } of text.matchAll(WORD)) {
+      if (index >= start) {
+        const end = endOfCommentRound(text, index);
+        start = end < 0 ? -1 : skipTrivia(text, end);
+      }
+      if (start >= 0) this[word].add(start);
     }
   }
 

@@ -1,7 +1,7 @@
 'use strict';
 // Finds marks of punctuation that no parser tells, by passing spaces and comments from a place that it does tell.
 
-const LINE_END = /[\n\r\u2028\u2029]/;
+const LINE_END = /[\n\r\u2028\u2029]/g;
 const SPACE = /[\s\ufeff]/;
 const NAME_PART = /[$_\u200c\u200d\p{ID_Continue}]/u;
 
@@ -11,9 +11,9 @@ function isSpace(unit) {
 }
 
 function lineEndFrom(text, at) {
-  let end = at;
-  while (end < text.length && !LINE_END.test(text[end])) end++;
-  return end;
+  LINE_END.lastIndex = at;
+  const found = LINE_END.exec(text);
+  return found === null ? text.length : found.index;
 }
 
 // The end of the comment that begins here, or -1. The comments of HTML are those of scripts.
@@ -70,6 +70,17 @@ function closingEnd(text, from, mark) {
   return text[at] === mark ? at + 1 : from;
 }
 
+// The place behind the words that begin here and match; a name that is such a word itself is none of them.
+function afterWords(text, from, words) {
+  let at = from;
+  for (;;) {
+    const end = nameEnd(text, at);
+    const next = skipTrivia(text, end);
+    if (!words.test(text.slice(at, end)) || nameEnd(text, next) === next) return at;
+    at = next;
+  }
+}
+
 // The end of a member of a type without the mark that parts it from the next.
 function withoutSeparator(text, end) {
   if (text[end - 1] !== ';' && text[end - 1] !== ',') return end;
@@ -78,4 +89,4 @@ function withoutSeparator(text, end) {
   return at;
 }
 
-module.exports = { skipTrivia, nameEnd, openParenthesis, closingEnd, lineEndFrom, withoutSeparator };
+module.exports = { skipTrivia, nameEnd, openParenthesis, closingEnd, lineEndFrom, afterWords, withoutSeparator };

@@ -12,6 +12,8 @@ const MARKS = ['async', 'generator', 'declare', 'pure', 'static', 'computed', 'a
   'out', 'asserts', 'postfix', 'binary', 'octal', 'decimal', 'hex', 'float'];
 const PLACE = new Map(MARKS.map((mark, place) => [mark, place]));
 
+const TYPED_ONLY = 'types and declarations of TypeScript stand in TypeScript files only';
+
 // Statements of a program that make it a module.
 const MODULE_STATEMENTS = new Set(['ImportDeclaration', 'ExportDeclaration', 'ExportNamedDeclaration', 'ExportFromDeclaration',
   'ExportDefaultDeclaration', 'ExportAllDeclaration', 'TSExportAssignment', 'TSNamespaceExportDeclaration']);
@@ -39,7 +41,7 @@ class TreeWriter {
   open(role, kind, start, end, text = '', marks = []) {
     const depth = this.open_kinds.length;
     if (depth > DEEPEST) throw new Refusal('too deep');
-    if (!this.typed && kind.startsWith('TS')) throw new Refusal('types and declarations of TypeScript stand in TypeScript files only', start);
+    if (!this.typed && kind.startsWith('TS')) throw new Refusal(TYPED_ONLY, start);
     const at = this.offsets;
     const quoted = text === '' ? '""' : JSON.stringify(text);
     const comma = this.bytes === 0 && this.piece === '' ? '' : ',';

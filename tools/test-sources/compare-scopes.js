@@ -80,7 +80,7 @@ function theirScopes(theirs, note) {
 
 const FOR = /^For/;
 
-function kindOfNames(ours, scope, name) {
+function kindOfNames(ours, name) {
   const symbols = ours.symbols.filter((symbol) => symbol.name === name);
   if (symbols.some((symbol) => isBlockFunction(ours, symbol))) return 'function in a block';
   if (symbols.some(isCatchName)) return 'var of a catch name';
@@ -98,8 +98,8 @@ function compareScopes(ours, theirs, note) {
       note(FOR.test(kind) && scope.names.size === 0 ? 'loop without lexical names' : null, `scope ${key} is ours alone`);
       continue;
     }
-    for (const name of scope.names.keys()) if (!names.has(name)) note(kindOfNames(ours, scope, name), `${name} is bound in ${key} here`);
-    for (const name of names) if (!scope.names.has(name)) note(kindOfNames(ours, scope, name), `${name} is bound in ${key} there`);
+    for (const name of scope.names.keys()) if (!names.has(name)) note(kindOfNames(ours, name), `${name} is bound in ${key} here`);
+    for (const name of names) if (!scope.names.has(name)) note(kindOfNames(ours, name), `${name} is bound in ${key} there`);
   }
   for (const key of found.keys()) note(null, `scope ${key} is theirs alone`);
 }

@@ -7,6 +7,7 @@ const { Tally } = require('./tally');
 const { checkCases, checkStored } = require('./small');
 const { checkDifferences } = require('./compare-scopes');
 const { checkCommands } = require('./commands');
+const { checkDialects } = require('./dialects');
 const { Files } = require('./files');
 
 const INSTALLED = '/usr/share/nodejs';
@@ -36,6 +37,7 @@ function filesOf(words) {
 function main(words) {
   const tally = new Tally();
   checkCases(tally);
+  checkDialects(tally);
   checkDifferences(tally);
   checkCommands(tally);
   console.log(`${checkStored(tally)} stored trees`);

@@ -98,4 +98,4 @@ function checkStored(tally) {
   return names.length;
 }
 
-module.exports = { convert, checkCases, checkStored };
+module.exports = { convert, checkRows, checkCases, checkStored };

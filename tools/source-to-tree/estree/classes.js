@@ -1,7 +1,7 @@
 'use strict';
 // Classes and their members.
 
-const { skipTrivia } = require('../trivia');
+const { skipTrivia, afterWords } = require('../trivia');
 const { visit, each, byType, plain, marksOf } = require('./visit');
 const { DECLARATIONS } = require('./statements');
 
@@ -22,11 +22,13 @@ visit.class = (c, role, node, text) => {
   c.close();
 };
 
-// A class begins at its decorators, but for those that stand before an export.
+// A class begins at its decorators, or behind the export that stands after them.
 function classStart(c, node) {
-  const start = c.start(node);
-  const [first] = node.decorators || [];
-  return first && c.start(first) > c.exportedAt && c.start(first) < start ? c.start(first) : start;
+  const decorators = node.decorators || [];
+  if (decorators.length === 0) return c.start(node);
+  const behind = skipTrivia(c.text, c.end(decorators[decorators.length - 1]));
+  const inner = afterWords(c.text, behind, /^(?:export|default)$/);
+  return inner > behind ? inner : Math.min(c.start(decorators[0]), c.start(node));
 }
 
 const memberMarks = (node) => ({

@@ -15,23 +15,30 @@ function beforeParameters(c, node) {
 }
 
 // The span of a list of parameters: with its parentheses, or an arrow's single name.
-function parametersSpan(c, node, params, from) {
+function parametersSpan(c, params, from) {
   const open = openParenthesis(c.text, from);
   const last = params[params.length - 1];
   return [open, closingEnd(c.text, last ? c.end(last) : open + 1, ')')];
 }
 
 function arrowSpan(c, node) {
-  if (node.typeParameters) return parametersSpan(c, node, node.params, c.end(node.typeParameters));
+  if (node.typeParameters) return parametersSpan(c, node.params, c.end(node.typeParameters));
   let start = c.start(node);
   if (node.async) start = skipTrivia(c.text, nameEnd(c.text, start));
-  if (c.text[start] === '(') return parametersSpan(c, node, node.params, start);
+  if (c.text[start] === '(') return parametersSpan(c, node.params, start);
   return [c.start(node.params[0]), c.end(node.params[0])];
 }
 
+// A parameter begins at its decorators, which some dialects leave out of its span.
+function openParameter(c, role, kind, node, { decorators, marks }) {
+  const [first] = decorators;
+  const start = first ? Math.min(c.start(first), c.start(node)) : c.start(node);
+  c.writer.open(role, kind, start, c.end(node), '', marks);
+  each(c, 'decorators', decorators, 'decorator');
+}
+
 function restParameter(c, role, node) {
-  c.open(role, 'FormalParameterRest', node);
-  each(c, 'decorators', node.decorators, 'decorator');
+  openParameter(c, role, 'FormalParameterRest', node, { decorators: node.decorators || [] });
   visit.bindingRest(c, 'rest', node);
   each(c, 'type', node.typeAnnotation, 'typeAnnotation');
   c.close();
@@ -47,8 +54,7 @@ function parameter(c, role, outer) {
     override: outer.override,
     optional: pattern.optional || inner.optional,
   });
-  c.open(role, 'FormalParameter', outer, '', marks);
-  each(c, 'decorators', outer.decorators || inner.decorators, 'decorator');
+  openParameter(c, role, 'FormalParameter', outer, { decorators: outer.decorators || inner.decorators || [], marks });
   visit.binding(c, 'pattern', pattern);
   each(c, 'type', pattern.typeAnnotation, 'typeAnnotation');
   each(c, 'initializer', withDefault ? inner.right : null, 'expression');
@@ -68,7 +74,7 @@ function formalParameters(c, [start, end], text, params) {
 visit.signature = (c, node, text, from = beforeParameters(c, node)) => {
   const params = node.params || node.parameters;
   each(c, 'typeParameters', node.typeParameters, 'typeParameters');
-  const span = parametersSpan(c, node, params, from);
+  const span = parametersSpan(c, params, from);
   const first = isThis(params[0]) ? 1 : 0;
   if (first === 1) {
     c.open('this', 'TSThisParameter', params[0]);

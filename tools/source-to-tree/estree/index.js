@@ -13,6 +13,7 @@ require('./classes');
 require('./expressions');
 require('./modules');
 require('./types');
+require('./declarations');
 require('./jsx');
 
 // One conversion: the text, where the rows go, and what is said of pure code.
@@ -21,7 +22,6 @@ class EstreeConversion {
     this.text = text;
     this.writer = writer;
     this.annotations = annotations;
-    this.exportedAt = -1;
   }
 
   start(node) {
@@ -52,14 +52,6 @@ class EstreeConversion {
   leaf(role, kind, node, text, marks) {
     this.open(role, kind, node, text, marks);
     this.close();
-  }
-
-  // A declaration under an export.
-  declared(role, outer, node) {
-    const before = this.exportedAt;
-    this.exportedAt = this.start(outer);
-    visit.declaration(this, role, node);
-    this.exportedAt = before;
   }
 
   refuse(node, message) {

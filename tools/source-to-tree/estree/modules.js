@@ -3,7 +3,7 @@
 
 const { skipTrivia, nameEnd, closingEnd } = require('../trivia');
 const { visit, each, byType, marksOf } = require('./visit');
-const { STATEMENTS, DECLARATIONS } = require('./statements');
+const { STATEMENTS } = require('./statements');
 
 const typeMark = (kind) => marksOf({ type: kind === 'type' });
 
@@ -60,7 +60,7 @@ function exported(c, role, node) {
   if (node.declaration) {
     c.annotations.passOn(c.start(node), c.start(node.declaration));
     c.open(role, 'ExportDeclaration', node);
-    c.declared('declaration', node, node.declaration);
+    visit.declaration(c, 'declaration', node.declaration);
     c.close();
     return;
   }
@@ -84,7 +84,7 @@ const DEFAULTS = new Set(['FunctionDeclaration', 'ClassDeclaration', 'TSDeclareF
 function exportDefault(c, role, node) {
   c.annotations.passOn(c.start(node), c.start(node.declaration));
   c.open(role, 'ExportDefaultDeclaration', node);
-  if (DEFAULTS.has(node.declaration.type)) c.declared('declaration', node, node.declaration);
+  if (DEFAULTS.has(node.declaration.type)) visit.declaration(c, 'declaration', node.declaration);
   else visit.expression(c, 'declaration', node.declaration);
   c.close();
 }
@@ -100,5 +100,3 @@ Object.assign(STATEMENTS, {
   ExportAllDeclaration: exportAll,
   ExportDefaultDeclaration: exportDefault,
 });
-
-module.exports = { DECLARATIONS };

@@ -3,7 +3,13 @@
 
 const { visit, each, plain, byType, marksOf } = require('./visit');
 
-const isDirective = (node) => node.type === 'ExpressionStatement' && typeof node.directive === 'string';
+// Babel says of no statement in a namespace that it is a directive.
+function isDirective(node, outer) {
+  if (node.type !== 'ExpressionStatement') return false;
+  if (typeof node.directive === 'string') return true;
+  const { type, extra = {} } = node.expression;
+  return outer.type === 'TSModuleBlock' && type === 'StringLiteral' && !extra.parenthesized;
+}
 
 function directive(c, role, node) {
   const literal = node.expression || node.value;
@@ -18,7 +24,7 @@ function directive(c, role, node) {
 visit.body = (c, node) => {
   each(c, 'directives', node.directives, 'directive');
   let at = 0;
-  while (at < node.body.length && isDirective(node.body[at])) directive(c, 'directives', node.body[at++]);
+  while (at < node.body.length && isDirective(node.body[at], node)) directive(c, 'directives', node.body[at++]);
   for (; at < node.body.length; at++) visit.statement(c, 'body', node.body[at]);
 };
 visit.directive = directive;

@@ -1,7 +1,7 @@
 'use strict';
 // Declarations of TypeScript: aliases, interfaces, enums, namespaces and modules.
 
-const { visit, each, plain, byKind } = require('./visit');
+const { visit, each, byKind } = require('./visit');
 const { modifierMarks } = require('./modifiers');
 const { isComputed } = require('./patterns');
 const { heritage } = require('./classes');

@@ -26,6 +26,7 @@ function namesOf(kinds) {
   return names;
 }
 
+const LONG_WAY = 256;
 const LINKS = new Set(['CallExpression', 'PropertyAccessExpression', 'ElementAccessExpression', 'NonNullExpression']);
 const namesByCompiler = new Map();
 
@@ -42,14 +43,20 @@ class TypeScriptConversion {
     this.isTyped = writer.typed;
     this.afterHashbang = text.startsWith('#!') ? lineEndFrom(text, 2) : 0;
     this.hidden = [];
+    this.longWays = new Map();
   }
 
   kindName(node) {
     return this.names.get(node.kind);
   }
 
-  start(node) {
-    return skipTrivia(this.text, node.pos === 0 ? this.afterHashbang : node.pos);
+  // Nodes that begin at one place have one start, and the way to it is gone once where it is long.
+  start({ pos }) {
+    const known = this.longWays.get(pos);
+    if (known !== undefined) return known;
+    const start = skipTrivia(this.text, pos === 0 ? this.afterHashbang : pos);
+    if (start - pos > LONG_WAY) this.longWays.set(pos, start);
+    return start;
   }
 
   // A node in whose text no comment begins; gives where it starts.

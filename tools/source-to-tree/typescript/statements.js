@@ -25,8 +25,8 @@ visit.body = (c, statements) => {
 visit.block = plain('BlockStatement', ['body', 'statements', 'statement']);
 
 function kindOfVariables(c, list) {
-  const { Let, Const, Using, AwaitUsing } = c.ts.NodeFlags;
-  const flags = list.flags & (Let | Const);
+  const { Let, Const, Using, AwaitUsing, BlockScoped } = c.ts.NodeFlags;
+  const flags = list.flags & BlockScoped;
   if (Using !== undefined && flags === AwaitUsing) return 'await using';
   if (Using !== undefined && flags === Using) return 'using';
   if (flags === Const) return 'const';

@@ -2,7 +2,7 @@
 // Types and the members of interfaces.
 
 const { Refusal } = require('../refusal');
-const { closingEnd } = require('../trivia');
+const { skipTrivia, nameEnd, closingEnd } = require('../trivia');
 const { visit, each, plain, byKind, marksOf } = require('./visit');
 const { modifierMarks } = require('./modifiers');
 const { isComputed } = require('./patterns');
@@ -109,13 +109,35 @@ function importQualifier(c, role, node) {
   c.close();
 }
 
+function importOption(c, node) {
+  c.open('properties', 'ObjectProperty', node, 'init');
+  visit.moduleName(c, 'key', node.name);
+  visit.expression(c, 'value', node.value);
+  c.close();
+}
+
+// The options of an import are an object with an object of attributes, of which the compiler has a node for the inner alone.
+function importOptions(c, clause, from) {
+  const outer = skipTrivia(c.text, skipTrivia(c.text, from) + 1);
+  const word = skipTrivia(c.text, outer + 1);
+  const wordEnd = nameEnd(c.text, word);
+  c.writer.open('options', 'ObjectExpression', outer, closingEnd(c.text, clause.end, '}'));
+  c.writer.open('properties', 'ObjectProperty', word, clause.end, 'init');
+  c.writer.leaf('key', 'IdentifierName', word, wordEnd, c.text.slice(word, wordEnd));
+  c.open('value', 'ObjectExpression', clause);
+  for (const element of clause.elements) importOption(c, element);
+  c.close();
+  c.close();
+  c.close();
+}
+
 function importType(c, role, node, start = c.start(node)) {
   const { literal } = node.argument;
   if (!literal || literal.kind !== c.kinds.StringLiteral) c.refuse(node.argument, 'String literal expected.');
   c.writer.open(role, 'TSImportType', start, node.end);
   visit.string(c, 'argument', literal);
-  const options = node.attributes || node.assertions;
-  if (options) visit.importOptions(c, 'options', options);
+  const clause = node.attributes || (node.assertions && node.assertions.assertClause);
+  if (clause) importOptions(c, clause, node.argument.end);
   if (node.qualifier) importQualifier(c, 'qualifier', node.qualifier);
   each(c, 'typeArguments', node.typeArguments && [node.typeArguments], 'typeArguments');
   c.close();
