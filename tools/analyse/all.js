@@ -12,7 +12,7 @@ const { checkEngine, runJobs } = require('./engine.js');
 const { sourceFiles } = require('./folder.js');
 const { batchSize, dealt } = require('./jobs.js');
 const { say, tell } = require('./output.js');
-const { ProgramFault, programPath } = require('./program.js');
+const { ProgramFault, announceBuild, programPath } = require('./program.js');
 const { WordFault, emptySettings, readWords } = require('./words.js');
 
 const USAGE = 'usage: analyse-all [--json|--text|--report] [--out OUT] [--resume] [--jobs N] [--batch N] [--node-modules] [--sshloginfile FILE [--transfer]] [words of analyse] FOLDER';
@@ -142,6 +142,7 @@ function resume(settings, places) {
 // Builds the program where that is still to be done, so that jobs don't all begin with it.
 function buildProgram() {
   if (process.env.BOLGWYR_REPORT === undefined) {
+    announceBuild();
     const empty = fs.openSync(path.join(__dirname, '..', '..', 'samples', 'empty.json'));
     const run = spawnSync(programPath(), [], { stdio: [empty, 'ignore', 'inherit'] });
     if (run.status !== 0) {
@@ -167,7 +168,7 @@ function runOf(settings, places, batch) {
 }
 
 // Writes the summary and prints its end.
-function conclude(settings, places, ended) {
+function conclude(places, ended) {
   const names = fs.readFileSync(places.files, 'utf8').split('\0').slice(0, -1).sort();
   const { rows, sum, missing, lines } = summarise(names, places.rows);
   fs.writeFileSync(places.summary, rows.map((row) => `${JSON.stringify(row)}\n`).join(''));
@@ -190,7 +191,7 @@ async function analyseAll(settings) {
   if (settings.transfer) {
     unpackAnswers(places);
   }
-  return conclude(settings, places, ended);
+  return conclude(places, ended);
 }
 
 async function main(words) {

@@ -1,8 +1,10 @@
 'use strict';
 // Runs the report program on a tree.
 
+const fs = require('fs');
 const path = require('path');
 const { spawnSync } = require('child_process');
+const { tell } = require('./output.js');
 const { Refusal } = require('./refusal.js');
 
 const ROOT = path.join(__dirname, '..', '..');
@@ -18,6 +20,15 @@ class ProgramFault extends Error {
 // The report program: the one named by BOLGWYR_REPORT, else the repository's own.
 function programPath() {
   return process.env.BOLGWYR_REPORT || path.join(ROOT, 'bin', 'report');
+}
+
+const BUILT = path.join(ROOT, 'crates', 'report_main', 'out', 'report_main');
+
+// Says why nothing is heard for long, where the repository's own program isn't built yet.
+function announceBuild() {
+  if (process.env.BOLGWYR_REPORT === undefined && !fs.existsSync(BUILT)) {
+    tell('the report program is proved and built first, which takes tens of minutes');
+  }
 }
 
 // What each exit status without a report means for a file.
@@ -71,6 +82,7 @@ function hasReport(run) {
 // The report of a tree, and whether there are diagnostics.
 function runReport(treeText, words) {
   const program = programPath();
+  announceBuild();
   const run = spawnSync(program, words, { input: treeText, maxBuffer: Infinity });
   if (run.error !== undefined && run.status === null && run.signal === null) {
     throw new ProgramFault(`${program} can't be run: ${run.error.message}`);
@@ -81,4 +93,4 @@ function runReport(treeText, words) {
   return { bytes: run.stdout, diagnosed: run.status === 1 };
 }
 
-module.exports = { ProgramFault, RefusedTree, programPath, runReport };
+module.exports = { ProgramFault, RefusedTree, announceBuild, programPath, runReport };

@@ -36,6 +36,7 @@ function headerHtml(model) {
     plural(model.diagnostics.length, 'diagnostic'),
   ];
   return `<a class="skip" href="#source">Skip to the source</a>
+<a class="skip" href="#filter">Skip to the symbols</a>
 <h1>${escape(model.file)}</h1>
 <p>${model.goal}, ${model.lang}: ${counts.join(', ')}</p>
 <p class="keys">${keysHtml()}</p>`;

@@ -66,7 +66,7 @@ function diagnosticsPanel(model) {
   return section('diagnostics', 'Diagnostics', items.length, list(items), items.length > 0);
 }
 
-function scopeHead(model, scope) {
+function scopeHead(scope) {
   const flags = scope.flags.length === 0 ? '' : ` <small>${scope.flags.join(' ')}</small>`;
   const names = scope.bindings.map((entry) => `<a href="#symbol-${entry.symbol}">${escape(entry.name)}</a>`);
   const lines = `${scope.span.line}–${scope.lastLine}`;
@@ -74,13 +74,13 @@ function scopeHead(model, scope) {
 }
 
 // Scopes inside scopes, each a box with its names.
-function writeScopeBox(model, children, scope, out) {
-  out.push(`<li class="box">${scopeHead(model, scope)}`);
+function writeScopeBox(children, scope, out) {
+  out.push(`<li class="box">${scopeHead(scope)}`);
   const inside = children[scope.id];
   if (inside.length > 0) {
     out.push('<ul>');
     for (const inner of inside) {
-      writeScopeBox(model, children, inner, out);
+      writeScopeBox(children, inner, out);
     }
     out.push('</ul>');
   }
@@ -89,7 +89,7 @@ function writeScopeBox(model, children, scope, out) {
 
 function scopesPanel(model) {
   const out = [];
-  writeScopeBox(model, childrenOf(model.scopes), model.scopes[0], out);
+  writeScopeBox(childrenOf(model.scopes), model.scopes[0], out);
   return section('scopes', 'Scopes', model.scopes.length, `<ul>${out.join('')}</ul>`, false);
 }
 
