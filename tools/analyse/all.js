@@ -141,7 +141,7 @@ function resume(settings, places) {
 
 // Builds the program where that is still to be done, so that jobs don't all begin with it.
 function buildProgram() {
-  if (process.env.BOLGWYR_REPORT === undefined) {
+  if (!process.env.BOLGWYR_REPORT) {
     announceBuild();
     const empty = fs.openSync(path.join(__dirname, '..', '..', 'samples', 'empty.json'));
     const run = spawnSync(programPath(), [], { stdio: [empty, 'ignore', 'inherit'] });

@@ -19,14 +19,15 @@ class ProgramFault extends Error {
 
 // The report program: the one named by BOLGWYR_REPORT, else the repository's own.
 function programPath() {
-  return process.env.BOLGWYR_REPORT || path.join(ROOT, 'bin', 'report');
+  const named = process.env.BOLGWYR_REPORT || path.join(ROOT, 'bin', 'report');
+  return named.includes('/') ? path.resolve(named) : named;
 }
 
 const BUILT = path.join(ROOT, 'crates', 'report_main', 'out', 'report_main');
 
 // Says why nothing is heard for long, where the repository's own program isn't built yet.
 function announceBuild() {
-  if (process.env.BOLGWYR_REPORT === undefined && !fs.existsSync(BUILT)) {
+  if (!process.env.BOLGWYR_REPORT && !fs.existsSync(BUILT)) {
     tell('the report program is proved and built first, which takes tens of minutes');
   }
 }

@@ -6,6 +6,7 @@
   const hint = document.getElementById('hint');
   const filter = document.getElementById('filter');
   const startText = details.innerHTML;
+  const symbolItems = document.querySelectorAll('#panel-symbols li');
   const marked = new Map();
   let selected = null;
 
@@ -168,7 +169,7 @@
     const symbol = symbolIdOf(target);
     const item = symbol === null
       ? document.getElementById(`free-${target.type === 'free' ? target.number : freeOf(target)}`)
-      : document.querySelectorAll('#panel-symbols li')[symbol];
+      : symbolItems[symbol];
     if (item) {
       item.classList.add('chosen');
       marked.set(item, 'chosen');
@@ -336,7 +337,7 @@
 
   filter.addEventListener('input', () => {
     const wanted = filter.value.toLowerCase();
-    for (const item of document.querySelectorAll('#panel-symbols li')) {
+    for (const item of symbolItems) {
       item.hidden = !item.firstChild.textContent.toLowerCase().includes(wanted);
     }
   });
