@@ -163,7 +163,7 @@ function runOf(settings, places, batch) {
     bar: process.stderr.isTTY === true,
     machines: settings.machines === null ? null : path.resolve(settings.machines),
     transfer,
-    settings: { folder: places.folder, results: places.results, bundled: transfer, form, words, parser, goal },
+    settings: { out: places.out, folder: places.folder, results: places.results, bundled: transfer, form, words, parser, goal },
   };
 }
 

@@ -27,17 +27,19 @@ function analyseFiles(names, settings) {
   }
 }
 
-// Answers `bundles/NAME` by `answers/NAME`, both below the current folder.
+// Answers `bundles/NAME` by `answers/NAME`. Both stand below the current folder on another machine, and where they were
+// made on the machine that began.
 function analyseBundle(bundle, settings) {
+  const base = fs.existsSync(path.join('bundles', bundle)) ? process.cwd() : settings.out;
   const scratch = fs.mkdtempSync(path.join(process.cwd(), 'job-'));
   try {
     const folder = path.join(scratch, 'files');
     const results = path.join(scratch, 'results');
-    unpack(path.join('bundles', bundle), folder);
+    unpack(path.join(base, 'bundles', bundle), folder);
     fs.mkdirSync(results);
     analyseFiles(sourceFiles(folder, () => false).map((file) => file.name), { ...settings, folder, results });
-    fs.mkdirSync('answers', { recursive: true });
-    pack(path.resolve('answers', bundle), results, ['.']);
+    fs.mkdirSync(path.join(base, 'answers'), { recursive: true });
+    pack(path.join(base, 'answers', bundle), results, ['.']);
   } finally {
     fs.rmSync(scratch, { recursive: true, force: true });
   }
