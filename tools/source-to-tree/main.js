@@ -39,12 +39,13 @@ function readText(file) {
   }
 }
 
-// Writes all bytes; a pipe may take a part, or none for a moment.
+// Writes all bytes; a pipe may take a part, none for a moment, or nobody may read it any more.
 function writeOut(bytes) {
   for (let at = 0; at < bytes.length;) {
     try {
       at += fs.writeSync(1, bytes, at);
     } catch (error) {
+      if (error.code === 'EPIPE') return;
       if (error.code !== 'EAGAIN') throw error;
     }
   }

@@ -16,8 +16,13 @@ function commentsOf({ ast }) {
     .sort((a, b) => a.start - b.start);
 }
 
+// A tree from elsewhere may lack what its type promises.
 function write(parsed, text, writer, annotations) {
-  new EstreeConversion(text, writer, annotations).program(parsed.ast);
+  try {
+    new EstreeConversion(text, writer, annotations).program(parsed.ast);
+  } catch (error) {
+    throw error instanceof TypeError ? new Refusal(`not an ESTree: ${error.message}`) : error;
+  }
   return commentsOf(parsed).filter(({ start }) => start > 0 || !text.startsWith('#!'));
 }
 
