@@ -4,9 +4,12 @@
 const { Refusal } = require('../refusal');
 const { EstreeConversion } = require('../estree');
 
+const GOALS = ['script', 'module', 'commonjs'];
+
 function read(text, { tree }) {
   if (!tree || (tree.type !== 'Program' && tree.type !== 'File')) throw new Refusal('not an ESTree: its top is neither Program nor File');
-  return { ast: tree, goal: (tree.program || tree).sourceType };
+  const { sourceType } = tree.program || tree;
+  return { ast: tree, goal: GOALS.includes(sourceType) ? sourceType : undefined };
 }
 
 function commentsOf({ ast }) {
