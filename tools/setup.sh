@@ -1,10 +1,10 @@
 #!/bin/sh
-# Installs what the tools round the analyser need and isn't there: Node, the parsers, GNU parallel and a browser for tests.
-# Debian's packages by apt-get alone, as root or with sudo. It can be run again at any time.
+# Installs what the tools round the analyser need and isn't there: Node, the parsers (node-acorn has acorn-jsx too), GNU
+# parallel and a browser for tests. Debian's packages by apt-get alone, as root or with sudo. It can be run again at any time.
 # usage: tools/setup.sh [--without-browser]
 set -eu
 
-packages="node-acorn node-acorn-jsx node-typescript node-eslint-scope parallel"
+packages="node-acorn node-typescript node-eslint-scope parallel"
 [ "${1:-}" = --without-browser ] || packages="$packages chromium"
 
 # A Node from elsewhere serves as well as Debian's.
@@ -37,6 +37,6 @@ if [ -n "$as_root" ] && ! command -v sudo >/dev/null 2>&1; then
     exit 1
 fi
 echo "installing:$wanted"
-$as_root apt-get update
+$as_root apt-get -o DPkg::Lock::Timeout=300 update
 # shellcheck disable=SC2086 # the names are words of their own
-$as_root env DEBIAN_FRONTEND=noninteractive apt-get install -y --no-install-recommends $wanted
+$as_root env DEBIAN_FRONTEND=noninteractive apt-get -o DPkg::Lock::Timeout=300 install -y --no-install-recommends $wanted

@@ -3,6 +3,7 @@
 
 const fs = require('fs');
 const { treeOf, Refusal } = require('./convert');
+const { readText } = require('./input');
 
 const USAGE = 'usage: main.js [--parser acorn|typescript|estree] [--goal script|module|commonjs] [--source FILE] [--time] FILE';
 const CHOICES = { '--parser': ['acorn', 'typescript', 'estree'], '--goal': ['script', 'module', 'commonjs'], '--source': null };
@@ -22,29 +23,13 @@ function optionsOf(words) {
   return options.file === undefined ? null : options;
 }
 
-const READING = { ENOENT: 'no such file', EISDIR: 'is a folder', EACCES: "can't be read: permission denied" };
-
-// The text of a file, refused where it isn't there or isn't UTF-8.
-function readText(file) {
-  let bytes;
-  try {
-    bytes = fs.readFileSync(file);
-  } catch (error) {
-    throw new Refusal(READING[error.code] || error.message);
-  }
-  try {
-    return new TextDecoder('utf-8', { fatal: true, ignoreBOM: true }).decode(bytes);
-  } catch {
-    throw new Refusal('not UTF-8');
-  }
-}
-
-// Writes all bytes; a pipe may take a part, or none for a moment.
+// Writes all bytes; a pipe may take a part, none for a moment, or nobody may read it any more.
 function writeOut(bytes) {
   for (let at = 0; at < bytes.length;) {
     try {
       at += fs.writeSync(1, bytes, at);
     } catch (error) {
+      if (error.code === 'EPIPE') return;
       if (error.code !== 'EAGAIN') throw error;
     }
   }

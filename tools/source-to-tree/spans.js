@@ -1,6 +1,8 @@
 'use strict';
 // Parsers count UTF-16 units, the tree counts bytes of UTF-8. A byte order mark stands in the source and is not parsed.
 
+const { Refusal } = require('./refusal');
+
 const MARK_BYTES = 3;
 
 // The bytes of UTF-8 before each unit of the text, and after the last.
@@ -25,10 +27,11 @@ class ByteOffsets {
     this.shift = marked ? MARK_BYTES : 0;
     const bytes = Buffer.byteLength(text, 'utf8');
     this.table = bytes === text.length ? null : bytesBefore(text);
-    this.length = bytes + this.shift;
+    this.last = text.length;
   }
 
   at(offset) {
+    if (!(offset >= 0 && offset <= this.last)) throw new Refusal(`there is no place ${offset} in the source`);
     return this.shift + (this.table === null ? offset : this.table[offset]);
   }
 }

@@ -1,13 +1,16 @@
 'use strict';
 // One source file: its trees both ways, the analysis of each, and eslint-scope.
 
-const fs = require('fs');
+const { Refusal } = require('../source-to-tree/refusal');
+const { readText } = require('../source-to-tree/input');
 const { convert } = require('./small');
 const { reportOf } = require('./analysis');
 const { compareWithEslint } = require('./compare-scopes');
 
 const isScript = (file) => /\.[mc]?js$/i.test(file);
 const parsersOf = (file) => (isScript(file) ? ['acorn', 'typescript'] : ['typescript']);
+
+const PROGRESS = 500;
 
 function add(sums, counts) {
   for (const [kind, count] of Object.entries(counts)) sums[kind] = (sums[kind] || 0) + count;
@@ -59,17 +62,29 @@ class Files {
     this.tally.check(`${file}: as eslint-scope`, found.unlisted.length === 0, found.unlisted.slice(0, 5).join('; '));
   }
 
+  // The text of the file, or null where it is refused.
+  textOf(file) {
+    try {
+      return readText(file);
+    } catch (error) {
+      if (!(error instanceof Refusal)) throw error;
+      this.refusals.push(error.lineFor(file));
+      return null;
+    }
+  }
+
   check(file) {
-    const source = fs.readFileSync(file, 'utf8');
-    const trees = this.treesOf(file, source);
+    const source = this.textOf(file);
+    const trees = source === null ? new Map() : this.treesOf(file, source);
     this.sums.files += 1;
+    if (this.sums.files % PROGRESS === 0) process.stderr.write(`${this.sums.files} files\n`);
     this.sums[trees.size > 0 ? 'analysed' : 'refused'] += 1;
     this.compare(file, source, trees, this.analyse(file, trees));
   }
 
   print() {
     console.log(Object.entries(this.sums).map(([name, count]) => `${count} ${name}`).join(', '));
-    if (this.refusals.length > 0) console.log(`refused by a parser:\n  ${this.refusals.join('\n  ')}`);
+    if (this.refusals.length > 0) console.log(`refused:\n  ${this.refusals.join('\n  ')}`);
     const listed = Object.entries(this.listed).map(([kind, count]) => `${count} ${kind}`).join(', ');
     console.log(`listed differences from eslint-scope: ${listed || 'none'}`);
   }

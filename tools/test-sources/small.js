@@ -83,14 +83,20 @@ const shapeOf = (rows) => rows.map(([depth, role, kind, , , text, marks]) => JSO
 // Programs whose stored trees leave something out that their sources have, or are refused by today's parsers.
 const OTHERWISE = require('./stored.json');
 
-// The stored trees were made by hand or with shortened spans, so kinds, roles, texts and marks are compared.
+// Programs whose stored trees have each span whole.
+const WHOLE = new Set(['import-events-require-events-declare-nam.json', 'import-react-usestate-as-state-from-reac.json',
+  'usr-bin-env-node-var-args-process-argv-s.json', 'let-a-1-a-2.json']);
+const wholeShape = (rows) => rows.map((row) => JSON.stringify(row.map((part) => methodsFormal(part)))).join('\n');
+
+// Of most stored trees the spans are shortened, so kinds, roles, texts and marks are compared.
 function checkStored(tally) {
   const names = fs.readdirSync(STORED).filter((name) => name.endsWith('.json'));
   for (const name of names) {
     const tree = JSON.parse(fs.readFileSync(path.join(STORED, name), 'utf8'));
     for (const parser of tree.lang === 'js' ? ['acorn', 'typescript'] : ['typescript']) {
       const { json } = convert(tree.source, { filename: `x${ENDINGS[tree.lang]}`, parser, goal: tree.goal });
-      const equal = json !== undefined && shapeOf(JSON.parse(json).rows) === shapeOf(tree.rows);
+      const listing = WHOLE.has(name) ? wholeShape : shapeOf;
+      const equal = json !== undefined && listing(JSON.parse(json).rows) === listing(tree.rows);
       const listed = OTHERWISE[`${name} by ${parser}`];
       tally.check(`stored ${name} by ${parser}`, equal || listed !== undefined, json === undefined ? 'refused' : 'differs');
     }

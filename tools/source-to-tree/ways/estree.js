@@ -4,9 +4,12 @@
 const { Refusal } = require('../refusal');
 const { EstreeConversion } = require('../estree');
 
+const GOALS = ['script', 'module', 'commonjs'];
+
 function read(text, { tree }) {
   if (!tree || (tree.type !== 'Program' && tree.type !== 'File')) throw new Refusal('not an ESTree: its top is neither Program nor File');
-  return { ast: tree, goal: (tree.program || tree).sourceType };
+  const { sourceType } = tree.program || tree;
+  return { ast: tree, goal: GOALS.includes(sourceType) ? sourceType : undefined };
 }
 
 function commentsOf({ ast }) {
@@ -16,8 +19,13 @@ function commentsOf({ ast }) {
     .sort((a, b) => a.start - b.start);
 }
 
+// A tree from elsewhere may lack what its type promises.
 function write(parsed, text, writer, annotations) {
-  new EstreeConversion(text, writer, annotations).program(parsed.ast);
+  try {
+    new EstreeConversion(text, writer, annotations).program(parsed.ast);
+  } catch (error) {
+    throw error instanceof TypeError ? new Refusal(`not an ESTree: ${error.message}`) : error;
+  }
   return commentsOf(parsed).filter(({ start }) => start > 0 || !text.startsWith('#!'));
 }
 
