@@ -1,0 +1,62 @@
+'use strict';
+// The text of a source file.
+
+const fs = require('fs');
+const { Refusal } = require('./refusal.js');
+
+// The report program takes no longer tree, and a tree holds its source.
+const MOST_BYTES = 67_108_864;
+
+const CAUSES = {
+  ENOENT: 'no such file',
+  ENOTDIR: 'no such file',
+  EACCES: 'may not be read',
+  EISDIR: 'is a folder',
+  ELOOP: 'its links make a ring',
+  ENAMETOOLONG: 'its name is too long',
+};
+
+function counted(number) {
+  return number.toLocaleString('en-US');
+}
+
+// Refuses what is longer than any tree that is taken.
+function checkSize(size, what) {
+  if (size > MOST_BYTES) {
+    throw new Refusal(`too large: ${what} has ${counted(size)} bytes, and at most ${counted(MOST_BYTES)} are taken`);
+  }
+}
+
+function bytesOf(file) {
+  try {
+    checkSize(fs.statSync(file).size, 'the file');
+    return fs.readFileSync(file);
+  } catch (error) {
+    if (error instanceof Refusal) {
+      throw error;
+    }
+    throw new Refusal(CAUSES[error.code] || `can't be read: ${error.message}`);
+  }
+}
+
+// The first byte that belongs to no character.
+function firstFault(bytes, text) {
+  const again = Buffer.from(text, 'utf8');
+  let place = 0;
+  while (place < bytes.length && bytes[place] === again[place]) {
+    place += 1;
+  }
+  return place;
+}
+
+// The text of a file, which has to be UTF-8. A byte order mark stays.
+function readText(file) {
+  const bytes = bytesOf(file);
+  const text = bytes.toString('utf8');
+  if (Buffer.byteLength(text, 'utf8') !== bytes.length || !Buffer.from(text, 'utf8').equals(bytes)) {
+    throw new Refusal(`not UTF-8 at byte ${firstFault(bytes, text)}`);
+  }
+  return text;
+}
+
+module.exports = { checkSize, readText };

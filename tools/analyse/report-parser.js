@@ -1,0 +1,231 @@
+'use strict';
+// From the text of a report to its scopes, symbols, references and diagnostics.
+
+const { Cursor } = require('./cursor.js');
+
+// A line that no report has.
+class ReportFault extends Error {
+  constructor(lineNumber, line, cause) {
+    const shown = line.length > 80 ? `${line.slice(0, 80)}...` : line;
+    super(`line ${lineNumber} of the report isn't known: ${cause}: ${shown}`);
+  }
+}
+
+function emptyReport() {
+  return {
+    nodes: [],
+    scopes: [],
+    symbols: [],
+    references: [],
+    free: [],
+    classes: [],
+    unusedLabels: [],
+    stats: null,
+    diagnostics: [],
+  };
+}
+
+// The entry of this id, which an earlier line made.
+function entry(list, id, what) {
+  if (id >= list.length) {
+    throw new SyntaxError(`there is no ${what} ${id}`);
+  }
+  return list[id];
+}
+
+// Adds an entry whose id is the next one.
+function add(list, made, what) {
+  if (made.id !== list.length) {
+    throw new SyntaxError(`${what} ${list.length} wanted`);
+  }
+  list.push(made);
+}
+
+function readNode(cursor, report) {
+  const id = cursor.number();
+  cursor.expect(' ');
+  const kind = cursor.word();
+  const parent = cursor.labelled(' parent ');
+  add(report.nodes, { id, kind, parent, scope: cursor.labelled(' scope ') }, 'node');
+}
+
+function readScope(cursor, report) {
+  const id = cursor.number();
+  cursor.expect(' parent ');
+  const parent = cursor.numberOrDash();
+  const node = cursor.labelled(' node ');
+  cursor.expect(' flags ');
+  add(report.scopes, { id, parent, node, flags: cursor.flags(), bindings: [] }, 'scope');
+}
+
+function readBinding(cursor, report) {
+  const scope = entry(report.scopes, cursor.number(), 'scope');
+  cursor.expect(' ');
+  const name = cursor.quoted();
+  scope.bindings.push({ name, symbol: cursor.labelled(' ') });
+}
+
+function readSymbol(cursor, report) {
+  const id = cursor.number();
+  cursor.expect(' ');
+  const name = cursor.quoted();
+  const scope = cursor.labelled(' scope ');
+  const node = cursor.labelled(' node ');
+  cursor.expect(' span ');
+  const span = cursor.span();
+  cursor.expect(' flags ');
+  const flags = cursor.flags();
+  const made = { id, name, scope, node, span, flags, redeclarations: [], references: [], pure: false };
+  add(report.symbols, made, 'symbol');
+}
+
+function readRedeclaration(cursor, report) {
+  const symbol = entry(report.symbols, cursor.number(), 'symbol');
+  const node = cursor.labelled(' node ');
+  cursor.expect(' span ');
+  const span = cursor.span();
+  cursor.expect(' flags ');
+  symbol.redeclarations.push({ node, span, flags: cursor.flags() });
+}
+
+function readUses(cursor, report) {
+  const symbol = entry(report.symbols, cursor.number(), 'symbol');
+  symbol.references = cursor.numbers();
+}
+
+function readPure(cursor, report) {
+  entry(report.symbols, cursor.number(), 'symbol').pure = true;
+}
+
+function readReference(cursor, report) {
+  const id = cursor.number();
+  cursor.expect(' ');
+  const name = cursor.quoted();
+  const node = cursor.labelled(' node ');
+  const scope = cursor.labelled(' scope ');
+  cursor.expect(' flags ');
+  const flags = cursor.flags();
+  cursor.expect(' symbol ');
+  add(report.references, { id, name, node, scope, flags, symbol: cursor.numberOrDash() }, 'reference');
+}
+
+function readFree(cursor, report) {
+  const name = cursor.quoted();
+  report.free.push({ name, references: cursor.numbers() });
+}
+
+function readClass(cursor, report) {
+  const id = cursor.number();
+  const node = cursor.labelled(' node ');
+  cursor.expect(' parent ');
+  add(report.classes, { id, node, parent: cursor.numberOrDash(), elements: [], uses: [] }, 'class');
+}
+
+function readElement(cursor, report) {
+  const owner = entry(report.classes, cursor.number(), 'class');
+  const id = cursor.labelled(' ');
+  cursor.expect(' ');
+  const name = cursor.quoted();
+  cursor.expect(' span ');
+  const span = cursor.span();
+  cursor.expect(' ');
+  const isPrivate = cursor.oneOf('private', 'public');
+  cursor.expect(' ');
+  const isStatic = cursor.oneOf('static', 'instance');
+  cursor.expect(' kind ');
+  add(owner.elements, { id, name, span, isPrivate, isStatic, kind: cursor.flags() }, 'element');
+}
+
+function readPrivateUse(cursor, report) {
+  const owner = entry(report.classes, cursor.number(), 'class');
+  const node = cursor.labelled(' node ');
+  cursor.expect(' ');
+  const name = cursor.quoted();
+  cursor.expect(' span ');
+  const span = cursor.span();
+  cursor.expect(' elements');
+  owner.uses.push({ node, name, span, elements: cursor.numbers() });
+}
+
+function readUnusedLabel(cursor, report) {
+  report.unusedLabels.push({ node: cursor.number() });
+}
+
+function readStats(cursor, report) {
+  cursor.expect('nodes ');
+  const nodes = cursor.number();
+  const scopes = cursor.labelled(' scopes ');
+  const symbols = cursor.labelled(' symbols ');
+  report.stats = { nodes, scopes, symbols, references: cursor.labelled(' references ') };
+}
+
+function readDiagnostic(cursor, report) {
+  const code = cursor.word();
+  cursor.expect(' ');
+  const message = cursor.quoted();
+  const labels = [];
+  while (cursor.takes(' at ')) {
+    const span = cursor.span();
+    cursor.expect(' ');
+    labels.push({ span, text: cursor.quotedOrDash() });
+  }
+  cursor.expect(' help ');
+  const help = cursor.quotedOrDash();
+  cursor.expect(' note ');
+  const note = cursor.quotedOrDash();
+  report.diagnostics.push({ code: code === '-' ? null : code, message, labels, help, note });
+}
+
+// What reads the rest of a line, by its first word.
+const READERS = new Map([
+  ['node', readNode],
+  ['scope', readScope],
+  ['bind', readBinding],
+  ['symbol', readSymbol],
+  ['redecl', readRedeclaration],
+  ['uses', readUses],
+  ['pure', readPure],
+  ['ref', readReference],
+  ['free', readFree],
+  ['class', readClass],
+  ['element', readElement],
+  ['use', readPrivateUse],
+  ['label', readUnusedLabel],
+  ['stats', readStats],
+  ['diag', readDiagnostic],
+]);
+
+function readLine(line, report) {
+  const cursor = new Cursor(line);
+  const reader = READERS.get(cursor.word());
+  if (reader === undefined) {
+    throw new SyntaxError('no such kind of line');
+  }
+  cursor.expect(' ');
+  reader(cursor, report);
+  cursor.end();
+}
+
+// The report that this text is. Anything else is a fault.
+function parseReport(text) {
+  const report = emptyReport();
+  let number = 0;
+  let start = 0;
+  while (start < text.length) {
+    const end = text.indexOf('\n', start);
+    const line = text.slice(start, end === -1 ? text.length : end);
+    number += 1;
+    try {
+      if (end === -1) {
+        throw new SyntaxError('the line has no end');
+      }
+      readLine(line, report);
+    } catch (error) {
+      throw error instanceof SyntaxError ? new ReportFault(number, line, error.message) : error;
+    }
+    start = end + 1;
+  }
+  return report;
+}
+
+module.exports = { ReportFault, parseReport };

@@ -1,0 +1,203 @@
+'use strict';
+// Expressions.
+
+const { skipTrivia } = require('../trivia');
+const { visit, each, plain, marksOf } = require('./visit');
+const { BABEL_LITERALS } = require('./literals');
+
+visit.template = plain('TemplateLiteral', { quasis: 'templateElement', expressions: 'expression' });
+visit.spread = plain('SpreadElement', { argument: 'expression' });
+
+visit.argument = (c, role, node) => visit[node.type === 'SpreadElement' ? 'spread' : 'expression'](c, role, node);
+visit.callee = (c, role, node) => {
+  if (node.type === 'Super') c.leaf(role, 'Super', node);
+  else visit.expression(c, role, node);
+};
+
+const typeArgumentsOf = (node) => node.typeArguments || node.typeParameters;
+
+// An array, its holes told by the places of their commas.
+function array(c, role, node) {
+  c.open(role, 'ArrayExpression', node);
+  let at = c.start(node) + 1;
+  for (const element of node.elements) {
+    if (element === null) {
+      at = skipTrivia(c.text, at);
+      c.writer.leaf('elements', 'Elision', at, at);
+      at += 1;
+      continue;
+    }
+    visit.argument(c, 'elements', element);
+    const comma = skipTrivia(c.text, c.end(element));
+    at = c.text[comma] === ',' ? comma + 1 : comma;
+  }
+  c.close();
+}
+
+function objectProperty(c, role, node) {
+  if (node.type === 'SpreadElement' || node.type === 'SpreadProperty') return visit.spread(c, role, node);
+  const kind = node.kind === 'get' || node.kind === 'set' ? node.kind : 'init';
+  const isMethod = node.method || node.kind === 'method';
+  c.open(role, 'ObjectProperty', node, kind, marksOf({ method: isMethod, shorthand: node.shorthand, computed: node.computed }));
+  visit.key(c, 'key', node.key, node.computed);
+  if (isMethod || kind !== 'init') visit.methodValue(c, 'value', node.value || node, visit.methodStart(c, node));
+  else visit.expression(c, 'value', node.value);
+  c.close();
+}
+visit.objectProperty = objectProperty;
+visit.object = plain('ObjectExpression', { properties: 'objectProperty' });
+
+function importCall(c, role, node) {
+  const [argument, options] = node.arguments || [node.source, node.options || node.attributes];
+  c.open(role, 'ImportExpression', node);
+  visit.expression(c, 'argument', argument);
+  each(c, 'options', options, 'expression');
+  c.close();
+}
+
+function call(c, role, node) {
+  if (node.callee.type === 'Import') return importCall(c, role, node);
+  const pure = c.annotations.takesPure(c.start(node));
+  c.open(role, 'CallExpression', node, '', marksOf({ optional: node.optional, pure }));
+  visit.chained(c, 'callee', node.callee);
+  each(c, 'typeArguments', typeArgumentsOf(node), 'typeArguments');
+  each(c, 'arguments', node.arguments, 'argument');
+  c.close();
+}
+
+function construct(c, role, node) {
+  c.open(role, 'NewExpression', node, '', marksOf({ pure: c.annotations.takesPure(c.start(node)) }));
+  visit.callee(c, 'callee', node.callee);
+  each(c, 'typeArguments', typeArgumentsOf(node), 'typeArguments');
+  each(c, 'arguments', node.arguments, 'argument');
+  c.close();
+}
+
+function member(c, role, node) {
+  const marks = marksOf({ optional: node.optional });
+  if (node.computed) {
+    c.open(role, 'ComputedMemberExpression', node, '', marks);
+    visit.chained(c, 'object', node.object);
+    visit.expression(c, 'expression', node.property);
+  } else if (node.property.type === 'Identifier') {
+    c.open(role, 'StaticMemberExpression', node, '', marks);
+    visit.chained(c, 'object', node.object);
+    visit.name(c, 'property', node.property);
+  } else {
+    c.open(role, 'PrivateFieldExpression', node, '', marks);
+    visit.chained(c, 'object', node.object);
+    visit.privateName(c, 'field', node.property);
+  }
+  c.close();
+}
+
+// Babel has no node for a chain, but links of their own types.
+const LINKS = { OptionalMemberExpression: member, OptionalCallExpression: call };
+
+function chainOfLinks(c, role, node) {
+  c.open(role, 'ChainExpression', node);
+  LINKS[node.type](c, 'expression', node);
+  c.close();
+}
+
+// What a link of a chain stands on: the chain goes on.
+visit.chained = (c, role, node) => {
+  const link = LINKS[node.type];
+  if (link) link(c, role, node);
+  else visit.callee(c, role, node);
+};
+
+function binary(c, role, node) {
+  if (node.left.type === 'PrivateIdentifier' || node.left.type === 'PrivateName') {
+    c.open(role, 'PrivateInExpression', node);
+    visit.privateName(c, 'left', node.left);
+  } else {
+    c.open(role, 'BinaryExpression', node, node.operator);
+    visit.expression(c, 'left', node.left);
+  }
+  visit.expression(c, 'right', node.right);
+  c.close();
+}
+
+// An expression with its operator as text.
+function operation(kind, parts, marks = {}) {
+  const list = Object.entries(parts);
+  const names = Object.entries(marks);
+  return (c, role, node) => {
+    c.open(role, kind, node, node.operator || '', names.filter(([, field]) => node[field]).map(([mark]) => mark));
+    for (const [field, name] of list) each(c, field, node[field], name);
+    c.close();
+  };
+}
+
+const typed = (kind) => (c, role, node) => {
+  c.open(role, kind, node);
+  visit.expression(c, 'expression', node.expression);
+  visit.type(c, 'type', node.typeAnnotation);
+  c.close();
+};
+
+function nonNull(c, role, node) {
+  c.open(role, 'TSNonNullExpression', node);
+  visit.expression(c, 'expression', node.expression);
+  c.close();
+}
+
+function instantiation(c, role, node) {
+  c.open(role, 'TSInstantiationExpression', node);
+  visit.expression(c, 'expression', node.expression);
+  visit.typeArguments(c, 'typeArguments', typeArgumentsOf(node));
+  c.close();
+}
+
+const literal = (c, role, node) => visit.literal(c, role, node);
+const EXPRESSIONS = {
+  ...BABEL_LITERALS,
+  Literal: literal,
+  Identifier: (c, role, node) => visit.reference(c, role, node),
+  TemplateLiteral: visit.template,
+  TaggedTemplateExpression(c, role, node) {
+    c.open(role, 'TaggedTemplateExpression', node);
+    visit.expression(c, 'tag', node.tag);
+    each(c, 'typeArguments', typeArgumentsOf(node), 'typeArguments');
+    visit.template(c, 'quasi', node.quasi);
+    c.close();
+  },
+  ThisExpression: plain('ThisExpression'),
+  MetaProperty: plain('MetaProperty', { meta: 'name', property: 'name' }),
+  ArrayExpression: array,
+  ObjectExpression: visit.object,
+  CallExpression: call,
+  NewExpression: construct,
+  ImportExpression: importCall,
+  MemberExpression: member,
+  OptionalMemberExpression: chainOfLinks,
+  OptionalCallExpression: chainOfLinks,
+  ChainExpression: plain('ChainExpression', { expression: 'expression' }),
+  UnaryExpression: operation('UnaryExpression', { argument: 'expression' }),
+  UpdateExpression: operation('UpdateExpression', { argument: 'target' }, { prefix: 'prefix' }),
+  BinaryExpression: binary,
+  LogicalExpression: operation('LogicalExpression', { left: 'expression', right: 'expression' }),
+  ConditionalExpression: plain('ConditionalExpression', { test: 'expression', consequent: 'expression', alternate: 'expression' }),
+  AssignmentExpression: operation('AssignmentExpression', { left: 'target', right: 'expression' }),
+  SequenceExpression: plain('SequenceExpression', { expressions: 'expression' }),
+  ParenthesizedExpression: plain('ParenthesizedExpression', { expression: 'expression' }),
+  AwaitExpression: plain('AwaitExpression', { argument: 'expression' }),
+  YieldExpression: operation('YieldExpression', { argument: 'expression' }, { delegate: 'delegate' }),
+  ArrowFunctionExpression: (c, role, node) => visit.arrow(c, role, node),
+  FunctionExpression: (c, role, node) => visit.functionExpression(c, role, node),
+  ClassExpression: (c, role, node) => visit.classExpression(c, role, node),
+  TSAsExpression: typed('TSAsExpression'),
+  TSSatisfiesExpression: typed('TSSatisfiesExpression'),
+  TSTypeAssertion: typed('TSTypeAssertion'),
+  TSNonNullExpression: nonNull,
+  TSInstantiationExpression: instantiation,
+};
+
+visit.expression = (c, role, node) => {
+  const visitor = EXPRESSIONS[node.type];
+  if (visitor === undefined) c.refuse(node, `${node.type} can't be an expression`);
+  visitor(c, role, node);
+};
+
+module.exports = { EXPRESSIONS };

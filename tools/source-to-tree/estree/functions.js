@@ -1,0 +1,131 @@
+'use strict';
+// Functions, arrows and their parameters.
+
+const { skipTrivia, openParenthesis, closingEnd, nameEnd } = require('../trivia');
+const { visit, each, marksOf } = require('./visit');
+const { DECLARATIONS } = require('./statements');
+
+const isThis = (node) => node !== undefined && node.type === 'Identifier' && node.name === 'this';
+
+// Where the search for `(` begins: behind what stands before it.
+function beforeParameters(c, node) {
+  if (node.typeParameters) return c.end(node.typeParameters);
+  if (node.id) return c.end(node.id);
+  return c.start(node);
+}
+
+// The span of a list of parameters: with its parentheses, or an arrow's single name.
+function parametersSpan(c, params, from) {
+  const open = openParenthesis(c.text, from);
+  const last = params[params.length - 1];
+  return [open, closingEnd(c.text, last ? c.end(last) : open + 1, ')')];
+}
+
+function arrowSpan(c, node) {
+  if (node.typeParameters) return parametersSpan(c, node.params, c.end(node.typeParameters));
+  let start = c.start(node);
+  if (node.async) start = skipTrivia(c.text, nameEnd(c.text, start));
+  if (c.text[start] === '(') return parametersSpan(c, node.params, start);
+  return [c.start(node.params[0]), c.end(node.params[0])];
+}
+
+// A parameter begins at its decorators, which some dialects leave out of its span.
+function openParameter(c, role, kind, node, { decorators, marks }) {
+  const [first] = decorators;
+  const start = first ? Math.min(c.start(first), c.start(node)) : c.start(node);
+  c.writer.open(role, kind, start, c.end(node), '', marks);
+  each(c, 'decorators', decorators, 'decorator');
+}
+
+function restParameter(c, role, node) {
+  openParameter(c, role, 'FormalParameterRest', node, { decorators: node.decorators || [] });
+  visit.bindingRest(c, 'rest', node);
+  each(c, 'type', node.typeAnnotation, 'typeAnnotation');
+  c.close();
+}
+
+function parameter(c, role, outer) {
+  const inner = outer.type === 'TSParameterProperty' ? outer.parameter : outer;
+  const withDefault = inner.type === 'AssignmentPattern';
+  const pattern = withDefault ? inner.left : inner;
+  const marks = marksOf({
+    [outer.accessibility]: outer.accessibility,
+    readonly: outer.readonly,
+    override: outer.override,
+    optional: pattern.optional || inner.optional,
+  });
+  openParameter(c, role, 'FormalParameter', outer, { decorators: outer.decorators || inner.decorators || [], marks });
+  visit.binding(c, 'pattern', pattern);
+  each(c, 'type', pattern.typeAnnotation, 'typeAnnotation');
+  each(c, 'initializer', withDefault ? inner.right : null, 'expression');
+  c.close();
+}
+
+function formalParameters(c, [start, end], text, params) {
+  c.writer.open('params', 'FormalParameters', start, end, text);
+  for (const param of params) {
+    if (param.type === 'RestElement') restParameter(c, 'rest', param);
+    else parameter(c, 'items', param);
+  }
+  c.close();
+}
+
+// Type parameters, `this`, parameters and return type. The list of parameters begins at or after `from`.
+visit.signature = (c, node, text, from = beforeParameters(c, node)) => {
+  const params = node.params || node.parameters;
+  each(c, 'typeParameters', node.typeParameters, 'typeParameters');
+  const span = parametersSpan(c, params, from);
+  const first = isThis(params[0]) ? 1 : 0;
+  if (first === 1) {
+    c.open('this', 'TSThisParameter', params[0]);
+    each(c, 'type', params[0].typeAnnotation, 'typeAnnotation');
+    c.close();
+  }
+  formalParameters(c, span, text, params.slice(first));
+  each(c, 'returnType', node.returnType || node.typeAnnotation, 'typeAnnotation');
+};
+
+function functionBody(c, node) {
+  if (!node) return;
+  c.open('body', 'FunctionBody', node);
+  visit.body(c, node);
+  c.close();
+}
+
+// A function with the text given; its list of parameters is unique where it is a method's.
+function writeFunction(c, role, node, { text, list = 'formal', start = c.start(node) }) {
+  const marks = marksOf({
+    async: node.async,
+    generator: node.generator,
+    declare: node.declare,
+    pure: text !== 'ts-empty-body' && c.annotations.takesNoSideEffects(start),
+  });
+  c.writer.open(role, 'Function', start, c.end(node), text, marks);
+  if (list === 'formal') each(c, 'id', node.id, 'bindingName');
+  visit.signature(c, node, list, list === 'formal' ? undefined : afterTypes(c, node, start));
+  functionBody(c, node.body);
+  c.close();
+}
+
+const afterTypes = (c, node, start) => (node.typeParameters ? c.end(node.typeParameters) : start);
+
+visit.functionDeclaration = (c, role, node) => writeFunction(c, role, node, { text: node.body ? 'declaration' : 'ts-declare' });
+visit.functionExpression = (c, role, node) => writeFunction(c, role, node, { text: 'expression' });
+// The value of a method, which begins at its list of parameters or of type parameters.
+visit.methodValue = (c, role, node, start = c.start(node)) => {
+  writeFunction(c, role, node, { text: node.body ? 'expression' : 'ts-empty-body', list: 'unique', start });
+};
+
+visit.arrow = (c, role, node) => {
+  const marks = marksOf({ async: node.async, pure: c.annotations.takesNoSideEffects(c.start(node)) });
+  c.open(role, 'ArrowFunctionExpression', node, '', marks);
+  each(c, 'typeParameters', node.typeParameters, 'typeParameters');
+  formalParameters(c, arrowSpan(c, node), 'arrow', node.params);
+  each(c, 'returnType', node.returnType, 'typeAnnotation');
+  if (node.body.type === 'BlockStatement') functionBody(c, node.body);
+  else visit.expression(c, 'body', node.body);
+  c.close();
+};
+
+DECLARATIONS.FunctionDeclaration = visit.functionDeclaration;
+DECLARATIONS.TSDeclareFunction = visit.functionDeclaration;

@@ -1,0 +1,67 @@
+'use strict';
+// From an ESTree, plain or in the dialects of Babel and typescript-eslint, to the rows of a tree.
+
+const { Refusal } = require('../refusal');
+const { nameEnd } = require('../trivia');
+const { visit } = require('./visit');
+require('./names');
+require('./literals');
+require('./patterns');
+require('./statements');
+require('./functions');
+require('./classes');
+require('./expressions');
+require('./modules');
+require('./types');
+require('./declarations');
+require('./jsx');
+
+// One conversion: the text, where the rows go, and what is said of pure code.
+class EstreeConversion {
+  constructor(text, writer, annotations) {
+    this.text = text;
+    this.writer = writer;
+    this.annotations = annotations;
+  }
+
+  start(node) {
+    return node.start !== undefined ? node.start : node.range[0];
+  }
+
+  end(node) {
+    return node.end !== undefined ? node.end : node.range[1];
+  }
+
+  nameEnd(start) {
+    return nameEnd(this.text, start);
+  }
+
+  // The end of a pattern without its type.
+  bindingEnd(node) {
+    return node.type === 'Identifier' ? this.nameEnd(this.start(node)) : this.end(node);
+  }
+
+  open(role, kind, node, text, marks) {
+    this.writer.open(role, kind, this.start(node), this.end(node), text, marks);
+  }
+
+  close() {
+    this.writer.close();
+  }
+
+  leaf(role, kind, node, text, marks) {
+    this.open(role, kind, node, text, marks);
+    this.close();
+  }
+
+  refuse(node, message) {
+    throw new Refusal(message, node && (node.start !== undefined || node.range) ? this.start(node) : null);
+  }
+
+  // All children of the program.
+  program(ast) {
+    visit.body(this, ast.type === 'File' ? ast.program : ast);
+  }
+}
+
+module.exports = { EstreeConversion };

@@ -1,0 +1,59 @@
+'use strict';
+// Literals and templates. Babel has a type for each kind of literal, ESTree one for all.
+
+const { wholeCharacters, withLineFeeds, numberBase } = require('../texts');
+const { visit } = require('./visit');
+
+function spelled(c, role, node, kind, marks) {
+  const raw = c.text.slice(c.start(node), c.end(node));
+  c.leaf(role, kind, node, raw, marks && marks(raw));
+}
+
+const LITERALS = {
+  string: (c, role, node) => c.leaf(role, 'StringLiteral', node, wholeCharacters(node.value)),
+  number: (c, role, node) => spelled(c, role, node, 'NumericLiteral', (raw) => [numberBase(raw)]),
+  boolean: (c, role, node) => c.leaf(role, 'BooleanLiteral', node, String(node.value)),
+  null: (c, role, node) => c.leaf(role, 'NullLiteral', node),
+  bigint: (c, role, node) => spelled(c, role, node, 'BigIntLiteral'),
+  regex: (c, role, node) => spelled(c, role, node, 'RegExpLiteral'),
+};
+
+const BABEL_LITERALS = {
+  StringLiteral: LITERALS.string,
+  NumericLiteral: LITERALS.number,
+  BooleanLiteral: LITERALS.boolean,
+  NullLiteral: LITERALS.null,
+  BigIntLiteral: LITERALS.bigint,
+  RegExpLiteral: LITERALS.regex,
+};
+
+// Values that JSON has no words for come as null, so the other fields tell first.
+function familyOf(node) {
+  if (node.regex) return 'regex';
+  if (node.bigint) return 'bigint';
+  return node.value === null ? 'null' : typeof node.value;
+}
+
+visit.literal = (c, role, node) => {
+  const visitor = BABEL_LITERALS[node.type] || LITERALS[familyOf(node)];
+  visitor(c, role, node);
+};
+
+// The dialect of typescript-eslint counts the marks of a piece of a template to it.
+function pieceSpan(c, node) {
+  const start = c.start(node);
+  const end = c.end(node);
+  if (end - start === node.value.raw.length || !/^[`}]/.test(c.text[start])) return [start, end];
+  const inner = withLineFeeds(c.text.slice(start + 1, end)).replace(/(`|\$\{)$/, '');
+  if (inner !== withLineFeeds(node.value.raw)) return [start, end];
+  return [start + 1, end - (c.text[end - 1] === '`' ? 1 : 2)];
+}
+
+visit.templateElement = (c, role, node) => {
+  const { cooked, raw } = node.value;
+  const [start, end] = pieceSpan(c, node);
+  const text = cooked === null || cooked === undefined ? withLineFeeds(raw) : cooked;
+  c.writer.leaf(role, 'TemplateElement', start, end, wholeCharacters(text));
+};
+
+module.exports = { BABEL_LITERALS };

@@ -1,0 +1,107 @@
+'use strict';
+// Statements, directives and declarations of variables.
+
+const { visit, each, plain, byType, marksOf } = require('./visit');
+
+// Babel says of no statement in a namespace that it is a directive.
+function isDirective(node, outer) {
+  if (node.type !== 'ExpressionStatement') return false;
+  if (typeof node.directive === 'string') return true;
+  const { type, extra = {} } = node.expression;
+  return outer.type === 'TSModuleBlock' && type === 'StringLiteral' && !extra.parenthesized;
+}
+
+function directive(c, role, node) {
+  const literal = node.expression || node.value;
+  const raw = c.text.slice(c.start(literal) + 1, c.end(literal) - 1);
+  c.open(role, 'Directive', node, raw);
+  const value = node.expression ? literal.value : (literal.extra && literal.extra.expressionValue) || literal.value;
+  visit.literal(c, 'expression', { ...literal, type: 'StringLiteral', value });
+  c.close();
+}
+
+// The statements of a program, function or module, its directives first. Babel lists these apart.
+visit.body = (c, node) => {
+  each(c, 'directives', node.directives, 'directive');
+  let at = 0;
+  while (at < node.body.length && isDirective(node.body[at], node)) directive(c, 'directives', node.body[at++]);
+  for (; at < node.body.length; at++) visit.statement(c, 'body', node.body[at]);
+};
+visit.directive = directive;
+
+visit.block = plain('BlockStatement', { body: 'statement' });
+
+function forOf(c, role, node) {
+  c.open(role, 'ForOfStatement', node, '', marksOf({ await: node.await }));
+  visit.loopLeft(c, 'left', node.left);
+  visit.expression(c, 'right', node.right);
+  visit.statement(c, 'body', node.body);
+  c.close();
+}
+
+visit.variables = (c, role, node) => {
+  const [first] = node.declarations;
+  if (node.kind === 'const' && first.init) c.annotations.passOn(c.start(node), c.start(first.init));
+  c.open(role, 'VariableDeclaration', node, node.kind, marksOf({ declare: node.declare }));
+  each(c, 'declarators', node.declarations, 'declarator');
+  c.close();
+};
+
+visit.declarator = (c, role, node) => {
+  c.open(role, 'VariableDeclarator', node, '', marksOf({ definite: node.definite }));
+  visit.binding(c, 'id', node.id);
+  each(c, 'type', node.id.typeAnnotation, 'typeAnnotation');
+  each(c, 'init', node.init, 'expression');
+  c.close();
+};
+
+const isVariables = (node) => node.type === 'VariableDeclaration';
+visit.loopInit = (c, role, node) => visit[isVariables(node) ? 'variables' : 'expression'](c, role, node);
+visit.loopLeft = (c, role, node) => visit[isVariables(node) ? 'variables' : 'target'](c, role, node);
+
+function catchClause(c, role, node) {
+  c.open(role, 'CatchClause', node);
+  if (node.param) {
+    c.open('param', 'CatchParameter', node.param);
+    visit.binding(c, 'pattern', node.param);
+    each(c, 'type', node.param.typeAnnotation, 'typeAnnotation');
+    c.close();
+  }
+  visit.block(c, 'body', node.body);
+  c.close();
+}
+visit.catchClause = catchClause;
+visit.switchCase = plain('SwitchCase', { test: 'expression', consequent: 'statement' });
+
+const STATEMENTS = {
+  BlockStatement: visit.block,
+  EmptyStatement: plain('EmptyStatement'),
+  DebuggerStatement: plain('DebuggerStatement'),
+  ExpressionStatement: plain('ExpressionStatement', { expression: 'expression' }),
+  IfStatement: plain('IfStatement', { test: 'expression', consequent: 'statement', alternate: 'statement' }),
+  DoWhileStatement: plain('DoWhileStatement', { body: 'statement', test: 'expression' }),
+  WhileStatement: plain('WhileStatement', { test: 'expression', body: 'statement' }),
+  ForStatement: plain('ForStatement', { init: 'loopInit', test: 'expression', update: 'expression', body: 'statement' }),
+  ForInStatement: plain('ForInStatement', { left: 'loopLeft', right: 'expression', body: 'statement' }),
+  ForOfStatement: forOf,
+  ContinueStatement: plain('ContinueStatement', { label: 'label' }),
+  BreakStatement: plain('BreakStatement', { label: 'label' }),
+  ReturnStatement: plain('ReturnStatement', { argument: 'expression' }),
+  WithStatement: plain('WithStatement', { object: 'expression', body: 'statement' }),
+  SwitchStatement: plain('SwitchStatement', { discriminant: 'expression', cases: 'switchCase' }),
+  LabeledStatement: plain('LabeledStatement', { label: 'label', body: 'statement' }),
+  ThrowStatement: plain('ThrowStatement', { argument: 'expression' }),
+  TryStatement: plain('TryStatement', { block: 'block', handler: 'catchClause', finalizer: 'block' }),
+};
+
+// Those that may be exported; other families add theirs.
+const DECLARATIONS = { VariableDeclaration: visit.variables };
+
+visit.declaration = byType(DECLARATIONS, 'a declaration');
+visit.statement = (c, role, node) => {
+  const visitor = STATEMENTS[node.type] || DECLARATIONS[node.type];
+  if (visitor === undefined) c.refuse(node, `${node.type} can't be a statement`);
+  visitor(c, role, node);
+};
+
+module.exports = { STATEMENTS, DECLARATIONS };

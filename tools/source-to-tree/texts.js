@@ -1,0 +1,46 @@
+'use strict';
+// Texts of nodes: values without lone halves of characters, and the base of a number by its spelling.
+
+const LONE_HALF = /[\ud800-\udbff](?![\udc00-\udfff])|(?<![\ud800-\udbff])[\udc00-\udfff]/;
+const LONE_HALVES = new RegExp(`${LONE_HALF.source}|\\ufffd`, 'g');
+
+// A value as UTF-8 can hold it: where it has a lone half of a character, each one and each U+FFFD becomes U+FFFD and four
+// hexadecimal digits, so different values stay different.
+function wholeCharacters(value) {
+  if (!LONE_HALF.test(value)) return value;
+  return value.replace(LONE_HALVES, (unit) => `\ufffd${unit.charCodeAt(0).toString(16).padStart(4, '0')}`);
+}
+
+// A spelling with the line ends that the language gives to templates.
+function withLineFeeds(raw) {
+  return raw.replace(/\r\n?/g, '\n');
+}
+
+const ESCAPE = /\\(?:u\{([0-9a-fA-F]+)\}|u([0-9a-fA-F]{4})|x([0-9a-fA-F]{2})|([0-3][0-7]{0,2}|[4-7][0-7]?)|(\r\n|[^]))/g;
+const SINGLE = { b: '\b', f: '\f', n: '\n', r: '\r', t: '\t', v: '\v', '\n': '', '\r': '', '\r\n': '', '\u2028': '', '\u2029': '' };
+
+// The value of a string as it is spelled, without its quotes. Octal escapes count as old scripts have them.
+function stringValue(raw) {
+  return raw.replace(ESCAPE, (_, braced, four, two, octal, other) => {
+    const hex = braced || four || two;
+    if (hex) return String.fromCodePoint(parseInt(hex, 16));
+    if (octal) return String.fromCharCode(parseInt(octal, 8));
+    return other in SINGLE ? SINGLE[other] : other;
+  });
+}
+
+// The mark of a number literal.
+function numberBase(raw) {
+  if (/^0[bB]/.test(raw)) return 'binary';
+  if (/^0[oO]/.test(raw)) return 'octal';
+  if (/^0[xX]/.test(raw)) return 'hex';
+  if (/^0[0-7]+$/.test(raw)) return 'octal';
+  return /[.eE]/.test(raw) ? 'float' : 'decimal';
+}
+
+// True where the name of a JSX element names a variable: no small letter first, and no dash.
+function isJsxReference(name) {
+  return !/^[a-z]/.test(name) && !name.includes('-');
+}
+
+module.exports = { wholeCharacters, withLineFeeds, numberBase, stringValue, isJsxReference };

@@ -1,0 +1,116 @@
+'use strict';
+// From the syntax tree of TypeScript's compiler to the rows of a tree.
+
+const { Refusal } = require('../refusal');
+const { skipTrivia, lineEndFrom, withoutSeparator } = require('../trivia');
+const { visit } = require('./visit');
+require('./names');
+require('./literals');
+require('./patterns');
+require('./statements');
+require('./functions');
+require('./classes');
+require('./expressions');
+require('./jsx');
+require('./modules');
+require('./declarations');
+require('./types');
+
+// The name of each kind: of equal numbers the first name is the kind's own.
+function namesOf(kinds) {
+  const names = new Map();
+  for (const name of Object.keys(kinds)) {
+    const kind = kinds[name];
+    if (typeof kind === 'number' && !names.has(kind)) names.set(kind, name);
+  }
+  return names;
+}
+
+const LONG_WAY = 256;
+const LINKS = new Set(['CallExpression', 'PropertyAccessExpression', 'ElementAccessExpression', 'NonNullExpression']);
+const namesByCompiler = new Map();
+
+// One conversion: the compiler, the text, where the rows go, and what is said of pure code.
+class TypeScriptConversion {
+  constructor(ts, text, writer, annotations) {
+    if (!namesByCompiler.has(ts)) namesByCompiler.set(ts, namesOf(ts.SyntaxKind));
+    this.ts = ts;
+    this.kinds = ts.SyntaxKind;
+    this.names = namesByCompiler.get(ts);
+    this.text = text;
+    this.writer = writer;
+    this.annotations = annotations;
+    this.isTyped = writer.typed;
+    this.afterHashbang = text.startsWith('#!') ? lineEndFrom(text, 2) : 0;
+    this.hidden = [];
+    this.longWays = new Map();
+  }
+
+  kindName(node) {
+    return this.names.get(node.kind);
+  }
+
+  // Nodes that begin at one place have one start, and the way to it is gone once where it is long.
+  start({ pos }) {
+    const known = this.longWays.get(pos);
+    if (known !== undefined) return known;
+    const start = skipTrivia(this.text, pos === 0 ? this.afterHashbang : pos);
+    if (start - pos > LONG_WAY) this.longWays.set(pos, start);
+    return start;
+  }
+
+  // A node in whose text no comment begins; gives where it starts.
+  opaque(node) {
+    const start = this.start(node);
+    this.hide(start, node.end);
+    return start;
+  }
+
+  hide(start, end) {
+    this.hidden.push([start, end]);
+  }
+
+  open(role, kind, node, text, marks) {
+    this.writer.open(role, kind, this.start(node), node.end, text, marks);
+  }
+
+  // A member of a type, without the mark that parts it from the next.
+  openMember(role, kind, node, text, marks) {
+    this.writer.open(role, kind, this.start(node), withoutSeparator(this.text, node.end), text, marks);
+  }
+
+  close() {
+    this.writer.close();
+  }
+
+  leaf(role, kind, node, text, marks) {
+    this.open(role, kind, node, text, marks);
+    this.close();
+  }
+
+  // True for a link of a chain that has `?.`.
+  isChain(node) {
+    return (node.flags & this.ts.NodeFlags.OptionalChain) !== 0 && LINKS.has(this.kindName(node));
+  }
+
+  isArrow(node) {
+    return node.kind === this.kinds.ArrowFunction;
+  }
+
+  withoutParentheses(node) {
+    let inner = node;
+    while (inner.kind === this.kinds.ParenthesizedExpression) inner = inner.expression;
+    return inner;
+  }
+
+  refuse(node, message) {
+    throw new Refusal(message, this.start(node));
+  }
+
+  // All children of the program.
+  program(file) {
+    visit.body(this, file.statements);
+  }
+}
+
+module.exports = { TypeScriptConversion };

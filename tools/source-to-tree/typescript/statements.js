@@ -1,0 +1,145 @@
+'use strict';
+// Statements, directives and declarations of variables. What is exported has `export` among its modifiers here, and a node
+// round it in the tree.
+
+const { skipTrivia } = require('../trivia');
+const { visit, each, plain, byKind, marksOf } = require('./visit');
+const { modifier, modifierMarks } = require('./modifiers');
+
+const isDirective = (c, node) => node.kind === c.kinds.ExpressionStatement && node.expression.kind === c.kinds.StringLiteral;
+
+function directive(c, role, node) {
+  const literal = node.expression;
+  c.open(role, 'Directive', node, c.text.slice(c.start(literal) + 1, literal.end - 1));
+  visit.string(c, 'expression', literal);
+  c.close();
+}
+
+// The statements of a program, function or module, its directives first.
+visit.body = (c, statements) => {
+  let at = 0;
+  while (at < statements.length && isDirective(c, statements[at])) directive(c, 'directives', statements[at++]);
+  for (; at < statements.length; at++) visit.statement(c, 'body', statements[at]);
+};
+
+visit.block = plain('BlockStatement', ['body', 'statements', 'statement']);
+
+function kindOfVariables(c, list) {
+  const { Let, Const, Using, AwaitUsing, BlockScoped } = c.ts.NodeFlags;
+  const flags = list.flags & BlockScoped;
+  if (Using !== undefined && flags === AwaitUsing) return 'await using';
+  if (Using !== undefined && flags === Using) return 'using';
+  if (flags === Const) return 'const';
+  return flags === Let ? 'let' : 'var';
+}
+
+function declarator(c, role, node) {
+  c.open(role, 'VariableDeclarator', node, '', marksOf({ definite: node.exclamationToken }));
+  visit.binding(c, 'id', node.name);
+  each(c, 'type', node.type, 'typeAnnotation');
+  each(c, 'init', node.initializer, 'expression');
+  c.close();
+}
+
+function writeVariables(c, role, list, { start, end, marks = [] }) {
+  const kind = kindOfVariables(c, list);
+  const [first] = list.declarations;
+  if (first === undefined) c.refuse(list, 'Variable declaration list cannot be empty.');
+  if (kind === 'const' && first.initializer) c.annotations.passOn(start, c.start(first.initializer));
+  c.writer.open(role, 'VariableDeclaration', start, end, kind, marks);
+  for (const node of list.declarations) declarator(c, 'declarators', node);
+  c.close();
+}
+
+const isVariables = (c, node) => node.kind === c.kinds.VariableDeclarationList;
+const loopPart = (other) => (c, role, node) => {
+  if (isVariables(c, node)) writeVariables(c, role, node, { start: c.start(node), end: node.end });
+  else visit[other](c, role, node);
+};
+visit.loopInit = loopPart('expression');
+visit.loopLeft = loopPart('target');
+
+function forOf(c, role, node) {
+  c.open(role, 'ForOfStatement', node, '', marksOf({ await: node.awaitModifier }));
+  visit.loopLeft(c, 'left', node.initializer);
+  visit.expression(c, 'right', node.expression);
+  visit.statement(c, 'body', node.statement);
+  c.close();
+}
+
+function switchStatement(c, role, node) {
+  c.open(role, 'SwitchStatement', node);
+  visit.expression(c, 'discriminant', node.expression);
+  each(c, 'cases', node.caseBlock.clauses, 'switchCase');
+  c.close();
+}
+visit.switchCase = plain('SwitchCase', ['test', 'expression', 'expression'], ['consequent', 'statements', 'statement']);
+
+visit.catchClause = (c, role, node) => {
+  const declaration = node.variableDeclaration;
+  c.open(role, 'CatchClause', node);
+  if (declaration) {
+    if (declaration.initializer) c.refuse(declaration.initializer, 'Catch clause variable cannot have an initializer.');
+    c.open('param', 'CatchParameter', declaration);
+    visit.binding(c, 'pattern', declaration.name);
+    each(c, 'type', declaration.type, 'typeAnnotation');
+    c.close();
+  }
+  visit.block(c, 'body', node.block);
+  c.close();
+};
+
+const STATEMENTS = {
+  Block: visit.block,
+  EmptyStatement: plain('EmptyStatement'),
+  DebuggerStatement: plain('DebuggerStatement'),
+  ExpressionStatement: plain('ExpressionStatement', ['expression', 'expression', 'expression']),
+  IfStatement: plain('IfStatement', ['test', 'expression', 'expression'], ['consequent', 'thenStatement', 'statement'],
+    ['alternate', 'elseStatement', 'statement']),
+  DoStatement: plain('DoWhileStatement', ['body', 'statement', 'statement'], ['test', 'expression', 'expression']),
+  WhileStatement: plain('WhileStatement', ['test', 'expression', 'expression'], ['body', 'statement', 'statement']),
+  ForStatement: plain('ForStatement', ['init', 'initializer', 'loopInit'], ['test', 'condition', 'expression'],
+    ['update', 'incrementor', 'expression'], ['body', 'statement', 'statement']),
+  ForInStatement: plain('ForInStatement', ['left', 'initializer', 'loopLeft'], ['right', 'expression', 'expression'],
+    ['body', 'statement', 'statement']),
+  ForOfStatement: forOf,
+  ContinueStatement: plain('ContinueStatement', ['label', 'label', 'label']),
+  BreakStatement: plain('BreakStatement', ['label', 'label', 'label']),
+  ReturnStatement: plain('ReturnStatement', ['argument', 'expression', 'expression']),
+  WithStatement: plain('WithStatement', ['object', 'expression', 'expression'], ['body', 'statement', 'statement']),
+  SwitchStatement: switchStatement,
+  LabeledStatement: plain('LabeledStatement', ['label', 'label', 'label'], ['body', 'statement', 'statement']),
+  ThrowStatement: plain('ThrowStatement', ['argument', 'expression', 'expression']),
+  TryStatement: plain('TryStatement', ['block', 'tryBlock', 'block'], ['handler', 'catchClause', 'catchClause'],
+    ['finalizer', 'finallyBlock', 'block']),
+};
+
+// Those that may be exported, which also get where they begin; other families add theirs.
+const DECLARATIONS = {
+  VariableStatement(c, role, node, start) {
+    writeVariables(c, role, node.declarationList, { start, end: node.end, marks: modifierMarks(c, node, ['declare']) });
+  },
+};
+const EXPORTED_BY_DEFAULT = new Set(['FunctionDeclaration', 'ClassDeclaration', 'InterfaceDeclaration']);
+
+const statement = byKind(STATEMENTS, 'a statement');
+const declaration = byKind(DECLARATIONS, 'a declaration');
+
+function exported(c, role, node, word) {
+  const byDefault = modifier(c, node, 'DefaultKeyword');
+  if (byDefault && !EXPORTED_BY_DEFAULT.has(c.kindName(node))) c.refuse(byDefault, "A default export can't be this declaration.");
+  const start = skipTrivia(c.text, (byDefault || word).end);
+  c.annotations.passOn(c.start(node), start);
+  c.open(role, byDefault ? 'ExportDefaultDeclaration' : 'ExportDeclaration', node);
+  declaration(c, 'declaration', node, start);
+  c.close();
+}
+
+visit.statement = (c, role, node) => {
+  if (!(c.kindName(node) in DECLARATIONS)) return statement(c, role, node);
+  const word = modifier(c, node, 'ExportKeyword');
+  if (word) exported(c, role, node, word);
+  else declaration(c, role, node, c.start(node));
+};
+
+module.exports = { STATEMENTS, DECLARATIONS };

@@ -1,0 +1,51 @@
+'use strict';
+// Tests the converters: small sources, stored trees, and files of the packages that are installed.
+
+const fs = require('fs');
+const path = require('path');
+const { Tally } = require('./tally');
+const { checkCases, checkStored } = require('./small');
+const { checkDifferences } = require('./compare-scopes');
+const { checkCommands } = require('./commands');
+const { checkDialects } = require('./dialects');
+const { Files } = require('./files');
+
+const INSTALLED = '/usr/share/nodejs';
+const SOURCE = /\.(?:[mc]?[jt]s|[jt]sx)$/i;
+
+function* filesBelow(folder) {
+  for (const entry of fs.readdirSync(folder, { withFileTypes: true })) {
+    const name = path.join(folder, entry.name);
+    if (entry.isDirectory()) yield* filesBelow(name);
+    else if (entry.isFile() && SOURCE.test(name)) yield name;
+  }
+}
+
+// The files of a list that are there.
+function listed(list) {
+  const names = fs.readFileSync(list, 'utf8').split('\n').filter((line) => line !== '' && !line.startsWith('#'));
+  const there = names.filter((name) => fs.existsSync(name));
+  if (there.length < names.length) console.log(`${names.length - there.length} of ${names.length} files of the list aren't there`);
+  return there;
+}
+
+function filesOf(words) {
+  if (words[0] === '--list') return listed(words[1]);
+  return words.length > 0 ? words : filesBelow(INSTALLED);
+}
+
+function main(words) {
+  const tally = new Tally();
+  checkCases(tally);
+  checkDialects(tally);
+  checkDifferences(tally);
+  checkCommands(tally);
+  console.log(`${checkStored(tally)} stored trees`);
+  const files = new Files(tally);
+  for (const file of filesOf(words)) files.check(file);
+  files.print();
+  console.log(`${tally.passed} passed, ${tally.failed} failed`);
+  return tally.failed === 0 ? 0 : 1;
+}
+
+process.exitCode = main(process.argv.slice(2));
