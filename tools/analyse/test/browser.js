@@ -52,6 +52,7 @@ class Browser {
     const { sessionId } = await this.send('Target.attachToTarget', { targetId, flatten: true });
     this.session = sessionId;
     await this.send('Page.enable');
+    await this.send('Performance.enable', { timeDomain: 'threadTicks' });
     await this.send('Emulation.setDeviceMetricsOverride', { width, height, deviceScaleFactor: 1, mobile: false });
   }
 
@@ -73,6 +74,12 @@ class Browser {
       throw new Error(`${expression}: ${exceptionDetails.exception.description}`);
     }
     return result.value;
+  }
+
+  // How long the page's thread has worked since it was opened, in milliseconds.
+  async processorTime() {
+    const { metrics } = await this.send('Performance.getMetrics');
+    return 1000 * metrics.find((metric) => metric.name === 'TaskDuration').value;
   }
 
   // A click of the mouse in the middle of an element.

@@ -9,7 +9,7 @@ const folder = path.resolve(process.argv[2]);
 const address = (name, part = '') => `${pathToFileURL(path.join(folder, name)).href}${part}`;
 
 // How long all tries may take, in milliseconds.
-const LONGEST = 120_000;
+const LONGEST = 300_000;
 
 let failed = 0;
 function expect(name, value, wanted) {
@@ -84,28 +84,26 @@ async function tryAddress(browser) {
   expect('and marked', await browser.ask(texts('.source .label')), ['unused']);
 }
 
+// The page's own processor time of what an expression does, in milliseconds, with the painting. Other work on the machine
+// doesn't count.
+async function spentOn(browser, expression) {
+  const before = await browser.processorTime();
+  await browser.ask(`${expression}; new Promise((resolve) => requestAnimationFrame(() => setTimeout(resolve)))`);
+  return Math.round(await browser.processorTime() - before);
+}
+
 async function tryLong(browser) {
-  const start = performance.now();
   await browser.open(address('long.html'));
   const lines = await browser.ask("document.querySelector('.numbers').textContent.split('\\n').length");
-  console.log(`a page of ${lines} lines is loaded in ${Math.round(performance.now() - start)} ms`);
-  const spent = await browser.ask(`new Promise((resolve) => {
-    const all = document.querySelectorAll('.source a.r');
-    const start = performance.now();
-    all[all.length - 1].click();
-    requestAnimationFrame(() => setTimeout(() => resolve(performance.now() - start)));
-  })`);
-  console.log(`a click in it takes ${Math.round(spent)} ms with the painting`);
-  const jump = await browser.ask(`new Promise((resolve) => {
-    const start = performance.now();
-    location.hash = '#symbol-' + (document.querySelectorAll('#panel-symbols li').length - 1);
-    requestAnimationFrame(() => setTimeout(() => resolve(performance.now() - start)));
-  })`);
-  console.log(`a jump to its last symbol takes ${Math.round(jump)} ms`);
+  console.log(`a page of ${lines} lines takes ${Math.round(await browser.processorTime())} ms to load`);
+  const click = await spentOn(browser, "[...document.querySelectorAll('.source a.r')].pop().click()");
+  console.log(`a click in it takes ${click} ms`);
+  const jump = await spentOn(browser, "location.hash = '#symbol-' + (document.querySelectorAll('#panel-symbols li').length - 1)");
+  console.log(`a jump to its last symbol takes ${jump} ms`);
   const seen = await browser.ask(`(() => { const b = document.querySelector('a.declaration').getBoundingClientRect();
     return b.top > 0 && b.bottom < innerHeight; })()`);
   expect('the last symbol is in view', seen, true);
-  expect('a click is quick', spent < 3000, true);
+  expect('a click is quick', click < 1000, true);
 }
 
 async function takePictures(browser) {
