@@ -13,7 +13,7 @@ function optionsOf(words) {
   for (let i = 0; i < words.length; i++) {
     const word = words[i];
     if (word === '--time') options.time = true;
-    else if (word in CHOICES) {
+    else if (Object.hasOwn(CHOICES, word)) {
       const choice = words[++i];
       if (choice === undefined || (CHOICES[word] && !CHOICES[word].includes(choice))) return null;
       options[word.slice(2)] = choice;

@@ -1,8 +1,10 @@
 'use strict';
-// The dialect of Babel, where its parser is installed: its trees give the rows that the other ways give.
+// Dialects of ESTree: that of Babel, where its parser is installed, and spans as typescript-eslint gives them. Their trees are
+// those that the other ways give.
 
 const { load } = require('../source-to-tree/load');
 const { languageOf, goalOf } = require('../source-to-tree/languages');
+const acorn = require('../source-to-tree/ways/acorn');
 const { convert, checkRows } = require('./small');
 const { JS, ONE_WAY, NEWER } = require('./cases');
 
@@ -29,15 +31,43 @@ function babelTree(babel, source, filename) {
   }
 }
 
-function checkWithBabel(tally, babel, [name, filename, source, rows]) {
-  const tree = babelTree(babel, source.replace(/^\ufeff/, ''), filename);
-  if (tree === null) return false;
-  const { json, refused } = convert(source, { filename, parser: 'estree', tree });
-  if (tally.check(`${name} by Babel: taken`, json !== undefined, refused)) checkRows(tally, `${name} by Babel`, source, json, rows);
-  return true;
+function checkTree(tally, tree, [name, filename, source, rows]) {
+  const usual = convert(source, { filename });
+  const goal = usual.json && JSON.parse(usual.json).goal;
+  const { json, refused } = convert(source, { filename, parser: 'estree', tree, goal });
+  if (!tally.check(`${name}: taken`, json !== undefined, refused)) return;
+  if (usual.json === undefined) checkRows(tally, name, source, json, rows);
+  else tally.check(`${name}: the usual tree`, json.equals(usual.json), `\n${json}\n${usual.json}`);
 }
 
+function checkWithBabel(tally, babel, [name, filename, source, rows]) {
+  const tree = babelTree(babel, source.replace(/^\ufeff/, ''), filename);
+  if (tree !== null) checkTree(tally, tree, [`${name} by Babel`, filename, source, rows]);
+  return tree !== null;
+}
+
+// Each node with `range` in place of `start` and `end`, and pieces of templates with the marks round them.
+function withRanges(node, text) {
+  if (Array.isArray(node)) return node.map((part) => withRanges(part, text));
+  if (node === null || typeof node !== 'object' || node instanceof RegExp) return node;
+  const { start, end, ...rest } = node;
+  const made = Object.fromEntries(Object.entries(rest).map(([field, value]) => [field, withRanges(value, text)]));
+  if (start === undefined) return made;
+  const wide = node.type === 'TemplateElement' ? [1, text[end] === '`' ? 1 : 2] : [0, 0];
+  return { ...made, range: [start - wide[0], end + wide[1]] };
+}
+
+function checkRanges(tally) {
+  for (const one of JS.filter(([, filename, source]) => filename === 'x.js' && !/^\ufeff|import|export/.test(source))) {
+    const { ast, comments } = acorn.read(one[2], { lang: 'js' });
+    checkTree(tally, withRanges({ ...ast, comments: comments.map(commentNode) }, one[2]), [`${one[0]} with ranges`, ...one.slice(1)]);
+  }
+}
+
+const commentNode = ({ block, start, end }) => ({ type: block ? 'Block' : 'Line', start, end });
+
 function checkDialects(tally) {
+  checkRanges(tally);
   let babel;
   try {
     babel = load('@babel/parser');

@@ -59,7 +59,7 @@ function call(c, role, node) {
   if (node.callee.type === 'Import') return importCall(c, role, node);
   const pure = c.annotations.takesPure(c.start(node));
   c.open(role, 'CallExpression', node, '', marksOf({ optional: node.optional, pure }));
-  visit.chained(c, 'callee', node.callee);
+  base(c, 'callee', node, node.callee);
   each(c, 'typeArguments', typeArgumentsOf(node), 'typeArguments');
   each(c, 'arguments', node.arguments, 'argument');
   c.close();
@@ -77,15 +77,15 @@ function member(c, role, node) {
   const marks = marksOf({ optional: node.optional });
   if (node.computed) {
     c.open(role, 'ComputedMemberExpression', node, '', marks);
-    visit.chained(c, 'object', node.object);
+    base(c, 'object', node, node.object);
     visit.expression(c, 'expression', node.property);
   } else if (node.property.type === 'Identifier') {
     c.open(role, 'StaticMemberExpression', node, '', marks);
-    visit.chained(c, 'object', node.object);
+    base(c, 'object', node, node.object);
     visit.name(c, 'property', node.property);
   } else {
     c.open(role, 'PrivateFieldExpression', node, '', marks);
-    visit.chained(c, 'object', node.object);
+    base(c, 'object', node, node.object);
     visit.privateName(c, 'field', node.property);
   }
   c.close();
@@ -100,12 +100,20 @@ function chainOfLinks(c, role, node) {
   c.close();
 }
 
-// What a link of a chain stands on: the chain goes on.
-visit.chained = (c, role, node) => {
-  const link = LINKS[node.type];
-  if (link) link(c, role, node);
+const isLink = (node) => node.type in LINKS || (node.type === 'TSNonNullExpression' && isLink(node.expression));
+
+// What a call or member expression stands on: where it is a link, the chain goes on.
+function base(c, role, outer, node) {
+  if (outer.type in LINKS && isLink(node)) link(c, role, node);
   else visit.callee(c, role, node);
-};
+}
+
+function link(c, role, node) {
+  if (node.type !== 'TSNonNullExpression') return LINKS[node.type](c, role, node);
+  c.open(role, 'TSNonNullExpression', node);
+  link(c, 'expression', node.expression);
+  c.close();
+}
 
 function binary(c, role, node) {
   if (node.left.type === 'PrivateIdentifier' || node.left.type === 'PrivateName') {

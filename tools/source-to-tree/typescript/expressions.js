@@ -54,12 +54,13 @@ visit.objectProperty = byKind({
   SetAccessor: accessor('set'),
 }, 'a member of an object');
 
-// What a call or member expression stands on: a chain goes on there.
-visit.object = (c, role, node) => {
+// What a node stands on, such as a call or member expression: where it is a link of a chain, the chain goes on there.
+function base(c, role, outer) {
+  const node = outer.expression;
   if (node.kind === c.kinds.SuperKeyword) c.leaf(role, 'Super', node);
-  else if (c.isChain(node)) link(c, role, node);
+  else if (c.isChain(node) && c.isChain(outer)) link(c, role, node);
   else visit.expression(c, role, node);
-};
+}
 
 function importCall(c, role, node) {
   const [argument, options, third] = node.arguments;
@@ -74,7 +75,7 @@ function call(c, role, node) {
   if (node.expression.kind === c.kinds.ImportKeyword) return importCall(c, role, node);
   const pure = c.annotations.takesPure(c.start(node));
   c.open(role, 'CallExpression', node, '', marksOf({ optional: node.questionDotToken, pure }));
-  visit.object(c, 'callee', node.expression);
+  base(c, 'callee', node);
   each(c, 'typeArguments', node.typeArguments && [node.typeArguments], 'typeArguments');
   each(c, 'arguments', node.arguments, 'argument');
   c.close();
@@ -82,7 +83,7 @@ function call(c, role, node) {
 
 function construct(c, role, node) {
   c.open(role, 'NewExpression', node, '', marksOf({ pure: c.annotations.takesPure(c.start(node)) }));
-  visit.object(c, 'callee', node.expression);
+  base(c, 'callee', node);
   each(c, 'typeArguments', node.typeArguments && [node.typeArguments], 'typeArguments');
   each(c, 'arguments', node.arguments, 'argument');
   c.close();
@@ -92,7 +93,7 @@ function propertyAccess(c, role, node) {
   const isPrivate = node.name.kind === c.kinds.PrivateIdentifier;
   const kind = isPrivate ? 'PrivateFieldExpression' : 'StaticMemberExpression';
   c.open(role, kind, node, '', marksOf({ optional: node.questionDotToken }));
-  visit.object(c, 'object', node.expression);
+  base(c, 'object', node);
   if (isPrivate) visit.privateName(c, 'field', node.name);
   else visit.name(c, 'property', node.name);
   c.close();
@@ -100,14 +101,14 @@ function propertyAccess(c, role, node) {
 
 function elementAccess(c, role, node) {
   c.open(role, 'ComputedMemberExpression', node, '', marksOf({ optional: node.questionDotToken }));
-  visit.object(c, 'object', node.expression);
+  base(c, 'object', node);
   visit.expression(c, 'expression', node.argumentExpression);
   c.close();
 }
 
 function nonNull(c, role, node) {
   c.open(role, 'TSNonNullExpression', node);
-  visit.object(c, 'expression', node.expression);
+  base(c, 'expression', node);
   c.close();
 }
 
