@@ -75,7 +75,7 @@ function fail(program, run) {
   throw new ProgramFault(`${program}: status ${run.status}${line === '' ? '' : `: ${line}`}`);
 }
 
-// A report is never empty; a program that could not be built answers with status 1 too.
+// A report is never empty.
 function hasReport(run) {
   return (run.status === 0 || run.status === 1) && run.stdout.length > 0;
 }
