@@ -5,6 +5,7 @@ ghost use Rattle.semantic_kinds.specs.declared.kind.AstType.TheVariants.{Variabl
 ghost use Rattle.semantic_kinds.specs.declared.mark.Mark.TheVariants.{TypeOnly as type_only};
 ghost use Rattle.semantic_syntax.specs.declared.symbol_flags.TheConstants.SymbolFlags as symbol;
 ghost use Rattle.semantic_syntax.specs.Sets.{union};
+ghost use Rattle.semantic_model.specs.Names.{is_simple_list};
 ghost use Rattle.semantic_model.specs.Nodes.{is, has, is_with_text};
 ghost use Rattle.semantic_model.specs.Place.{Place, no_scope, parent_holds};
 ghost use Rattle.semantic_model.specs.Binder as binder;
@@ -204,26 +205,33 @@ fn is_unique_list(list: AstKind<'_>) -> bool
     list.ty() == AstType::FormalParameters && (reads(list, "arrow") || reads(list, "unique"))
 }
 
-/// What a parameter of the list conflicts with. Two may not have one name in an arrow's or a method's list, in
-/// strict code, and in a list that isn't simple (ECMAScript 15.1.1).
+/// Whether the list of parameters is simple (ECMAScript 15.1.3): plain names alone.
 #[tactic(auto, using(crate::proofs::Simple::simple))]
-fn parameter_excluded(list: AstKind<'_>, flags: ScopeFlags) -> SymbolFlags
-    ensures { result.bits ≡ binder.parameter_excluded list.entry.node.now (record no_scope { flags = flags.bits } ∷ []) }
+pub fn is_simple_list(list: AstKind<'_>) -> bool
+    ensures { result ≡ is_simple_list list.entry.node.now }
 {
-    if is_unique_list(list) || flags.is_strict_mode() || !list.is_simple_parameter_list() {
+    list.is_simple_parameter_list()
+}
+
+/// What a parameter of the list, which is simple or not, conflicts with. Two may not have one name in an arrow's or a
+/// method's list, in strict code, and in a list that isn't simple (ECMAScript 15.1.1).
+fn parameter_excluded(list: AstKind<'_>, is_simple: bool, flags: ScopeFlags) -> SymbolFlags
+    ensures { is_simple ≡ is_simple_list list.entry.node.now → result.bits ≡ binder.parameter_excluded list.entry.node.now (record no_scope { flags = flags.bits } ∷ []) }
+{
+    if is_unique_list(list) || flags.is_strict_mode() || !is_simple {
         SymbolFlags::FunctionScopedVariableExcludes.union(SymbolFlags::FunctionScopedVariable)
     } else {
         SymbolFlags::FunctionScopedVariableExcludes
     }
 }
 
-/// A parameter of the list, in a scope with the flags.
-pub fn parameter_row(list: AstKind<'_>, flags: ScopeFlags) -> Row
-    ensures { IsRow result symbol.FunctionScopedVariable.bits (binder.parameter_excluded list.entry.node.now (record no_scope { flags = flags.bits } ∷ [])) }
+/// A parameter of the list, which is simple or not, in a scope with the flags.
+pub fn parameter_row(list: AstKind<'_>, is_simple: bool, flags: ScopeFlags) -> Row
+    ensures { is_simple ≡ is_simple_list list.entry.node.now → IsRow result symbol.FunctionScopedVariable.bits (binder.parameter_excluded list.entry.node.now (record no_scope { flags = flags.bits } ∷ [])) }
 {
     Row {
         flags: SymbolFlags::FunctionScopedVariable,
-        excluded: parameter_excluded(list, flags),
+        excluded: parameter_excluded(list, is_simple, flags),
     }
 }
 

@@ -27,7 +27,8 @@ use Rattle.walk_model.specs.Walks.{after, act_all}
 use Rattle.walk_model.specs.Shown.{ShowsChain, HasVar}
 use Rattle.walk_model.proofs.TurnParts.{opened_as}
 use Rattle.walk_model.proofs.RowsActed.{acts-append}
-use Rattle.semantic_walk.specs.Walker.{Walker, parent_in, place_in, opening_in, taking_over}
+use Rattle.semantic_walk.specs.Paths.{parent_in}
+use Rattle.semantic_walk.specs.Walker.{Walker, place_in, opening_in, taking_over}
 use Rattle.semantic_walk.specs.AtPlace.{IsWithin}
 
 -- a scope that is new binds nothing

@@ -21,7 +21,8 @@ use Rattle.walk_model.specs.NamedScopes.{IsStepNamed}
 use Rattle.node_rules.specs.declared.rows.Row.{Row}
 use Rattle.node_rules.specs.Seen.{IsRow, path_of, seen}
 use Rattle.table_building.specs.Named.{named_by}
-use Rattle.semantic_walk.specs.Walker.{Walker, parent_in}
+use Rattle.semantic_walk.specs.Paths.{parent_in}
+use Rattle.semantic_walk.specs.Walker.{Walker}
 use Rattle.semantic_walk.specs.AtPlace.{IsWithin}
 use Rattle.semantic_walk.specs.Binds.{declaring, moving, acting}
 use Rattle.semantic_walk.proofs.RowActs.{moved_acts}

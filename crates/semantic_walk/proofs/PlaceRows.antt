@@ -29,7 +29,8 @@ use Rattle.walk_model.proofs.ChainWays.{flags_at}
 use Rattle.node_rules.specs.declared.rows.Row.{Row}
 use Rattle.node_rules.specs.Seen.{IsRow, path_of, under}
 use Rattle.table_building.specs.Named.{named_by, member_naming, caught_naming, pattern_naming}
-use Rattle.semantic_walk.specs.Walker.{Walker, parent_in}
+use Rattle.semantic_walk.specs.Paths.{parent_in}
+use Rattle.semantic_walk.specs.Walker.{Walker}
 use Rattle.semantic_walk.specs.AtPlace.{IsWithin}
 use Rattle.table_building.specs.Each.{declare_each, declare_pattern, declare_patterns, declare_members}
 use Rattle.semantic_walk.specs.Binds.{declaring, declaring_past, hoisting, acting}

@@ -1,9 +1,8 @@
 -- A walk: what it has made so far, and where it stands.
-use Rattle.std.specs.Prelude.{ℕ, List, [], ◌∷◌, Bool, Option, Some, option_map, length, map}
+use Rattle.std.specs.Prelude.{ℕ, List, [], Bool, Option, Some, option_map, length}
 use Rattle.semantic_syntax.specs.declared.source_type.SourceType.{SourceType}
 use Rattle.semantic_kinds.specs.declared.role.Role.{Role}
 use Rattle.semantic_tree.specs.declared.node.Node.{Node}
-use Rattle.semantic_tree.specs.ChildIter.{shown}
 use Rattle.semantic_model.specs.Place.{Place}
 use Rattle.semantic_syntax.specs.declared.scope_flags.TheConstants.ScopeFlags as scope
 use Rattle.semantic_syntax.specs.Sets.{meets, union}
@@ -15,6 +14,7 @@ use Rattle.semantic_model.specs.ScopeKind.{flags_of_kind, strict_if}
 use Rattle.walk_model.specs.Standing.{Standing}
 use Rattle.walk_model.specs.Opens.{refer_to, open_in}
 use Rattle.walk_model.specs.WrittenNames.{Written}
+use Rattle.semantic_walk.specs.Paths.{parent_in}
 use Rattle.semantic_walk.specs.declared.walk.Walk.TheInside.{Inside}
 
 pub record Walker : Type 0 where
@@ -40,19 +40,12 @@ walker w = record {
   source_type = w.source_type;
   node_count = w.node_count;
   namesakes = w.namesakes;
-  path = map shown w.path.items;
+  path = w.path;
   current = w.current_scope;
   cursor = w.cursor.bits;
   is_ambient = w.is_ambient;
   nodes = w.nodes;
 }
-
--- the parent of the last node of a path, alone
-abbrev pub parent_in : List Node → List Node
-parent_in [] = []
-parent_in (x ∷ []) = []
-parent_in (x ∷ y ∷ []) = x ∷ []
-parent_in (x ∷ y ∷ z ∷ more) = parent_in (y ∷ z ∷ more)
 
 -- the node where the walk stands
 abbrev pub place_in : Walker → Role → Node → Place

@@ -18,7 +18,7 @@ ghost use Rattle.semantic_model.specs.Binder.{declare, is_statement, variables_u
 ghost use Rattle.walk_model.specs.Shown.{ShowsChain, HasVar};
 ghost use Rattle.walk_model.specs.NamedScopes.{IsStepNamed};
 ghost use Rattle.walk_model.specs.Walks.{act_all};
-ghost use Rattle.semantic_walk.specs.Walker.{parent_in};
+ghost use Rattle.semantic_walk.specs.Paths.{parent_in};
 ghost use Rattle.semantic_walk.specs.AtPlace.{IsWithin, IsShown};
 ghost use Rattle.semantic_walk.specs.Binds.{is_bound_inside, declaring, declaring_past, hoisting, moving_one, moving, acting};
 ghost use Rattle.table_building.specs.Growth.{Goes};
@@ -225,9 +225,24 @@ impl<'a> Walk<'a> {
         ensures goes { OnOk result (Goes self.old.made self.new.made) }
     {
         match self.parent() {
-            Some(list) => self.bind_all(parameter, rows::parameter_row(list, self.scope_flags())),
+            Some(list) => self.bind_parameter_of(parameter, list),
             None => Ok(()),
         }
+    }
+
+    /// A parameter of the list.
+    fn bind_parameter_of(
+        &mut self,
+        parameter: AstKind<'a>,
+        list: AstKind<'a>,
+    ) -> Result<(), AllocError>
+        ensures made { (ds : List Declaration) (p : Place) → p.node ≡ parameter.entry.node.now → IsWithin self.old p p.chain → ShowsChain self.old.made.tables p.chain → HasVar p.chain → list.entry.node.now ∷ [] ≡ parent_in self.old.path →
+            OnOk result (self.new ≡ acting ds self.old (parameters_under p.path p)) }
+        ensures goes { OnOk result (Goes self.old.made self.new.made) }
+    {
+        let is_simple = self.path.is_in_simple(list);
+        let row = rows::parameter_row(list, is_simple, self.scope_flags());
+        self.bind_all(parameter, row)
     }
 
     /// A rest element directly in a list of parameters.

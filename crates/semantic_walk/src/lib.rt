@@ -4,6 +4,7 @@
 pub mod analysis;
 pub mod binder;
 mod block_target;
+pub mod path;
 pub mod visit;
 pub mod walk;
 

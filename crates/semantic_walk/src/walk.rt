@@ -21,7 +21,8 @@ ghost use Rattle.walk_model.specs.Walks.{after};
 ghost use Rattle.walk_model.specs.Opens.{add_eval, close_scope};
 ghost use Rattle.table_building.specs.Settled.{settled_from};
 ghost use Rattle.node_rules.specs.Seen.{path_of};
-ghost use Rattle.semantic_walk.specs.Walker.{parent_in, place_in, noting_node, referring, opening_in, taking_over};
+ghost use Rattle.semantic_walk.specs.Paths.{parent_in};
+ghost use Rattle.semantic_walk.specs.Walker.{place_in, noting_node, referring, opening_in, taking_over};
 ghost use Rattle.semantic_walk.specs.Listed.{kept_from, list_kept};
 ghost use Rattle.node_store.specs.Entered.{leaving};
 ghost use Rattle.semantic_walk.specs.Begun.{begun, AreNamesOf};
@@ -34,6 +35,7 @@ ghost use Rattle.semantic_walk.specs.AtPlace.{ComesTo, IsWithin, IsShown, entere
 use crate::analysis::Analysis;
 use crate::binder::Binder;
 use crate::block_target::stand_on;
+use crate::path::Path;
 use namesakes::namesakes::Namesakes;
 use node_rules::cursor;
 use node_rules::direct_eval::is_direct_eval;
@@ -58,7 +60,7 @@ pub struct Walk<'a> {
     /// Past which declarations block functions don't move.
     pub(crate) namesakes: Namesakes,
     /// The nodes from the root to the one that is visited.
-    pub(crate) path: Vec<AstKind<'a>>,
+    pub(crate) path: Path<'a>,
     pub(crate) current_scope: ScopeId,
     /// The flags of the next reference.
     pub(crate) cursor: ReferenceFlags,
@@ -141,7 +143,7 @@ impl<'a> Walk<'a> {
             node_count: program.node_count(),
             declared,
             namesakes,
-            path: Vec::new(alloc),
+            path: Path::new(alloc),
             current_scope: scope,
             cursor: ReferenceFlags::empty(),
             is_ambient: source_type.is_typescript_definition(),
@@ -150,13 +152,10 @@ impl<'a> Walk<'a> {
     }
 
     /// The parent of the node that is visited.
-    #[tactic(auto, using(crate::proofs::Parents::parents))]
     pub(crate) fn parent(&self) -> Option<AstKind<'a>>
         ensures { path_of result ≡ parent_in self.now.path }
     {
-        let above = self.path.len().checked_sub(2)?;
-        let parent = self.path.get(above)?;
-        Some(*parent)
+        self.path.parent()
     }
 
     /// The flags of the scope where the walk stands.
@@ -362,7 +361,7 @@ impl<'a> Walk<'a> {
     {
         self.leave_node();
         self.cursor = cursor::on_leaving(kind.ty(), self.cursor);
-        let _left = self.path.pop();
+        self.path.pop();
     }
 
     /// At the end of a header the references that wait since its start are looked up as far as its scope.
