@@ -8,7 +8,7 @@ cd "$(dirname "$0")/.."
 . bench/scratch.sh
 new_program refusing 'scoping semantic_syntax' semantic_syntax scoping
 for part in edits long_row table_text; do
-    sed -e 's/^use crate::Scoping;/use scoping::Scoping;/' "crates/scoping/src/$part.rt" >"$program/src/$part.rt"
+    cp "crates/table_cases/src/$part.rt" "$program/src/"
 done
 
 cat >"$program/src/main.rt" <<'SOURCE'
@@ -20,7 +20,7 @@ mod long_row;
 mod table_text;
 
 use edits::{Edit, take};
-use long_row::{LONG_ROW_END, LONG_ROW_LEN, long_row};
+use long_row::{LONG_ROW, LONG_ROW_END};
 use scoping::Scoping;
 use std::io;
 use table_text::text_of;
@@ -70,11 +70,9 @@ fn clone_twice(rt: &HostRuntime, scoping: &Scoping) -> io::Result<Scoping> {
 fn main(rt: HostRuntime) -> io::Result<()> {
     let mut scoping = Scoping::new(rt.alloc());
     let mut before = "p[]";
-    for place in 0..LONG_ROW_LEN {
-        if let Some((edit, after)) = long_row(place) {
-            take_twice(&rt, &mut scoping, edit, before)?;
-            before = after;
-        }
+    for (edit, after) in LONG_ROW {
+        take_twice(&rt, &mut scoping, *edit, before)?;
+        before = *after;
     }
     let copy = clone_twice(&rt, &scoping)?;
     compare(&rt, &scoping, LONG_ROW_END)?;

@@ -18,6 +18,3 @@ pub use element_ids::ElementIds;
 pub use iterators::{ClassesEnumerated, PrivateUses};
 pub use private_name::PrivateIdentifierReference;
 pub use table::ClassTable;
-
-#[cfg(test)]
-mod tests;

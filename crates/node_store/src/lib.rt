@@ -14,8 +14,6 @@ pub mod node_iter;
 pub mod nodes;
 pub mod stack;
 pub mod store;
-#[cfg(test)]
-mod tests;
 
 pub use ancestor_kinds::AncestorKinds;
 pub use ancestors::{

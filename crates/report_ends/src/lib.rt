@@ -7,8 +7,6 @@ pub mod memory;
 pub mod standard;
 pub mod streams;
 pub mod sure;
-#[cfg(test)]
-mod tests;
 
 pub use ends::{Failed, Sink, Source, WriteFault};
 pub use error::ReportError;

@@ -6,8 +6,6 @@ pub mod outcomes;
 pub mod pending;
 pub mod resolve;
 pub mod rules;
-#[cfg(test)]
-mod tests;
 
 pub use outcomes::{Outcome, Outcomes};
 pub use pending::{UnresolvedReference, UnresolvedReferences};

@@ -26,14 +26,3 @@ pub use semantic_syntax::Redeclaration;
 pub use source::BindingSource;
 pub use symbol_iterators::{Declarations, SymbolIds, SymbolNames};
 pub use unresolved::{FreeLists, UnresolvedIter, UnresolvedReferences};
-
-#[cfg(test)]
-mod edit_rows;
-#[cfg(test)]
-mod edits;
-#[cfg(test)]
-mod long_row;
-#[cfg(test)]
-mod table_text;
-#[cfg(test)]
-mod tests;

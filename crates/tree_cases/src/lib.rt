@@ -1,6 +1,8 @@
-//! Cases of the values and the tree, through their public calls.
+//! Cases of the values, the tree and its text, through their public calls.
 #![tactic(auto)]
 
+#[cfg(test)]
+mod reading;
 #[cfg(test)]
 mod syntax;
 #[cfg(test)]

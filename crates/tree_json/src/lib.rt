@@ -14,6 +14,3 @@ mod write;
 
 pub use read::read_program;
 pub use write::{write_program, write_program_with_texts};
-
-#[cfg(test)]
-mod tests;

@@ -1,5 +1,5 @@
 // Whole inputs and texts over ends in memory.
-use crate::{MemorySink, MemorySource, SureSink, SureSource, read_input, write_whole};
+use report_ends::{MemorySink, MemorySource, SureSink, SureSource, read_input, write_whole};
 use std::alloc::AllocError;
 use std::test::Fail;
 

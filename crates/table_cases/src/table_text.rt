@@ -1,5 +1,5 @@
 //! The tables as one line of text.
-use crate::Scoping;
+use scoping::Scoping;
 use semantic_syntax::{ReferenceId, ScopeId, SymbolId};
 use std::alloc::{AllocError, Global};
 use std::fmt::Write;

@@ -1,5 +1,5 @@
 //! Edits by hand.
-use crate::Scoping;
+use scoping::Scoping;
 use semantic_syntax::{
     Ident, NodeId, Reference, ReferenceFlags, ReferenceId, ScopeFlags, ScopeId, Span, SymbolFlags,
     SymbolId,
@@ -41,6 +41,9 @@ pub enum Edit {
     RetainNone,
     Uproot,
 }
+
+/// An edit, and the tables that it leaves as a line of text.
+pub type Step = (Edit, &'static str);
 
 fn span_at(start: u8) -> Span {
     let start = u32::from(start);

@@ -1,23 +1,11 @@
-//! What no clause says: that calls succeed, and that the elements and uses meant are told.
-use crate::{ClassTable, ClassTableBuilder, Element, ElementIds, PrivateIdentifierReference};
+//! Classes, their elements and uses of private names.
+use crate::trees::{leaf, with};
+use class_table::{ClassTable, ClassTableBuilder, Element, ElementIds, PrivateIdentifierReference};
 use semantic_syntax::{ClassId, ElementId, ElementKind, Ident, NodeId, Span};
-use semantic_tree::{AstKind, AstType, Marks, Node, Role, StaticPropertyName};
+use semantic_tree::{AstKind, AstType, Node, Role, StaticPropertyName};
 use std::alloc::{AllocError, Global};
 use std::process::Abort;
 use std::test::Fail;
-
-/// A node without children.
-fn leaf(alloc: Global, kind: AstType, span: (u32, u32), text: &str) -> Result<Node, AllocError> {
-    Node::new(alloc, kind, Span::new(span.0, span.1), text, Marks::empty())
-}
-
-/// The node with one more child.
-fn with(mut node: Node, role: Role, child: Node) -> Result<Node, AllocError> {
-    match node.push(role, child) {
-        Ok(()) => Ok(node),
-        Err(_) => Err(AllocError),
-    }
-}
 
 /// The property or accessor `#x`.
 fn field(alloc: Global, kind: AstType) -> Result<Node, AllocError> {

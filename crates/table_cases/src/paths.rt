@@ -1,38 +1,27 @@
-//! What no clause says: that the calls succeed with ample memory, and that the paths, counts and sets meant are told.
+//! Nodes and the paths that lead to them, told by the store and by the stack, and sets of kinds.
 ghost use Rattle.std.specs.Prelude.{◌≡◌, IfOk};
 ghost use Rattle.semantic_kinds.specs.declared.kind.AstType.TheVariants.{Program};
 
-use crate::{
-    AncestorKinds, Ancestry, AncestryStack, AstNode, AstNodeStore, AstNodes, AstTypesBitset,
+use crate::trees::leaf;
+use node_store::{
+    AncestorKinds, Ancestry, AncestryStack, AstNodeStore, AstNodes, AstTypesBitset,
     EnteredNodes,
 };
-use semantic_syntax::{NodeFlags, NodeId, ScopeId, Span};
-use semantic_tree::{AstKind, AstType, Marks, Node};
+use semantic_syntax::{NodeFlags, NodeId, ScopeId};
+use semantic_tree::{AstKind, AstType, Node};
 use std::alloc::{AllocError, Global};
 use std::test::Fail;
 
-// A program's root, as `let a; function f(b) { return b; } f(a);` has it.
+// The root of `let a; function f(b) { return b; } f(a);`.
 fn root(alloc: Global) -> Result<Node, AllocError>
     ensures { IfOk result (λ made. made.kind ≡ Program) }
 {
-    Node::new(
-        alloc,
-        AstType::Program,
-        Span::new(0, 40),
-        "",
-        Marks::empty(),
-    )
+    leaf(alloc, AstType::Program, (0, 40), "")
 }
 
 // Its first statement.
 fn statement(alloc: Global) -> Result<Node, AllocError> {
-    let mut made = Node::new(
-        alloc,
-        AstType::VariableDeclaration,
-        Span::new(0, 6),
-        "let",
-        Marks::empty(),
-    )?;
+    let mut made = leaf(alloc, AstType::VariableDeclaration, (0, 6), "let")?;
     made.node_id = NodeId::new(1);
     Ok(made)
 }
@@ -91,11 +80,15 @@ fn a_stack_tells_the_path(rt: HostRuntime) -> Result<(), Fail> {
 fn a_node_is_put_in_place_of_another(rt: HostRuntime) -> Result<(), Fail> {
     let root = root(rt.alloc())?;
     let statement = statement(rt.alloc())?;
-    let mut nodes = AstNodes::new(rt.alloc());
     let scope = ScopeId::new(0);
-    nodes.add_program_node(AstKind::new(&root), scope, NodeFlags::empty())?;
-    let other = AstNode::new(AstKind::new(&statement), NodeId::ROOT, scope);
-    nodes.set_node(NodeId::ROOT, &other);
+    let first = NodeId::new(1);
+    let flags = NodeFlags::empty();
+    let mut nodes = AstNodes::new(rt.alloc());
+    nodes.add_program_node(AstKind::new(&root), scope, flags)?;
+    let mut others = AstNodes::new(rt.alloc());
+    others.add_program_node(AstKind::new(&root), scope, flags)?;
+    others.add_node(first, AstKind::new(&statement), scope, NodeId::ROOT, flags)?;
+    nodes.set_node(NodeId::ROOT, others.get_node(first));
     assert!(rt; nodes.contains(AstType::VariableDeclaration));
     Ok(())
 }

@@ -1,8 +1,8 @@
 //! What no clause says: that trees are read and written, and the answers meant.
-use crate::{read_program, write_program, write_program_with_texts};
 use semantic_tree::{Program, SpanFault, TreeError};
 use std::alloc::{AllocError, Global};
 use std::test::Fail;
+use tree_json::{read_program, write_program, write_program_with_texts};
 
 /// The tree of `let a = 1; a = 2`.
 const TREE: &str =

@@ -1,0 +1,161 @@
+"""Proves and builds the program of a crate with `rt`, and says how far it is.
+usage: build_program.py CRATE
+
+The crates that the program stands on are proved side by side, lowest first. If nothing of them changed since the last
+build, nothing is done. A build that fails ends with its log, and with status 1."""
+
+import hashlib
+import os
+import signal
+import subprocess
+import sys
+import tempfile
+import time
+
+TOP = os.path.dirname(os.path.dirname(os.path.abspath(__file__)))
+
+# How often it says that it is still at work, in seconds.
+SAYS_EVERY = 60
+
+
+def libraries():
+    """The libraries of the repository that each crate names."""
+    named = {}
+    with open(f"{TOP}/crates.txt", encoding="utf-8") as file:
+        for line in file:
+            name, colon, words = line.partition("#")[0].partition(":")
+            if colon:
+                named[name.split()[0]] = words.split()
+    return {name: [it for it in words if it in named] for name, words in named.items()}
+
+
+def in_order(named, crate, order):
+    """The crates that a crate stands on and then the crate itself, each after those below it."""
+    for below in named[crate]:
+        if below not in order:
+            in_order(named, below, order)
+    order.append(crate)
+    return order
+
+
+def checksum(named, crates):
+    """A checksum of the names and the contents of all files that the crates are proved from."""
+    made = hashlib.sha256(repr([(it, named[it]) for it in crates]).encode())
+    for crate in crates:
+        for part in ("src", "specs", "proofs"):
+            for at, folders, files in os.walk(f"{TOP}/crates/{crate}/{part}"):
+                folders.sort()
+                for name in sorted(files):
+                    path = f"{at}/{name}"
+                    with open(path, "rb") as file:
+                        made.update(repr((os.path.relpath(path, TOP), file.read())).encode())
+    return made.hexdigest()
+
+
+class Build:
+    """The crates on the way to a program, each of which waits, is being proved or is done."""
+
+    def __init__(self, named, crates):
+        self.named = named
+        self.waiting = list(crates)
+        self.running = {}
+        self.done = []
+        self.crate = crates[-1]
+        self.count = len(crates)
+        self.begun = time.monotonic()
+
+    def say(self, what):
+        minutes = int((time.monotonic() - self.begun) / 60)
+        so_far = f"{len(self.done)} of {self.count} crates done, {minutes} minutes so far"
+        print(f"{self.crate}: {what} ({so_far})", flush=True)
+
+    def ready(self):
+        """The crates whose libraries are all built."""
+        return [it for it in self.waiting if all(below in self.done for below in self.named[it])]
+
+    def start(self, crate, jobs):
+        """Starts the proof of a crate, and of the program also its build."""
+        words = ["rt", "run" if crate == self.crate else "lib", "--jobs", str(jobs)]
+        log = tempfile.TemporaryFile("w+", errors="replace")
+        how = {"cwd": f"{TOP}/crates/{crate}", "stdin": subprocess.DEVNULL, "start_new_session": True}
+        self.running[crate] = subprocess.Popen(words, stdout=log, stderr=subprocess.STDOUT, **how), log
+        self.waiting.remove(crate)
+        self.say(f"proving {crate}")
+
+    def start_ready(self):
+        """Starts what can be, one crate for each processor, and shares the processors among them."""
+        processors = len(os.sched_getaffinity(0))
+        ready = self.ready()
+        for crate in ready[: processors - len(self.running)]:
+            self.start(crate, max(1, processors // (len(self.running) + len(ready))))
+
+    def end(self):
+        """Ends what still runs."""
+        for process, _ in self.running.values():
+            try:
+                os.killpg(process.pid, signal.SIGTERM)
+            except ProcessLookupError:
+                pass
+
+    def take_ended(self, is_built):
+        """Notes the crates whose proof ended, and returns whether each is proved."""
+        for crate, (process, log) in list(self.running.items()):
+            if process.poll() is None:
+                continue
+            del self.running[crate]
+            if not is_built(crate, process.returncode):
+                log.seek(0)
+                print(log.read(), f"{self.crate}: {crate} can't be built", sep="\n", flush=True)
+                return False
+            self.done.append(crate)
+        return True
+
+    def run(self, is_built):
+        """Proves all, and returns whether each is proved."""
+        said = time.monotonic()
+        while self.waiting or self.running:
+            self.start_ready()
+            time.sleep(0.2)
+            if not self.take_ended(is_built):
+                return False
+            if time.monotonic() - said > SAYS_EVERY:
+                said = time.monotonic()
+                self.say(f"still proving {', '.join(self.running)}")
+        return True
+
+
+def main(crate):
+    named = libraries()
+    crates = in_order(named, crate, [])
+    program = f"{TOP}/crates/{crate}/out/{crate}"
+    stamp = f"{TOP}/crates/{crate}/out/built-from"
+    wanted = checksum(named, crates)
+    if os.path.isfile(program) and os.path.isfile(stamp):
+        with open(stamp, encoding="utf-8") as file:
+            if file.read() == wanted:
+                os.utime(program)
+                return 0
+    if os.path.isfile(program):
+        os.remove(program)
+    build = Build(named, crates)
+
+    # The build of a program also runs it, here on no input, so its status says nothing of the build.
+    def is_built(name, status):
+        return os.path.isfile(program) if name == crate else status == 0
+
+    try:
+        if not build.run(is_built):
+            return 1
+    except FileNotFoundError:
+        print("rt is not on the path: it proves and builds the program", flush=True)
+        return 1
+    finally:
+        build.end()
+    with open(stamp, "w", encoding="utf-8") as file:
+        file.write(wanted)
+    build.say("built")
+    return 0
+
+
+if __name__ == "__main__":
+    sys.exit(main(sys.argv[1]))

@@ -1,0 +1,7 @@
+#!/bin/sh
+# Runs the gate, `rt ci` with the words given, and then prints in processor seconds what each crate, its tests and its
+# must-fail edits cost, longest first, and the dearest edits. What the gate kept from an earlier run costs nothing: the
+# word --anew measures from nothing. The exit status is the gate's. It needs rt, python3 and Linux's /proc.
+set -eu
+cd "$(dirname "$0")/.."
+exec python3 tools/gate_cost.py "$@"

@@ -1,0 +1,173 @@
+"""Runs the gate and says what it cost, as tools/gate-cost.sh tells. It looks at the gate's processes twice a second: what a
+process takes after the last look before its end is counted among the rest."""
+
+import collections
+import os
+import re
+import resource
+import subprocess
+import sys
+import time
+
+EVERY = 0.5
+TICKS = os.sysconf("SC_CLK_TCK")
+DEAREST = 12
+
+# What a process works for: a crate, and its proof, its tests or its edits, and of an edit also which.
+Work = collections.namedtuple("Work", "crate part edit")
+
+# A process as it was seen: its parent, when it started, and the seconds of it and of its children that ended.
+Seen = collections.namedtuple("Seen", "parent start seconds")
+
+
+def processes():
+    """The processes of the machine, by their numbers."""
+    found = {}
+    for name in os.listdir("/proc"):
+        if not name.isdigit():
+            continue
+        try:
+            with open(f"/proc/{name}/stat", encoding="utf-8", errors="replace") as file:
+                words = file.read().rpartition(")")[2].split()
+        except OSError:
+            continue
+        found[int(name)] = Seen(int(words[1]), int(words[19]), sum(map(int, words[11:15])) / TICKS)
+    return found
+
+
+def words_of(number):
+    """The command line of a process, or no words if it has ended."""
+    try:
+        with open(f"/proc/{number}/cmdline", "rb") as file:
+            return file.read().decode(errors="replace").split("\0")
+    except OSError:
+        return []
+
+
+def names_of_edits(crate):
+    """The crate's edits, in the order in which the gate counts them."""
+    folder = f"crates/{crate}/must-fail"
+    names = os.listdir(folder) if os.path.isdir(folder) else []
+    return sorted(name for name in names if name.endswith(".edit"))
+
+
+def is_in_scratch(number):
+    """Whether the process works in a scratch copy of a crate, as the check of an edit does."""
+    try:
+        return "/rt-edit-" in os.readlink(f"/proc/{number}/cwd")
+    except OSError:
+        return False
+
+
+def work_of_check(number, words):
+    """What a run of the prover or the compiler works for."""
+    crate = words[words.index("--crate-name") + 1]
+    at = words.index("--incremental") + 1 if "--incremental" in words[:-1] else 0
+    over = re.search(r"/rt-edits-[^/]*/(\w+)$", words[at]) if at else None
+    names = names_of_edits(crate)
+    if over and over[1].isdigit() and int(over[1]) < len(names):
+        return Work(crate, "edits", names[int(over[1])])
+    if over or is_in_scratch(number):
+        return Work(crate, "edits", names[0] if len(names) == 1 else "")
+    return Work(crate, "tests" if "--test" in words else "proof", "")
+
+
+def work_of(number):
+    """What a process works for, if its command line says so."""
+    words = words_of(number)
+    if "--crate-name" in words[:-1]:
+        return work_of_check(number, words)
+    for word in words:
+        ran = re.search(r"/rt-run-[^/]*/bin/(\w+?)(_tests)?$", word)
+        if ran:
+            return Work(ran[1], "tests" if ran[2] else "proof", "")
+    return None
+
+
+class Costs:
+    """What was seen of the gate's processes."""
+
+    def __init__(self, gate):
+        self.gate = gate
+        self.works = {}
+        self.seconds = {}
+
+    def look(self):
+        """Notes what each process took so far that says what it works for, with those below it."""
+        found = processes()
+        below = collections.defaultdict(list)
+        for number, seen in found.items():
+            below[seen.parent].append(number)
+        left = list(below[self.gate])
+        while left:
+            number = left.pop()
+            key = number, found[number].start
+            if self.works.get(key) is None:
+                self.works[key] = work_of(number)
+            if self.works[key] is None:
+                left += below[number]
+            else:
+                took = taken(found, below, number)
+                self.seconds[key] = max(took, self.seconds.get(key, 0))
+
+    def by(self, name):
+        """The seconds for each answer of `name` on what was worked for."""
+        found = collections.Counter()
+        for key, seconds in self.seconds.items():
+            found[name(self.works[key])] += seconds
+        return found
+
+
+def taken(found, below, number):
+    """The seconds of a process and of all below it."""
+    seconds, left = 0, [number]
+    while left:
+        number = left.pop()
+        seconds += found[number].seconds
+        left += below[number]
+    return seconds
+
+
+def print_table(costs):
+    """A line for each crate: its proof, its tests, its edits and how many they are, and all of them."""
+    parts = costs.by(lambda work: (work.crate, work.part))
+    crates = costs.by(lambda work: work.crate)
+    print(f"{'crate':24}{'proof':>8}{'tests':>8}{'edits':>8}{'':>6}{'all':>8}")
+    for crate, seconds in crates.most_common():
+        proof, tests, edits = (parts[crate, part] for part in ("proof", "tests", "edits"))
+        number = f"({len(names_of_edits(crate))})" if edits else ""
+        print(f"{crate:24}{proof:8.0f}{tests:8.0f}{edits:8.0f}{number:>6}{seconds:8.0f}")
+    proof, tests, edits = (sum(parts[crate, part] for crate in crates) for part in ("proof", "tests", "edits"))
+    print(f"{'all':24}{proof:8.0f}{tests:8.0f}{edits:8.0f}{'':>6}{sum(crates.values()):8.0f}")
+
+
+def print_edits(costs):
+    """A line for each of the dearest edits. What is checked before the first of a crate is none of theirs."""
+    edits = costs.by(lambda work: (work.crate, work.edit) if work.edit else None)
+    dearest = [it for it in edits.most_common() if it[0]][:DEAREST]
+    if dearest:
+        print("\nthe dearest edits")
+    for (crate, edit), seconds in dearest:
+        print(f"{seconds:8.0f}  {crate}/{edit.removesuffix('.edit')}")
+
+
+def main(words):
+    begun = time.monotonic()
+    with subprocess.Popen(["rt", "ci", *words]) as gate:
+        costs = Costs(gate.pid)
+        while gate.poll() is None:
+            costs.look()
+            time.sleep(EVERY)
+    used = resource.getrusage(resource.RUSAGE_CHILDREN)
+    whole = used.ru_utime + used.ru_stime
+    print("\nprocessor seconds")
+    print_table(costs)
+    print_edits(costs)
+    rest = max(whole - sum(costs.seconds.values()), 0)
+    minutes = (time.monotonic() - begun) / 60
+    print(f"\n{whole / 60:.1f} processor minutes, {rest:.0f} seconds of them of no crate, in {minutes:.1f} minutes")
+    return gate.returncode if gate.returncode >= 0 else 128 - gate.returncode
+
+
+if __name__ == "__main__":
+    sys.exit(main(sys.argv[1:]))
