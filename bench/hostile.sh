@@ -70,12 +70,14 @@ parameters_with_functions() {
 # The least of three times of the report of a tree, in milliseconds.
 time_of() {
     "$1" "$2" >"$scratch/tree"
+    : >"$scratch/times"
     for _ in 1 2 3; do
         start="$(date +%s%N)"
         "$report" <"$scratch/tree" >/dev/null
         end="$(date +%s%N)"
-        echo $(((end - start) / 1000000))
-    done | sort -n | head -n 1
+        echo $(((end - start) / 1000000)) >>"$scratch/times"
+    done
+    sort -n "$scratch/times" | head -n 1
 }
 
 [ $# -gt 0 ] || set -- parameters_plain parameters_with_defaults parameters_in_patterns parameters_with_functions

@@ -7,4 +7,4 @@ pub mod namespace_row;
 pub mod reaching;
 pub mod statement_lists;
 
-pub use instance_state::{ModuleInstanceState, instance_state, module_instance_state};
+pub use instance_state::{ModuleInstanceState, module_instance_state};

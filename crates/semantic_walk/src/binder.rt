@@ -24,7 +24,7 @@ ghost use Rattle.semantic_walk.specs.Binds.{is_bound_inside, declaring, declarin
 ghost use Rattle.table_building.specs.Growth.{Goes};
 
 use crate::walk::Walk;
-use namespace_states::instance_state;
+use namespace_states::instance_state::instance_state;
 use namespace_states::namespace_row::namespace_row;
 use node_rules::declaring::binds_under;
 use node_rules::rows::{self, Row};
