@@ -42,6 +42,7 @@ use node_rules::direct_eval::is_direct_eval;
 use node_rules::rows::is_statement;
 use node_rules::scope_kind::{flags_of, root_flags};
 use node_store::{AstNodes, EnteredNodes};
+use semantic_diagnostics::Diagnostics;
 use semantic_syntax::{Ident, ReferenceFlags, ScopeFlags, ScopeId, SourceType, Steps};
 use semantic_tree::{AstKind, AstType, Mark, Program, Role};
 use std::alloc::{AllocError, Global};
@@ -135,8 +136,7 @@ impl<'a> Walk<'a> {
         let source_type = program.source_type();
         let root = program.root();
         let namesakes = Namesakes::of(alloc, program)?;
-        let mut declared = Declared::new(alloc);
-        let scope = declared.open_root(root, root_flags(root, source_type))?;
+        let declared = Declared::new(alloc, root, root_flags(root, source_type))?;
         Ok(Walk {
             alloc,
             source_type,
@@ -144,7 +144,7 @@ impl<'a> Walk<'a> {
             declared,
             namesakes,
             path: Path::new(alloc),
-            current_scope: scope,
+            current_scope: ScopeId::new(0),
             cursor: ReferenceFlags::empty(),
             is_ambient: source_type.is_typescript_definition(),
             nodes: keeping(alloc, keeps),
@@ -394,20 +394,31 @@ impl<'a> Walk<'a> {
         self.declared.waiting()
     }
 
-    /// What the walk has made.
-    pub(crate) fn finish(self) -> Result<Analysis<'a>, AllocError>
-        ensures scoping { IfOk result (λ made. made.scoping ≡ self.entry.made.tables) }
-        ensures tables { IfOk result (λ made. made.tables ≡ self.entry.made.nodes) }
-        ensures diagnostics { IfOk result (λ made. made.diagnostics ≡ map told self.entry.made.conflicts) }
-        ensures node_list { IfOk result (λ made. made.nodes ≡ list_kept self.entry.nodes) }
+    /// A diagnostic for each conflict.
+    pub(crate) fn diagnostics(&self) -> Result<Diagnostics, AllocError>
+        ensures { IfOk result (λ made. made ≡ map told self.now.made.conflicts) }
     {
-        let nodes = nodes_kept(self.alloc, self.nodes);
-        let built = self.declared.finish()?;
-        Ok(Analysis {
-            scoping: built.scoping,
-            tables: built.tables,
-            nodes,
-            diagnostics: built.diagnostics,
-        })
+        self.declared.diagnostics()
+    }
+
+    /// What the walk has made.
+    pub(crate) fn finish(self, diagnostics: Diagnostics) -> Analysis<'a>
+        ensures scoping { result.scoping ≡ self.entry.made.tables }
+        ensures tables { result.tables ≡ self.entry.made.nodes }
+        ensures diagnostics { result.diagnostics ≡ diagnostics }
+        ensures node_list { result.nodes ≡ list_kept self.entry.nodes }
+    {
+        let (scoping, tables) = self.declared.into_tables();
+        Analysis {
+            scoping,
+            tables,
+            nodes: nodes_kept(self.alloc, self.nodes),
+            diagnostics,
+        }
+    }
+
+    /// Gives the walk up.
+    pub(crate) fn give_up(self) {
+        self.declared.give_up();
     }
 }

@@ -1,12 +1,13 @@
 //! What the walk has made so far, and how one more declaration comes to its symbol.
 
-ghost use Rattle.std.specs.Prelude.{◌≡◌, ◌<◌, length, map, option_map, fold, IfSome, IfOk, OnOk};
+ghost use Rattle.std.specs.Prelude.{◌≡◌, ◌<◌, None, length, map, option_map, fold, IfSome, IfOk, OnOk};
 ghost use Rattle.std.specs.Str.{bytes_eq};
 ghost use Rattle.std.specs.Map.{lookup};
 ghost use Rattle.scoping.specs.Names.{name_of};
 ghost use Rattle.scoping.specs.Reading.{scope_of};
 ghost use Rattle.semantic_model.specs.Binding.{get};
 ghost use Rattle.semantic_model.specs.Fold.{or_else};
+ghost use Rattle.walk_model.specs.Opens.{open_in};
 ghost use Rattle.walk_model.specs.Standing.{nothing_made};
 ghost use Rattle.walk_model.specs.Declares as walked;
 ghost use Rattle.table_building.specs.Conflicting.{told};
@@ -20,7 +21,7 @@ use node_rules::rows::Row;
 use resolver::UnresolvedReferences;
 use scoping::{NodeTables, Scoping};
 use semantic_diagnostics::Diagnostics;
-use semantic_syntax::{Ident, ScopeId, SymbolFlags, SymbolId};
+use semantic_syntax::{Ident, ScopeFlags, ScopeId, SymbolFlags, SymbolId};
 use semantic_tree::AstKind;
 use std::alloc::{AllocError, Global};
 use std::marker::Model;
@@ -37,15 +38,6 @@ pub struct Declared<'a> {
     pub(crate) pending: UnresolvedReferences<'a>,
 }
 
-/// Tables that are made: scopes, symbols, bindings and references, what belongs to each node, and what is wrong in the
-/// program.
-#[derive(Drop)]
-pub struct BuiltTables {
-    pub scoping: Scoping,
-    pub tables: NodeTables,
-    pub diagnostics: Diagnostics,
-}
-
 impl<'a> Model for Declared<'a> {
     ghost use Rattle.walk_model.specs.Standing.{Standing};
 
@@ -60,8 +52,26 @@ impl<'a> Model for Declared<'a> {
 
 #[tactic(auto, using(crate::proofs::Growing::growing))]
 impl<'a> Declared<'a> {
+    /// Nothing is made yet but the root's scope.
+    pub fn new(
+        alloc: Global,
+        root: AstKind<'_>,
+        flags: ScopeFlags,
+    ) -> Result<Declared<'a>, AllocError>
+        ensures { IfOk result (λ made. made ≡ open_in nothing_made None root.entry.node.now.node_id 0 flags.bits) }
+    {
+        let mut declared = Declared::empty(alloc);
+        match declared.open_root(root, flags) {
+            Ok(_) => Ok(declared),
+            Err(error) => {
+                declared.give_up();
+                Err(error)
+            }
+        }
+    }
+
     /// Nothing is made yet.
-    pub fn new(alloc: Global) -> Declared<'a>
+    fn empty(alloc: Global) -> Declared<'a>
         ensures { result ≡ nothing_made }
     {
         Declared {
@@ -81,18 +91,25 @@ impl<'a> Declared<'a> {
         &self.scoping
     }
 
-    /// The tables that are made, with a diagnostic for each conflict.
-    pub fn finish(self) -> Result<BuiltTables, AllocError>
-        ensures scoping { IfOk result (λ built. built.scoping ≡ self.entry.tables) }
-        ensures tables { IfOk result (λ built. built.tables ≡ self.entry.nodes) }
-        ensures diagnostics { IfOk result (λ built. built.diagnostics ≡ map told self.entry.conflicts) }
+    /// A diagnostic for each conflict.
+    pub fn diagnostics(&self) -> Result<Diagnostics, AllocError>
+        ensures { IfOk result (λ made. made ≡ map told self.now.conflicts) }
     {
-        let diagnostics = self.conflicts.diagnostics(self.alloc)?;
-        Ok(BuiltTables {
-            scoping: self.scoping,
-            tables: self.tables,
-            diagnostics,
-        })
+        self.conflicts.diagnostics(self.alloc)
+    }
+
+    /// The tables, and what belongs to each node.
+    pub fn into_tables(self) -> (Scoping, NodeTables)
+        ensures scoping { result.0 ≡ self.entry.tables }
+        ensures tables { result.1 ≡ self.entry.nodes }
+    {
+        (self.scoping, self.tables)
+    }
+
+    /// Gives up what is made.
+    pub fn give_up(self) {
+        drop_scoping(self.scoping);
+        drop_tables(self.tables);
     }
 
     /// How many references wait.
@@ -320,6 +337,12 @@ impl<'a> Declared<'a> {
         self.declare(scope, &declaration)
     }
 }
+
+/// Drops the tables, out of line: each function that drops them itself is proved anew to drop each of their parts.
+fn drop_scoping(_scoping: Scoping) {}
+
+/// Drops what belongs to each node, out of line too.
+fn drop_tables(_tables: NodeTables) {}
 
 /// Whether there is room for one more id. There always is: scopes, symbols and references are at most the nodes of
 /// the program, which have ids themselves.

@@ -11,5 +11,5 @@ pub mod route;
 pub mod scopes;
 pub mod settle;
 
-pub use declared::{BuiltTables, Declared};
+pub use declared::Declared;
 pub use route::Route;

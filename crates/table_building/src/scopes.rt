@@ -18,7 +18,11 @@ use std::alloc::AllocError;
 #[tactic(auto, using(crate::proofs::Growing::growing))]
 impl<'a> Declared<'a> {
     /// Opens the root's scope.
-    pub fn open_root(&mut self, root: AstKind<'_>, flags: ScopeFlags) -> Result<ScopeId, AllocError>
+    pub(crate) fn open_root(
+        &mut self,
+        root: AstKind<'_>,
+        flags: ScopeFlags,
+    ) -> Result<ScopeId, AllocError>
         ensures made { OnOk result (self.new ≡ walked.open_in self.old None root.entry.node.now.node_id (length self.old.tables.scopes) flags.bits) }
         ensures number { IfOk result (λ s. s ≡ length self.old.tables.scopes) }
         ensures goes { Goes self.old self.new }

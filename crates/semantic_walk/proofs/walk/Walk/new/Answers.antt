@@ -1,5 +1,4 @@
-use Rattle.std.proofs.Common.{◌≡◌, None, ◌∙◌, ap, length, map}
-use Rattle.semantic_tree.specs.ChildIter.{shown}
+use Rattle.std.proofs.Common.{◌≡◌, None, ◌∙◌, ap, refl}
 use Rattle.semantic_kinds.specs.declared.kind.AstType.TheVariants as kind
 use Rattle.semantic_syntax.specs.SourceTypes.{is_typescript_definition}
 use Rattle.semantic_tree.specs.Faults.{first_fault}
@@ -7,7 +6,7 @@ use Rattle.semantic_tree.specs.Tree.{Tree}
 use Rattle.semantic_tree.proofs.ShapedLaws.{IsShaped-no_fault}
 use Rattle.semantic_model.specs.Step.{root_place}
 use Rattle.walk_model.specs.Opens.{open_scope}
-use Rattle.walk_model.specs.Standing.{Standing, nothing_made}
+use Rattle.walk_model.specs.Standing.{nothing_made}
 use Rattle.walk_model.proofs.RootSteps.{root_scope}
 use Rattle.walk_model.proofs.Seats.{root_is_program}
 use Rattle.semantic_walk.proofs.Beginning.{begins, made_first}
@@ -18,8 +17,8 @@ returns-clause-begins c =
     let program : Tree = c.args.program.now in
     let fits : first_fault program ≡ None = IsShaped-no_fault program c.root-root.ensures.shaped in
     let is_program : program.root.kind ≡ kind.Program = root_is_program program fits in
-    let made : c.open_root.new.self ≡ open_scope nothing_made (root_place program) (root_scope (root_place program)) =
-    made_first program is_program c.new-declared.result c.open_root.new.self c.root-root.result.node.now c.source_type-source_type.result c.root_flags.result.bits c.new-declared.ensures c.root-root.ensures.root
-    c.source_type-source_type.ensures c.root_flags.ensures c.in_ok-scope.ensures.made in
-    begins program _ c.args.keeps made c.source_type-source_type.ensures c.node_count.ensures (ap (map shown) c.new.ensures.items) (c.in_ok-scope.ensures.number ∙ ap (λ (d : Standing). length d.tables.scopes) c.new-declared.ensures) c.empty.ensures
+    let made : c.in_ok-declared.declared ≡ open_scope nothing_made (root_place program) (root_scope (root_place program)) =
+    made_first program is_program nothing_made c.in_ok-declared.declared c.root-root.result.node.now c.source_type-source_type.result c.root_flags.result.bits refl c.root-root.ensures.root
+    c.source_type-source_type.ensures c.root_flags.ensures c.in_ok-declared.ensures in
+    begins program _ c.args.keeps made c.source_type-source_type.ensures c.node_count.ensures c.new-path.ensures refl c.empty.ensures
     (c.is_typescript_definition.ensures ∙ ap is_typescript_definition c.source_type-source_type.ensures) c.keeping.ensures
