@@ -1,13 +1,13 @@
 //! The builder, which analyses a program.
 
 ghost use Rattle.std.specs.Prelude.{◌≡◌, false, [], IfOk};
-ghost use Rattle.semantic.specs.Begun.{BelongsToNodes, IsAnalysis};
-ghost use Rattle.semantic.specs.Listed.{kept_nodes};
+ghost use Rattle.semantic_walk.specs.Begun.{BelongsToNodes, IsAnalysis};
+ghost use Rattle.semantic_walk.specs.Listed.{kept_nodes};
 
-use crate::semantic::SemanticBuilderReturn;
-use crate::walk::Walk;
+use crate::semantic::{Semantic, SemanticBuilderReturn};
 use semantic_syntax::Steps;
-use semantic_tree::{Program, Role};
+use semantic_tree::Program;
+use semantic_walk::analyse;
 use std::alloc::{AllocError, Global};
 
 /// The settings of an analysis. Early errors and the table of classes are not there yet.
@@ -64,9 +64,17 @@ impl SemanticBuilder {
         ensures comments { IfOk result (λ ret. ret.semantic.comments.now ≡ program.now.comments) }
         ensures whitespace { IfOk result (λ ret. ret.semantic.irregular_whitespaces.items ≡ []) }
     {
-        let mut walk = Walk::new(alloc, program, self.build_nodes)?;
-        walk.visit(program.root(), Role::Root, steps)?;
-        walk.end(steps)?;
-        walk.into_return(program)
+        let made = analyse(alloc, program, self.build_nodes, steps)?;
+        Ok(SemanticBuilderReturn {
+            semantic: Semantic {
+                program,
+                scoping: made.scoping,
+                tables: made.tables,
+                nodes: made.nodes,
+                comments: program.comments(),
+                irregular_whitespaces: Vec::new(alloc),
+            },
+            diagnostics: made.diagnostics,
+        })
     }
 }

@@ -6,7 +6,7 @@ ghost use Rattle.semantic_tree.specs.Children.{single, node_count};
 ghost use Rattle.semantic_model.specs.Inside.{opens};
 ghost use Rattle.semantic.specs.Tally.{is_symbol, is_reference, increased, IsCount, AddsCount, IsWithin, IsAccurate};
 
-use crate::inside::opens;
+use node_rules::inside::opens;
 use semantic_tree::{AstType, Node, Program};
 
 /// How many nodes, scopes, symbols and references there are.

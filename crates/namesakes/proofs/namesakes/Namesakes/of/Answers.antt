@@ -1,0 +1,21 @@
+use Rattle.std.proofs.Common.{◌≡◌, List, [], Bool, true, false, not, None, subst, refl, arith}
+use Rattle.std.proofs.lemmas.Grind.{common_steps}
+use Rattle.semantic_tree.specs.declared.node.Node.{Node}
+use Rattle.walk_model.specs.WrittenNames.{Written, is_sloppy, names_written, written_in}
+use Rattle.namesakes.specs.WrittenNames.{Adds}
+use Rattle.namesakes.proofs.Adding.{all-move}
+use Rattle.namesakes.proofs.namesakes.Namesakes.of.Goals as goal
+
+not-false : (b : Bool) → not b ≡ false → b ≡ true
+not-false true h = refl
+not-false false h = cc
+
+pub returns : goal.returns
+returns c =
+    let now : List Written = c.collect.new.self in
+    let all : List Written = names_written c.args.program.now in
+    let sloppy : is_sloppy c.args.program.now.source_type ≡ true = grind (arith, common_steps, not-false) in
+    let from_none : Adds [] now (written_in c.root.result.node.now None (record { innermost = 0; around = 0 })) =
+    subst (λ (v : List Written). Adds v now (written_in c.root.result.node.now None (record { innermost = 0; around = 0 }))) c.new-namesakes.ensures c.in_ok-collect.ensures in
+    let adds : Adds [] now all = subst (λ (r : Node). Adds [] now (written_in r None (record { innermost = 0; around = 0 }))) c.root.ensures.root from_none in
+    all-move now all (is_sloppy c.args.program.now.source_type) sloppy adds

@@ -1,0 +1,18 @@
+-- The names that are written, as they are collected before the walk.
+use Rattle.std.specs.Prelude.{◌≡◌, ℕ, List, [], ◌||◌, slice_index_or}
+use Rattle.semantic_syntax.specs.Tables.{Name}
+use Rattle.walk_model.specs.WrittenNames.{Written, is_written}
+use Rattle.walk_model.specs.WrittenNames as written
+use Rattle.namesakes.specs.declared.namesakes.Openers.{Openers}
+
+-- the new ones are these and the old ones
+abbrev pub Adds : List Written → List Written → List Written → Type 0
+Adds old new ws = (opener : ℕ) (name : Name) → is_written new opener name ≡ (is_written old opener name || is_written ws opener name)
+
+-- the openers, in the words of the definition
+abbrev pub openers_of : Openers → written.Openers
+openers_of o = record { innermost = o.innermost; around = o.around }
+
+-- a name under its number
+abbrev pub written_of : List Name → ℕ × ℕ → Written
+written_of names key = record { opener = key.0; name = slice_index_or names key.1 [] }

@@ -1,0 +1,6 @@
+//! The declarations past which a block function doesn't move.
+#![tactic(auto)]
+
+pub mod namesakes;
+
+pub use namesakes::Namesakes;

@@ -1,0 +1,5 @@
+pub mod Nested
+pub mod Marks
+pub mod Closing
+pub mod Descending
+pub mod Entered

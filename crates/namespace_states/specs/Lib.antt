@@ -1,0 +1,4 @@
+pub mod Chains
+pub mod InstanceStates
+pub mod Rounds
+pub mod Descents

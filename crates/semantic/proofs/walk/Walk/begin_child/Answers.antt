@@ -1,9 +1,0 @@
-use Rattle.std.proofs.Common.{◌∷◌}
-use Rattle.semantic_tree.specs.Children.{forest_of}
-use Rattle.semantic.proofs.Visiting.{stands_at_child}
-use Rattle.semantic.proofs.walk.Walk.begin_child.Goals as goal
-
-pub returns-clause-comes : goal.returns-clause-comes
-returns-clause-comes c = λ ds p own n cursor start rest node role between.
-    let opens = c.in_ok-open_for.ensures.opens ds p own n cursor start (forest_of ((c.args.role, c.args.child.node.now) ∷ rest)) node role between in
-    (stands_at_child ds p own n cursor start (c.args.role, c.args.child.node.now) rest c.args.parent.node.now c.args.self.now c.open_for.new.self c.come_to.new.self c.args.turn.now c.open_for.new.turn node between opens.0 opens.1 c.come_to.ensures.made, opens.1)

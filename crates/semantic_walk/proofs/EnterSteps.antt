@@ -1,0 +1,77 @@
+-- The walk enters a node.
+use Rattle.std.proofs.Common.{◌≡◌, List, [], ◌∷◌, ◌++◌, Bool, true, false, cond, Result, OnOk, option_map, refl, sym, ap, subst, ◌∙◌}
+use Rattle.std.proofs.lemmas.List.{reverse-append}
+use Rattle.semantic_kinds.specs.declared.kind.AstType.TheVariants as kind
+use Rattle.semantic_tree.specs.declared.node.Node.{Node}
+use Rattle.semantic_model.specs.Nodes.{is}
+use Rattle.semantic_model.specs.Place.{Place, at}
+use Rattle.semantic_model.specs.Cursor.{on_entering, way_of}
+use Rattle.semantic_model.specs.Declaration.{Declaration}
+use Rattle.semantic_model.specs.Step.{entering}
+use Rattle.semantic_model.specs.TablesOf.{is_direct_eval}
+use Rattle.semantic_model.specs.Binder.{declared_on_entering}
+use Rattle.semantic_model.proofs.Clauses.{kind_is}
+use Rattle.walk_model.specs.Standing.{Standing}
+use Rattle.walk_model.specs.Opens.{add_eval, note_eval, refer_to, refer, note_reference}
+use Rattle.walk_model.proofs.ChainRows.{chain_kept, prepare_rows}
+use Rattle.semantic_walk.specs.Walker.{Walker, noting_node, referring}
+use Rattle.node_store.specs.Entered.{Entered}
+use Rattle.node_store.specs.Entered as store
+use Rattle.semantic_walk.specs.AtPlace.{ComesTo, IsWithin, IsShown, entered, kept_at}
+use Rattle.semantic_walk.specs.Binds.{acting}
+
+module _ (ds : List Declaration) (w : Walker) (p : Place) (comes : ComesTo w p) (shown : IsShown ds w p) where
+  -- the walk has stepped to the node
+  abbrev stepped : Node → Walker
+  stepped n = record (noting_node w n) { path = w.path ++ n ∷ []; cursor = on_entering n.kind w.cursor }
+
+  -- and has noted what it refers to
+  abbrev noted : Walker
+  noted = record w { made = note_eval (note_reference w.made p) p; path = w.path ++ p.node ∷ []; cursor = on_entering p.node.kind p.cursor; nodes = kept_at w p }
+
+  -- on entering a reference the cursor stays
+  referred : (b : Bool) → is kind.IdentifierReference p.node ≡ b → cond b (referring (stepped p.node) p.node) (stepped p.node) ≡ record (stepped p.node) { made = cond b (refer w.made p) w.made }
+  referred true h =
+      ap (λ n. record (stepped p.node) { made = refer_to w.made p.node.node_id p.node.text n (way_of (on_entering p.node.kind w.cursor)) }) comes.current
+      ∙ ap (λ n. record (stepped p.node) { made = refer_to w.made p.node.node_id p.node.text (at p) (way_of n) })
+      (ap (λ k. on_entering k w.cursor) (kind_is p.node.kind kind.IdentifierReference h) ∙ comes.cursor)
+  referred false h = refl
+
+  called : (b : Bool) (m : Standing) → ◌≡◌ {A = Walker} (cond b (record (stepped p.node) { made = add_eval m w.current }) (record (stepped p.node) { made = m })) (record (stepped p.node) { made = cond b (add_eval m (at p)) m })
+  called true m = ap (λ n. record (stepped p.node) { made = add_eval m n }) comes.current
+  called false m = refl
+
+  abbrev refers : Node → Walker
+  refers n = cond (is kind.IdentifierReference n) (referring (stepped n) n) (stepped n)
+
+  noted_is : (node : Node) (now then_ : Walker) → p.node ≡ node → now ≡ cond (is kind.IdentifierReference node) (referring (stepped node) node) (stepped node)
+      → then_ ≡ cond (is_direct_eval node) (record now { made = add_eval now.made now.current }) now → then_ ≡ noted
+  noted_is node now then_ e h k =
+      k
+      ∙ ap (λ (v : Walker). cond (is_direct_eval node) (record v { made = add_eval v.made v.current }) v) h
+      ∙ ap (λ (n : Node). cond (is_direct_eval n) (record (refers n) { made = add_eval (refers n).made (refers n).current }) (refers n)) (sym e)
+      ∙ ap (λ (v : Walker). cond (is_direct_eval p.node) (record v { made = add_eval v.made v.current }) v) (referred (is kind.IdentifierReference p.node) refl)
+      ∙ called (is_direct_eval p.node) (note_reference w.made p)
+      ∙ ap (λ n. record (noting_node w p.node) { made = note_eval (note_reference w.made p) p; path = w.path ++ p.node ∷ []; cursor = on_entering p.node.kind n }) comes.cursor
+      ∙ ap (λ n. record noted { nodes = option_map (λ (e : Entered). store.entering e p.node n) w.nodes }) comes.current
+
+  within_noted : IsWithin noted p p.chain
+  within_noted = record {
+    source_type = comes.source_type;
+    path = ap (λ (xs : List Node). xs ++ p.node ∷ []) comes.path ∙ sym (reverse-append (p.node ∷ []) p.path);
+    current = comes.current;
+    count = comes.count;
+  }
+
+  shown_noted : IsShown ds noted p
+  shown_noted = record { chain = chain_kept w.made.tables noted.made.tables p.chain (prepare_rows w.made (entering p)) shown.chain; grounded = shown.grounded; named = shown.named }
+
+  -- what the node declares outside comes last
+  pub enters : {X E : Type 0} (r : Result X E) (node : Node) (now then_ last : Walker) → p.node ≡ node → now ≡ cond (is kind.IdentifierReference node) (referring (stepped node) node) (stepped node)
+      → then_ ≡ cond (is_direct_eval node) (record now { made = add_eval now.made now.current }) now
+      → (IsWithin then_ p p.chain → IsShown ds then_ p → OnOk r (last ≡ acting ds then_ (declared_on_entering p)))
+      → OnOk r (last ≡ record w { made = entered ds w p; path = w.path ++ p.node ∷ []; cursor = on_entering p.node.kind p.cursor; nodes = kept_at w p })
+  enters r node now then_ last e h k declares =
+      let same : then_ ≡ noted = noted_is node now then_ e h k in
+      subst (λ (v : Walker). OnOk r (last ≡ acting ds v (declared_on_entering p))) same
+      (declares (subst (λ (v : Walker). IsWithin v p p.chain) (sym same) within_noted) (subst (λ (v : Walker). IsShown ds v p) (sym same) shown_noted))

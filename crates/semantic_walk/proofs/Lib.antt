@@ -1,0 +1,14 @@
+pub mod Going
+pub mod MovedNames
+pub mod Parents
+pub mod Beginning
+pub mod Opening
+pub mod TurnEnds
+pub mod Listing
+pub mod Visiting
+pub mod RowActs
+pub mod PlaceDeclares
+pub mod PlaceRows
+pub mod PlaceFunctions
+pub mod BindArms
+pub mod EnterSteps

@@ -1,0 +1,87 @@
+use Rattle.std.proofs.Common.{◌≡◌, ℕ, List, [], ◌∷◌, Option, None, option_map, refl, ap, sym, subst, ◌∙◌, length, take, ◌-◌, arith}
+use Rattle.semantic_kinds.specs.declared.role.Role.{Role}
+use Rattle.semantic_kinds.specs.declared.kind.AstType.{AstType}
+use Rattle.semantic_tree.specs.Forest.{Forest, nothing, count}
+use Rattle.semantic_tree.specs.Children.{forest_of}
+use Rattle.semantic_tree.specs.declared.node.Node.{Node}
+use Rattle.semantic_model.specs.Place.{Place, OpenScope}
+use Rattle.semantic_model.specs.Cursor.{cursor_behind, on_leaving}
+use Rattle.semantic_model.specs.Step.{scope_at, next_at, ending_after}
+use Rattle.walk_model.specs.Standing.{Standing}
+use Rattle.walk_model.specs.Waits.{HoldsAt, start_at}
+use Rattle.walk_model.specs.Walks.{after_all}
+use Rattle.node_store.specs.Entered.{leaving}
+use Rattle.semantic_walk.specs.Walker.{Walker}
+use Rattle.semantic_walk.specs.AtPlace.{IsComing, walked_over}
+use Rattle.semantic_walk.specs.declared.visit.Turn.{Turn}
+use Rattle.table_building.proofs.Growing.{goes-refl, grows-trans}
+use Rattle.semantic_walk.proofs.Visiting.{Rests, rests_first, rests_past, walked, place_of, comes_to_child, holds_past, behind_child}
+use Rattle.semantic_walk.proofs.walk.Walk.+visit.Goals as goal
+
+pub loop-child_role-init : goal.loop-child_role-init
+loop-child_role-init g t c =
+    let same : forest_of c.as_slice-left.result.now ≡ c.args.kind.node.now.children = c.as_slice-left.ensures.forest ∙ ap (λ (x : Node). x.children) c.node.ensures in
+    record {
+      left = omega (arith, ap count same);
+      turn = c.turn-turn.ensures.stands;
+      goes = goes-refl c.enter.new.self.made;
+      start = omega (arith, ap (λ (u : Turn). u.header_start) c.turn-turn.ensures.value);
+      rests = λ ds p own n node role coming.
+          rests_first ds c.args.self.now p own n c.enter.new.self c.turn-turn.result c.ty.result (forest_of c.as_slice-left.result.now) coming
+          (c.ty.ensures ∙ sym (ap (λ (x : Node). x.kind) node)) (same ∙ sym (ap (λ (x : Node). x.children) node))
+          (c.in_ok-enter.ensures.walks ds p node coming.comes coming.shown) c.turn-turn.ensures.value;
+    }
+
+pub loop-child_role-preserved : goal.loop-child_role-preserved
+loop-child_role-preserved g t c =
+    let w : Walker = c.loop-child_role.self in
+    let v : Walker = c.begin_child.new.self in
+    let past : Walker = c.visit.new.self in
+    let rest : List (Role × Node) = c.in-Some.rest.now in
+    let child : Role × Node = (c.in-Some.field-0-0.now.0, c.new-child.result.node.now) in
+    let split : c.loop-child_role.left.now ≡ child ∷ rest = c.in-Some.ensures.cases.0 ∙ ap (λ (x : Node). (c.in-Some.field-0-0.now.0, x) ∷ rest) (sym c.new-child.ensures) in
+    record {
+      left = omega (arith, c.loop-child_role.invariant.left, ap (λ (xs : List (Role × Node)). count (forest_of xs)) split);
+      turn = c.in_ok-finish_child.ensures.stands;
+      goes = record {
+        tables = grows-trans c.enter.new.self.made.tables past.made.tables c.finish_child.new.self.made.tables
+            (grows-trans c.enter.new.self.made.tables v.made.tables past.made.tables
+            (grows-trans c.enter.new.self.made.tables w.made.tables v.made.tables c.loop-child_role.invariant.goes.tables c.in_ok-begin_child.ensures.goes.tables) c.in_ok-visit.ensures.goes.tables)
+            c.in_ok-finish_child.ensures.grows;
+        waiting = omega (arith, c.loop-child_role.invariant.start, c.in_ok-begin_child.ensures.start, c.in_ok-finish_child.ensures.stands.start);
+      };
+      start = omega (arith, c.loop-child_role.invariant.start, c.in_ok-begin_child.ensures.start);
+      rests = λ ds p own n node role coming.
+          let h : Rests ds c.args.self.now p own n w c.loop-child_role.turn (forest_of (child ∷ rest)) =
+          subst (λ (xs : List (Role × Node)). Rests ds c.args.self.now p own n w c.loop-child_role.turn (forest_of xs)) split (c.loop-child_role.invariant.rests ds p own n node role coming) in
+          let scope : Option OpenScope = scope_at p child.0 h.scope h.next in
+          let next : ℕ = next_at p child.0 h.scope h.next in
+          let start : ℕ = start_at p child.0 h.scope h.start w.made in
+          let place : Place = place_of p h.scope h.next h.cursor child in
+          let came = c.in_ok-begin_child.ensures.comes ds p h.scope h.next h.cursor h.start rest node role h.between in
+          let comes : IsComing ds v place None next = comes_to_child ds p h.scope h.next h.cursor h.start child rest w v c.loop-child_role.turn h.between h.kept came.0 in
+          let went : past ≡ walked_over ds v place None next = c.in_ok-visit.ensures.walks ds place None next refl refl comes in
+          let holds : HoldsAt past.made scope start = holds_past ds p h.scope h.next h.cursor h.start child rest w v past c.loop-child_role.turn h.between came.0 went in
+          let made : Standing = after_all ds past.made (ending_after p child.0 scope (forest_of rest)) in
+          let kind_same : c.ty-in-Some.result ≡ p.node.kind = c.ty-in-Some.ensures ∙ sym (ap (λ (x : Node). x.kind) node) in
+          let ended : c.finish_child.new.self ≡ behind_child past made p (cursor_behind p.node.kind child.0 w.cursor past.cursor) =
+          c.in_ok-finish_child.ensures.ends ds p scope start (sym kind_same) came.1 holds
+          ∙ ap (λ (k : AstType). behind_child past made p (cursor_behind k child.0 c.cursor-before.result.bits past.cursor)) kind_same
+          ∙ ap (λ (m : ℕ). behind_child past made p (cursor_behind p.node.kind child.0 m past.cursor)) c.cursor-before.ensures in
+          rests_past ds c.args.self.now p own n child rest w v past c.finish_child.new.self c.loop-child_role.turn c.begin_child.new.turn h came.0 came.1 went ended;
+    }
+
+no_children : (items : List (Role × Node)) → length items ≡ 0 → forest_of items ≡ nothing
+no_children [] h = refl
+no_children (x ∷ xs) h = absurd (omega arith)
+
+pub returns-clause-walks : goal.returns-clause-walks
+returns-clause-walks g t c = λ ds p own n node role coming.
+    let w : Walker = c.loop-child_role.self in
+    let last : Walker = c.open_last.new.self in
+    let h : Rests ds c.args.self.now p own n w c.loop-child_role.turn nothing =
+    subst (λ (f : Forest). Rests ds c.args.self.now p own n w c.loop-child_role.turn f) (no_children c.loop-child_role.left.now c.in_default.ensures.cases) (c.loop-child_role.invariant.rests ds p own n node role coming) in
+    let left : c.leave.new.self ≡ record last { path = take (length last.path - 1) last.path; cursor = on_leaving p.node.kind last.cursor; nodes = option_map leaving last.nodes } =
+    ◌∙◌ {b = record last { path = take (length last.path - 1) last.path; cursor = on_leaving c.args.kind.node.now.kind last.cursor; nodes = option_map leaving last.nodes }} c.leave.ensures.made
+    (ap (λ (x : Node). record last { path = take (length last.path - 1) last.path; cursor = on_leaving x.kind last.cursor; nodes = option_map leaving last.nodes }) (sym node)) in
+    walked ds c.args.self.now p own n w last c.leave.new.self c.loop-child_role.turn coming h (c.in_ok-open_last.ensures.ends ds p h.scope h.next h.cursor h.start node role h.between) left

@@ -1,0 +1,13 @@
+use Rattle.std.proofs.Common.{cond, refl, ap, ◌∙◌}
+use Rattle.semantic_kinds.specs.declared.kind.AstType.TheVariants as kind
+use Rattle.semantic_model.specs.Nodes.{is}
+use Rattle.semantic_walk.specs.Walker.{Walker, referring}
+use Rattle.semantic_walk.proofs.EnterSteps.{enters}
+use Rattle.semantic_walk.proofs.walk.Walk.enter.Goals as goal
+
+pub returns-clause-walks : goal.returns-clause-walks
+returns-clause-walks c = λ ds p e comes shown.
+    let node = c.args.kind.node.now in
+    enters ds c.args.self.now p comes shown c.declare.result node c.note_reference.new.self c.note_eval.new.self c.declare.new.self e
+    (c.in_ok-note_reference.ensures.made ∙ ap (λ (v : Walker). cond (is kind.IdentifierReference node) (referring v node) v) c.in_ok-step_to.ensures.made)
+    c.note_eval.ensures.made (λ within there. c.declare.ensures.entering ds p e refl within there)

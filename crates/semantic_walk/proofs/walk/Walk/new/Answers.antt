@@ -1,0 +1,24 @@
+use Rattle.std.proofs.Common.{◌≡◌, None, ◌∙◌, ap, refl}
+use Rattle.semantic_kinds.specs.declared.kind.AstType.TheVariants as kind
+use Rattle.semantic_syntax.specs.SourceTypes.{is_typescript_definition}
+use Rattle.semantic_tree.specs.Faults.{first_fault}
+use Rattle.semantic_tree.specs.Tree.{Tree}
+use Rattle.semantic_tree.proofs.ShapedLaws.{IsShaped-no_fault}
+use Rattle.semantic_model.specs.Step.{root_place}
+use Rattle.walk_model.specs.Opens.{open_scope}
+use Rattle.walk_model.specs.Standing.{nothing_made}
+use Rattle.walk_model.proofs.RootSteps.{root_scope}
+use Rattle.walk_model.proofs.Seats.{root_is_program}
+use Rattle.semantic_walk.proofs.Beginning.{begins, made_first}
+use Rattle.semantic_walk.proofs.walk.Walk.new.Goals as goal
+
+pub returns-clause-begins : goal.returns-clause-begins
+returns-clause-begins c =
+    let program : Tree = c.args.program.now in
+    let fits : first_fault program ≡ None = IsShaped-no_fault program c.root-root.ensures.shaped in
+    let is_program : program.root.kind ≡ kind.Program = root_is_program program fits in
+    let made : c.in_ok-declared.declared ≡ open_scope nothing_made (root_place program) (root_scope (root_place program)) =
+    made_first program is_program nothing_made c.in_ok-declared.declared c.root-root.result.node.now c.source_type-source_type.result c.root_flags.result.bits refl c.root-root.ensures.root
+    c.source_type-source_type.ensures c.root_flags.ensures c.in_ok-declared.ensures in
+    begins program _ c.args.keeps made c.source_type-source_type.ensures c.node_count.ensures c.new-2.ensures c.new-3.ensures c.empty.ensures
+    (c.is_typescript_definition.ensures ∙ ap is_typescript_definition c.source_type-source_type.ensures) c.keeping.ensures

@@ -1,0 +1,88 @@
+-- A walk that stands at a place of the program.
+use Rattle.std.specs.Prelude.{◌≡◌, ℕ, List, ◌∷◌, Option, Some, None, IfSome, option_map, length, reverse}
+use Rattle.semantic_kinds.specs.declared.kind.AstType.TheVariants as kind
+use Rattle.semantic_tree.specs.Forest.{Forest}
+use Rattle.semantic_model.specs.Place.{Place, OpenScope, innermost, at}
+use Rattle.semantic_model.specs.Cursor.{on_entering, on_leaving, cursor_after}
+use Rattle.semantic_model.specs.Declaration.{Declaration}
+use Rattle.semantic_model.specs.Namespace.{nodes_around}
+use Rattle.semantic_model.specs.Step.{entering, steps_below}
+use Rattle.walk_model.specs.Standing.{Standing}
+use Rattle.walk_model.specs.Walks.{after, after_all}
+use Rattle.walk_model.specs.Shown.{ShowsChain, IsGrounded}
+use Rattle.walk_model.specs.NamedScopes.{IsStepNamed, AllNamed}
+use Rattle.walk_model.specs.Recursion.{IsBetween}
+use Rattle.node_store.specs.Entered.{Entered}
+use Rattle.semantic_walk.specs.Listed.{IsNext, all_listed, entered_at}
+use Rattle.semantic_walk.specs.Walker.{Walker}
+use Rattle.semantic_walk.specs.declared.visit.Turn.{Turn}
+
+-- the walk has come to the node at the place, and not entered it yet
+pub record ComesTo (w : Walker) (p : Place) : Type 0 where
+  pub source_type : w.source_type ≡ p.source_type
+  -- the nodes above it, root first
+  pub path : w.path ≡ reverse p.path
+  pub current : w.current ≡ at p
+  pub cursor : w.cursor ≡ p.cursor
+  pub is_ambient : w.is_ambient ≡ p.is_ambient
+  -- all nodes of the program
+  pub count : w.node_count ≡ nodes_around p.node p.path
+
+-- the walk is within the node at the place, in the innermost scope of the chain
+pub record IsWithin (w : Walker) (p : Place) (chain : List OpenScope) : Type 0 where
+  pub source_type : w.source_type ≡ p.source_type
+  pub path : w.path ≡ reverse (p.node ∷ p.path)
+  pub current : w.current ≡ (innermost chain).number
+  pub count : w.node_count ≡ nodes_around p.node p.path
+
+-- the scopes of the place are shown, and it is known which block functions stay
+pub record IsShown (ds : List Declaration) (w : Walker) (p : Place) : Type 0 where
+  pub chain : ShowsChain w.made.tables p.chain
+  pub grounded : IsGrounded p
+  pub named : IsStepNamed ds w.namesakes (entering p)
+
+-- what stands between two children of a place, with its own scope and where its header starts
+pub record IsTurnAt (turn : Turn) (p : Place) (own : Option OpenScope) (start : ℕ) : Type 0 where
+  pub outer : turn.outer ≡ at p
+  pub is_ambient : turn.is_ambient ≡ p.is_ambient
+  pub own_scope : turn.own ≡ option_map (λ s. s.number) own
+  pub header : turn.header_start ≡ start
+
+-- the walk stands between two children of a place, with those that are left
+pub record IsBetweenAt (ds : List Declaration) (w : Walker) (turn : Turn) (p : Place) (own : Option OpenScope) (n cursor start : ℕ) (f : Forest) : Type 0 where
+  pub within : IsWithin w p p.chain
+  pub flags : w.cursor ≡ cursor
+  pub is_ambient : w.is_ambient ≡ p.is_ambient
+  pub stands : IsTurnAt turn p own start
+  pub between : IsBetween w.made p own n cursor start f
+  pub named : AllNamed ds w.namesakes (steps_below p own n cursor f)
+
+-- the root's scope is open before its node is entered, the others are not
+abbrev pub IsOpenAtRoot : Place → Option OpenScope → Type 0
+IsOpenAtRoot p None = p.node.kind ≡ kind.Program → ⊥
+IsOpenAtRoot p (Some s) = (p.node.kind ≡ kind.Program) × (s.number ≡ at p)
+
+-- what is made once the node is entered
+abbrev pub entered : List Declaration → Walker → Place → Standing
+entered ds w p = after ds w.made (entering p)
+
+-- the nodes that are kept then
+abbrev pub kept_at : Walker → Place → Option Entered
+kept_at w p = option_map (entered_at p) w.nodes
+
+-- the walk comes to a node, with all that a recursion knows of what is below it
+pub record IsComing (ds : List Declaration) (w : Walker) (p : Place) (own : Option OpenScope) (n : ℕ) : Type 0 where
+  pub comes : ComesTo w p
+  pub shown : IsShown ds w p
+  pub root : IsOpenAtRoot p own
+  pub between : IsBetween (entered ds w p) p own n (on_entering p.node.kind p.cursor) (length (entered ds w p).waiting) p.node.children
+  pub named : AllNamed ds w.namesakes (steps_below p own n (on_entering p.node.kind p.cursor) p.node.children)
+  pub kept : IfSome w.nodes (IsNext p)
+
+-- the walk has done the steps of the node, and stands where it stood before
+abbrev pub walked_over : List Declaration → Walker → Place → Option OpenScope → ℕ → Walker
+walked_over ds w p own n = record w {
+  made = after_all ds (entered ds w p) (steps_below p own n (on_entering p.node.kind p.cursor) p.node.children);
+  cursor = on_leaving p.node.kind (cursor_after p.node p.is_ambient (on_entering p.node.kind p.cursor) p.node.children);
+  nodes = option_map (all_listed (entering p ∷ steps_below p own n (on_entering p.node.kind p.cursor) p.node.children)) w.nodes;
+}

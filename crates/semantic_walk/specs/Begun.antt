@@ -1,0 +1,69 @@
+-- A walk at the root of a program, and what belongs to a program beside its tables.
+use Rattle.std.specs.Prelude.{◌≡◌, ℕ, List, [], Bool, ◌&&◌, map}
+use Rattle.semantic_syntax.specs.SourceTypes.{is_typescript_definition}
+use Rattle.semantic_syntax.specs.Tables.{Name, Tables}
+use Rattle.scoping.specs.NodeEntries.{NodeEntries}
+use Rattle.semantic_tree.specs.Children.{node_count}
+use Rattle.semantic_tree.specs.Tree.{Tree}
+use Rattle.semantic_model.specs.Place.{Place}
+use Rattle.semantic_model.specs.ScopeKind.{opened_scope}
+use Rattle.semantic_model.specs.Step.{root_place, steps}
+use Rattle.semantic_model.specs.Event.{events}
+use Rattle.semantic_model.specs.Fits.{Fits}
+use Rattle.semantic_model.specs.Fold.{Conflict, start}
+use Rattle.semantic_model.specs.Hoist.{run}
+use Rattle.semantic_model.specs.Moment.{UsesAreTies, StandsInOneList, BindingsAreSymbols, ListsBeginWithOwn}
+use Rattle.semantic_model.specs.NodeTable.{node_tables}
+use Rattle.semantic_model.specs.TablesOf.{tables_of}
+use Rattle.semantic_diagnostics.specs.declared.diagnostic.Diagnostic.{Diagnostic}
+use Rattle.walk_model.specs.Standing.{nothing_made}
+use Rattle.walk_model.specs.Opens.{open_scope}
+use Rattle.walk_model.specs.Noted.{pairs_of}
+use Rattle.walk_model.specs.WrittenNames.{Written, is_written, is_sloppy, names_written}
+use Rattle.table_building.specs.Conflicting.{told}
+use Rattle.semantic_walk.specs.Listed.{kept_from}
+use Rattle.semantic_walk.specs.Walker.{Walker}
+
+-- the walk stands at the root, whose scope is open
+abbrev pub begun : Tree → List Written → (keeps : Bool) → Walker
+begun program ws keeps =
+    let p : Place = root_place program in
+    record {
+      made = open_scope nothing_made p (opened_scope p 0);
+      source_type = program.source_type;
+      node_count = node_count program.root;
+      namesakes = ws;
+      path = [];
+      current = 0;
+      cursor = 0;
+      is_ambient = is_typescript_definition program.source_type;
+      nodes = kept_from keeps;
+    }
+
+-- the names are those that the program writes, if functions move in it
+abbrev pub AreNamesOf : Tree → List Written → Type 0
+AreNamesOf program ws = (opener : ℕ) (name : Name) → is_written ws opener name ≡ (is_sloppy program.source_type && is_written (names_written program) opener name)
+
+-- the conflicts of a program's declarations, in order
+abbrev pub conflicts_of : Tree → List Conflict
+conflicts_of p = (run start (events (steps p))).conflicts
+
+-- the tables fit the program
+abbrev pub FitsProgram : Tree → Tables → Type 0
+FitsProgram p t = Fits p t (node_tables (steps p))
+
+-- what belongs to each node: the scope that it opens, the symbol that it declares, the reference that it is
+pub record BelongsToNodes (p : Tree) (nodes : NodeEntries) : Type 0 where
+  pub scopes : nodes.scopes ≡ pairs_of (node_tables (steps p)).scopes
+  pub symbols : nodes.symbols ≡ pairs_of (node_tables (steps p)).symbols
+  pub references : nodes.references ≡ pairs_of (node_tables (steps p)).references
+
+-- the analysis of the program: its tables, which fit it, what holds of them right after, and a diagnostic for each conflict of its declarations
+pub record IsAnalysis (p : Tree) (t : Tables) (diagnostics : List Diagnostic) : Type 0 where
+  pub tables : t ≡ tables_of p
+  pub fits : FitsProgram p t
+  pub uses : UsesAreTies t
+  pub lists : StandsInOneList t
+  pub bindings : BindingsAreSymbols t
+  pub redeclarations : ListsBeginWithOwn t
+  pub told_of : diagnostics ≡ map told (conflicts_of p)

@@ -1,0 +1,78 @@
+-- A walk: what it has made so far, and where it stands.
+use Rattle.std.specs.Prelude.{ℕ, List, [], Bool, Option, Some, option_map, length}
+use Rattle.semantic_syntax.specs.declared.source_type.SourceType.{SourceType}
+use Rattle.semantic_kinds.specs.declared.role.Role.{Role}
+use Rattle.semantic_tree.specs.declared.node.Node.{Node}
+use Rattle.semantic_model.specs.Place.{Place}
+use Rattle.semantic_syntax.specs.declared.scope_flags.TheConstants.ScopeFlags as scope
+use Rattle.semantic_syntax.specs.Sets.{meets, union}
+use Rattle.scoping.specs.Reading.{scope_of}
+use Rattle.scoping.specs.Writing.{taken_over}
+use Rattle.node_store.specs.Entered.{Entered, entering}
+use Rattle.semantic_model.specs.Cursor.{way_of}
+use Rattle.semantic_model.specs.ScopeKind.{flags_of_kind, strict_if}
+use Rattle.walk_model.specs.Standing.{Standing}
+use Rattle.walk_model.specs.Opens.{refer_to, open_in}
+use Rattle.walk_model.specs.WrittenNames.{Written}
+use Rattle.semantic_walk.specs.Paths.{parent_in}
+use Rattle.semantic_walk.specs.declared.walk.Walk.TheInside.{Inside}
+
+pub record Walker : Type 0 where
+  pub made : Standing
+  pub source_type : SourceType
+  -- how many nodes the program has
+  pub node_count : ℕ
+  -- past which names block functions don't move
+  pub namesakes : List Written
+  -- the nodes from the root to the one that is visited
+  pub path : List Node
+  -- the scope where it stands
+  pub current : ℕ
+  -- the flags of the next reference
+  pub cursor : ℕ
+  pub is_ambient : Bool
+  -- the nodes that it has entered, if they are kept
+  pub nodes : Option Entered
+
+abbrev pub walker : Inside → Walker
+walker w = record {
+  made = w.declared;
+  source_type = w.source_type;
+  node_count = w.node_count;
+  namesakes = w.namesakes;
+  path = w.path;
+  current = w.current_scope;
+  cursor = w.cursor.bits;
+  is_ambient = w.is_ambient;
+  nodes = w.nodes;
+}
+
+-- the node where the walk stands
+abbrev pub place_in : Walker → Role → Node → Place
+place_in w r node = record {
+  source_type = w.source_type;
+  role = r;
+  node = node;
+  chain = [];
+  path = parent_in w.path;
+  cursor = w.cursor;
+  is_ambient = w.is_ambient;
+}
+
+-- the node is entered where the walk stands, if nodes are kept
+abbrev pub noting_node : Walker → Node → Walker
+noting_node w node = record w { nodes = option_map (λ e. entering e node w.current) w.nodes }
+
+-- the node is a reference where the walk stands, under its cursor
+abbrev pub referring : Walker → Node → Walker
+referring w node = record w { made = refer_to w.made node.node_id node.text w.current (way_of w.cursor) }
+
+-- the node in its role opens a scope where the walk stands, which is strict where the code around it is
+abbrev pub opening_in : Walker → Role → Node → Standing
+opening_in w r node =
+    open_in w.made (Some w.current) node.node_id (length w.made.tables.scopes)
+    (union (flags_of_kind node.kind (place_in w r node)) (strict_if (meets (scope_of w.made.tables w.current).flags.bits scope.StrictMode.bits)))
+
+-- the scope takes over what the current one binds
+abbrev pub taking_over : Walker → ℕ → Walker
+taking_over w s = record w { made = record w.made { tables = taken_over w.made.tables w.current s } }

@@ -1,0 +1,61 @@
+//! The analysis of a program: a walk over it from its root.
+
+ghost use Rattle.std.specs.Prelude.{◌≡◌, Bool, IfOk, OnOk};
+ghost use Rattle.semantic_walk.specs.Begun.{begun, AreNamesOf, BelongsToNodes, IsAnalysis};
+ghost use Rattle.semantic_walk.specs.Listed.{kept_nodes, list_kept};
+
+use crate::walk::Walk;
+use node_store::AstNodes;
+use scoping::{NodeTables, Scoping};
+use semantic_diagnostics::Diagnostics;
+use semantic_syntax::Steps;
+use semantic_tree::{Program, Role};
+use std::alloc::{AllocError, Global};
+
+/// What an analysis makes: the tables, what belongs to each node, the nodes, if they are kept, and what is wrong in
+/// the program.
+#[derive(Drop)]
+pub struct Analysis<'a> {
+    pub scoping: Scoping,
+    pub tables: NodeTables,
+    pub nodes: AstNodes<'a>,
+    pub diagnostics: Diagnostics,
+}
+
+/// Walks over a program from its root, and settles what waits in the end. What the walk, which begins at the root, has
+/// made then is the analysis of the program. Gives a diagnostic for each conflict.
+fn run<'a, L>(
+    walk: &mut Walk<'a>,
+    program: &'a Program,
+    steps: &mut Steps<L>,
+) -> Result<Diagnostics, AllocError>
+    ensures analysis { (keeps : Bool) → walk.old ≡ begun program.now walk.old.namesakes keeps → AreNamesOf program.now walk.old.namesakes → IfOk result (λ told. IsAnalysis program.now walk.new.made.tables told) }
+    ensures nodes { (keeps : Bool) → walk.old ≡ begun program.now walk.old.namesakes keeps → AreNamesOf program.now walk.old.namesakes → OnOk result (BelongsToNodes program.now walk.new.made.nodes) }
+    ensures node_list { (keeps : Bool) → walk.old ≡ begun program.now walk.old.namesakes keeps → AreNamesOf program.now walk.old.namesakes → OnOk result (list_kept walk.new.nodes ≡ kept_nodes keeps program.now) }
+{
+    walk.visit(program.root(), Role::Root, steps)?;
+    walk.end(steps)?;
+    walk.diagnostics()
+}
+
+/// Analyses a program, keeps its nodes or doesn't, and counts how often a scope is asked for a name by a look-up. The
+/// only error is want of memory.
+pub fn analyse<'a, L>(
+    alloc: Global,
+    program: &'a Program,
+    keeps: bool,
+    steps: &mut Steps<L>,
+) -> Result<Analysis<'a>, AllocError>
+    ensures analysis { IfOk result (λ made. IsAnalysis program.now made.scoping made.diagnostics) }
+    ensures nodes { IfOk result (λ made. BelongsToNodes program.now made.tables) }
+    ensures node_list { IfOk result (λ made. made.nodes ≡ kept_nodes keeps program.now) }
+{
+    let mut walk = Walk::new(alloc, program, keeps)?;
+    match run(&mut walk, program, steps) {
+        Ok(diagnostics) => Ok(walk.finish(diagnostics)),
+        Err(error) => {
+            walk.give_up();
+            Err(error)
+        }
+    }
+}

@@ -1,0 +1,327 @@
+//! What each node declares, and where.
+
+ghost use Rattle.std.specs.Prelude.{◌≡◌, List, [], ◌∷◌, true, false, map, OnOk};
+ghost use Rattle.semantic_kinds.specs.declared.kind.AstType.TheVariants.{BindingRestElement as rest_element, TSNamespaceDeclaration as namespace_declaration, TSTypeParameter as type_parameter};
+ghost use Rattle.semantic_kinds.specs.declared.role.Role.TheVariants.{Pattern as pattern_role, Id as id_role, Name as name_role};
+ghost use Rattle.semantic_kinds.specs.declared.mark.Mark.TheVariants.{Pure as pure_mark};
+ghost use Rattle.semantic_syntax.specs.declared.scope_flags.TheConstants.ScopeFlags as scope;
+ghost use Rattle.semantic_tree.specs.Views.{all_in};
+ghost use Rattle.table_building.specs.Named.{named_by};
+ghost use Rattle.semantic_model.specs.Names.{bound_names, names_at};
+ghost use Rattle.table_building.specs.Each.{declare_patterns, declare_members};
+ghost use Rattle.semantic_model.specs.Nodes.{is, has};
+ghost use Rattle.semantic_model.specs.Place.{Place, OpenScope, parent_holds};
+ghost use Rattle.semantic_model.specs.Declaration.{Declaration};
+ghost use Rattle.semantic_model.specs.Event.{declares_all};
+ghost use Rattle.semantic_model.specs.Step.{entering};
+ghost use Rattle.semantic_model.specs.Binder.{declare, is_statement, variables_under, function_row, own_function_row, parameters_under, imports, declared_on_entering, declared_on_opening};
+ghost use Rattle.walk_model.specs.Shown.{ShowsChain, HasVar};
+ghost use Rattle.walk_model.specs.NamedScopes.{IsStepNamed};
+ghost use Rattle.walk_model.specs.Walks.{act_all};
+ghost use Rattle.semantic_walk.specs.Paths.{parent_in};
+ghost use Rattle.semantic_walk.specs.AtPlace.{IsWithin, IsShown};
+ghost use Rattle.semantic_walk.specs.Binds.{is_bound_inside, declaring, declaring_past, hoisting, moving_one, moving, acting};
+ghost use Rattle.table_building.specs.Growth.{Goes};
+
+use crate::walk::Walk;
+use namespace_states::instance_state::instance_state;
+use namespace_states::namespace_row::namespace_row;
+use node_rules::declaring::binds_under;
+use node_rules::rows::{self, Row};
+use semantic_syntax::ScopeFlags;
+use semantic_tree::{AstKind, AstType, Mark, Role};
+use std::alloc::AllocError;
+use table_building::route::Route;
+
+/// What declares names.
+pub trait Binder<'a> {
+    /// Declares what the node declares, by its binder row, in the scope where the walk stands. For want of memory
+    /// the walk is given up.
+    fn bind(&self, walk: &mut Walk<'a>) -> Result<(), AllocError>
+        ensures { OnOk result (Goes walk.old.made walk.new.made) };
+}
+
+impl<'a> Binder<'a> for AstKind<'a> {
+    fn bind(&self, walk: &mut Walk<'a>) -> Result<(), AllocError>
+        ensures goes { OnOk result (Goes walk.old.made walk.new.made) }
+        ensures entering { (ds : List Declaration) (p : Place) → p.node ≡ self.now.node.now → is_bound_inside p.node ≡ false → IsWithin walk.old p p.chain → IsShown ds walk.old p →
+            OnOk result (walk.new ≡ record walk.old { made = act_all walk.old.made (declares_all ds (declared_on_entering p)) }) }
+        ensures opening { (ds : List Declaration) (p : Place) (own : OpenScope) → p.node ≡ self.now.node.now → is_bound_inside p.node ≡ true → IsWithin walk.old p (own ∷ []) →
+            OnOk result (walk.new ≡ record walk.old { made = act_all walk.old.made (declares_all ds (declared_on_opening p own)) }) }
+    {
+        let kind = *self;
+        match kind.ty() {
+            AstType::VariableDeclarator => walk.bind_variables(kind),
+            AstType::Class => walk.bind_all(kind, rows::class_row(kind)),
+            AstType::Function => walk.bind_function(kind),
+            AstType::FormalParameter | AstType::FormalParameterRest => walk.bind_parameter(kind),
+            AstType::BindingRestElement => walk.bind_rest(kind),
+            AstType::CatchParameter => walk.bind_caught(kind),
+            AstType::ImportSpecifier
+            | AstType::ImportDefaultSpecifier
+            | AstType::ImportNamespaceSpecifier => walk.bind_import(kind),
+            AstType::TSImportEqualsDeclaration => walk.bind_all(kind, rows::import_equals_row()),
+            AstType::TSTypeAliasDeclaration => walk.bind_all(kind, rows::type_alias_row(kind)),
+            AstType::TSInterfaceDeclaration => walk.bind_all(kind, rows::interface_row(kind)),
+            AstType::TSEnumDeclaration => walk.bind_all(kind, rows::enum_row(kind)),
+            AstType::TSEnumMember => walk.bind_member(kind),
+            AstType::TSNamespaceDeclaration => walk.bind_namespace(kind),
+            AstType::TSTypeParameter => walk.bind_type_parameter(kind),
+            AstType::TSMappedType => walk.bind_at(kind, Role::Key, rows::type_parameter_row()),
+            _ => Ok(()),
+        }
+    }
+}
+
+#[tactic(auto, using(crate::proofs::Going::going))]
+impl<'a> Walk<'a> {
+    /// Declares all that the node binds, in the current scope, as free of side effects or not.
+    fn bind_names(&mut self, node: AstKind<'a>, row: Row, is_pure: bool) -> Result<(), AllocError>
+        ensures made { OnOk result (self.new ≡ declaring self.old (map (named_by node.entry.node.now row is_pure) (bound_names node.entry.node.now))) }
+        ensures goes { OnOk result (Goes self.old.made self.new.made) }
+    {
+        self.declared
+            .declare_names(node, node, self.current_scope, row, is_pure)
+    }
+
+    /// Declares all that the node binds, in the current scope.
+    fn bind_all(&mut self, node: AstKind<'a>, row: Row) -> Result<(), AllocError>
+        ensures made { OnOk result (self.new ≡ declaring self.old (map (named_by node.entry.node.now row false) (bound_names node.entry.node.now))) }
+        ensures goes { OnOk result (Goes self.old.made self.new.made) }
+    {
+        self.bind_names(node, row, false)
+    }
+
+    /// Declares the names under one role of the node, in the current scope.
+    fn bind_at(&mut self, node: AstKind<'a>, role: Role, row: Row) -> Result<(), AllocError>
+        ensures made { OnOk result (self.new ≡ declaring self.old (map (named_by node.entry.node.now row false) (names_at role node.entry.node.now))) }
+        ensures goes { OnOk result (Goes self.old.made self.new.made) }
+    {
+        self.declared
+            .declare_under(node, role, self.current_scope, row)
+    }
+
+    /// Whether the node that is visited stands directly under one of the kind.
+    fn stands_under(&self, kind: AstType) -> bool
+        ensures { result ≡ parent_holds (is kind) (parent_in self.now.path) }
+    {
+        match self.parent() {
+            Some(parent) => parent.ty() == kind,
+            None => false,
+        }
+    }
+
+    /// A declarator: a `var` goes out to the nearest function, the other kinds stay.
+    fn bind_variables(&mut self, declarator: AstKind<'a>) -> Result<(), AllocError>
+        ensures made { (ds : List Declaration) (p : Place) → p.node ≡ declarator.entry.node.now → IsWithin self.old p p.chain → ShowsChain self.old.made.tables p.chain → HasVar p.chain →
+            OnOk result (self.new ≡ acting ds self.old (variables_under p.path p)) }
+        ensures goes { OnOk result (Goes self.old.made self.new.made) }
+    {
+        match self.parent() {
+            Some(declaration) => self.bind_variables_of(declarator, declaration),
+            None => Ok(()),
+        }
+    }
+
+    /// A declarator of the declaration.
+    fn bind_variables_of(
+        &mut self,
+        declarator: AstKind<'a>,
+        declaration: AstKind<'a>,
+    ) -> Result<(), AllocError>
+        ensures made { (ds : List Declaration) (p : Place) → p.node ≡ declarator.entry.node.now → IsWithin self.old p p.chain → ShowsChain self.old.made.tables p.chain → HasVar p.chain → declaration.entry.node.now ∷ [] ≡ parent_in self.old.path →
+            OnOk result (self.new ≡ acting ds self.old (variables_under p.path p)) }
+        ensures goes { OnOk result (Goes self.old.made self.new.made) }
+    {
+        let is_pure = rows::is_pure_declarator(declarator);
+        if rows::is_var_declaration(declaration) {
+            self.bind_var(declarator, rows::var_row(declaration), is_pure)
+        } else {
+            self.bind_names(declarator, rows::lexical_row(declaration), is_pure)
+        }
+    }
+
+    /// The variables of a `var` declarator.
+    fn bind_var(
+        &mut self,
+        declarator: AstKind<'a>,
+        row: Row,
+        is_pure: bool,
+    ) -> Result<(), AllocError>
+        ensures made { OnOk result (self.new ≡ hoisting self.old scope.Var.bits (map (named_by declarator.entry.node.now row is_pure) (bound_names declarator.entry.node.now))) }
+        ensures goes { OnOk result (Goes self.old.made self.new.made) }
+    {
+        let route = Route::outward(
+            self.alloc,
+            self.declared.scoping(),
+            self.current_scope,
+            ScopeFlags::Var,
+        )?;
+        self.declared
+            .hoist_names(declarator, declarator, &route, row, is_pure)
+    }
+
+    /// A function: a plain one in a block of sloppy JavaScript may move out of its block.
+    fn bind_function(&mut self, function: AstKind<'a>) -> Result<(), AllocError>
+        ensures entering { (ds : List Declaration) (p : Place) → p.node ≡ function.entry.node.now → is_statement p.node ≡ true → IsWithin self.old p p.chain → ShowsChain self.old.made.tables p.chain → HasVar p.chain → IsStepNamed ds self.old.namesakes (entering p) →
+            OnOk result (self.new ≡ acting ds self.old (map (declare p.node (function_row p) (has pure_mark p.node)) (bound_names p.node))) }
+        ensures opening { (ds : List Declaration) (p : Place) (own : OpenScope) → p.node ≡ function.entry.node.now → is_statement p.node ≡ false → IsWithin self.old p (own ∷ []) →
+            OnOk result (self.new ≡ acting ds self.old (map (declare p.node (own_function_row p own) (has pure_mark p.node)) (bound_names p.node))) }
+        ensures goes { OnOk result (Goes self.old.made self.new.made) }
+    {
+        let flags = self.scope_flags();
+        let row = rows::function_row(function, self.parent(), self.source_type, flags);
+        let is_pure = function.has_mark(Mark::Pure);
+        if rows::may_move(function, self.source_type, flags) {
+            self.bind_block_function(function, function, row, is_pure)
+        } else {
+            self.bind_names(function, row, is_pure)
+        }
+    }
+
+    /// A plain function in a block of sloppy JavaScript: the names that a part of it binds.
+    #[tactic(auto, using(semantic_tree::specs::Falls::below, crate::proofs::Going::going, crate::proofs::MovedNames::moved_names))]
+    fn bind_block_function(
+        &mut self,
+        function: AstKind<'a>,
+        part: AstKind<'a>,
+        row: Row,
+        is_pure: bool,
+    ) -> Result<(), AllocError>
+        ensures made { OnOk result (self.new ≡ moving self.old (map (named_by function.entry.node.now row is_pure) (bound_names part.entry.node.now))) }
+        ensures goes { OnOk result (Goes self.old.made self.new.made) }
+    {
+        if part.ty() == AstType::BindingIdentifier {
+            return self.bind_block_name(function, part, row, is_pure);
+        }
+        for (role, child) in part.node().children.as_slice() {
+            if binds_under(part.ty(), *role) {
+                self.bind_block_function(function, AstKind::new(child), row, is_pure)?;
+            }
+        }
+        Ok(())
+    }
+
+    /// The name of such a function.
+    fn bind_block_name(
+        &mut self,
+        function: AstKind<'a>,
+        name: AstKind<'a>,
+        row: Row,
+        is_pure: bool,
+    ) -> Result<(), AllocError>
+        ensures made { OnOk result (self.new ≡ moving_one self.old (named_by function.entry.node.now row is_pure name.entry.node.now)) }
+        ensures goes { OnOk result (Goes self.old.made self.new.made) }
+    {
+        let target = self.target_of_block_function(name.text())?;
+        self.declared
+            .declare_block_function(function, name, self.current_scope, target, row, is_pure)
+    }
+
+    /// A parameter of a list.
+    fn bind_parameter(&mut self, parameter: AstKind<'a>) -> Result<(), AllocError>
+        ensures made { (ds : List Declaration) (p : Place) → p.node ≡ parameter.entry.node.now → IsWithin self.old p p.chain → ShowsChain self.old.made.tables p.chain → HasVar p.chain →
+            OnOk result (self.new ≡ acting ds self.old (parameters_under p.path p)) }
+        ensures goes { OnOk result (Goes self.old.made self.new.made) }
+    {
+        match self.parent() {
+            Some(list) => self.bind_parameter_of(parameter, list),
+            None => Ok(()),
+        }
+    }
+
+    /// A parameter of the list.
+    fn bind_parameter_of(
+        &mut self,
+        parameter: AstKind<'a>,
+        list: AstKind<'a>,
+    ) -> Result<(), AllocError>
+        ensures made { (ds : List Declaration) (p : Place) → p.node ≡ parameter.entry.node.now → IsWithin self.old p p.chain → ShowsChain self.old.made.tables p.chain → HasVar p.chain → list.entry.node.now ∷ [] ≡ parent_in self.old.path →
+            OnOk result (self.new ≡ acting ds self.old (parameters_under p.path p)) }
+        ensures goes { OnOk result (Goes self.old.made self.new.made) }
+    {
+        let is_simple = self.path.is_in_simple(list);
+        let row = rows::parameter_row(list, is_simple, self.scope_flags());
+        self.bind_all(parameter, row)
+    }
+
+    /// A rest element directly in a list of parameters.
+    fn bind_rest(&mut self, rest: AstKind<'a>) -> Result<(), AllocError>
+        ensures made { (ds : List Declaration) (p : Place) → p.node ≡ rest.entry.node.now → IsWithin self.old p p.chain → p.node.kind ≡ rest_element →
+            OnOk result (self.new ≡ acting ds self.old (declared_on_entering p)) }
+        ensures goes { OnOk result (Goes self.old.made self.new.made) }
+    {
+        if self.stands_under(AstType::FormalParameters) {
+            self.bind_all(rest, rows::rest_row())
+        } else {
+            Ok(())
+        }
+    }
+
+    /// What a catch clause catches.
+    fn bind_caught(&mut self, parameter: AstKind<'a>) -> Result<(), AllocError>
+        ensures made { OnOk result (self.new ≡ record self.old { made = declare_patterns self.old.made self.old.current parameter.entry.node.now (all_in pattern_role parameter.entry.node.now) }) }
+        ensures goes { OnOk result (Goes self.old.made self.new.made) }
+    {
+        self.declared
+            .declare_catch_names(parameter, self.current_scope)
+    }
+
+    /// An imported name.
+    fn bind_import(&mut self, specifier: AstKind<'a>) -> Result<(), AllocError>
+        ensures made { (ds : List Declaration) (p : Place) → p.node ≡ specifier.entry.node.now → IsWithin self.old p p.chain →
+            OnOk result (self.new ≡ acting ds self.old (imports p)) }
+        ensures goes { OnOk result (Goes self.old.made self.new.made) }
+    {
+        let row = rows::import_row(specifier, self.parent());
+        self.bind_at(specifier, Role::Local, row)
+    }
+
+    /// A member of an enum.
+    fn bind_member(&mut self, member: AstKind<'a>) -> Result<(), AllocError>
+        ensures made { OnOk result (self.new ≡ record self.old { made = declare_members self.old.made self.old.current member.entry.node.now (all_in id_role member.entry.node.now) }) }
+        ensures goes { OnOk result (Goes self.old.made self.new.made) }
+    {
+        self.declared.declare_member(member, self.current_scope)
+    }
+
+    /// A namespace: one that is nothing but types is no value.
+    fn bind_namespace(&mut self, namespace: AstKind<'a>) -> Result<(), AllocError>
+        ensures made { (ds : List Declaration) (p : Place) → p.node ≡ namespace.entry.node.now → IsWithin self.old p p.chain → p.node.kind ≡ namespace_declaration →
+            OnOk result (self.new ≡ acting ds self.old (declared_on_entering p)) }
+        ensures goes { OnOk result (Goes self.old.made self.new.made) }
+    {
+        let path = self.path.as_slice();
+        let state = instance_state(self.alloc, namespace, path, self.node_count)?;
+        self.bind_all(namespace, namespace_row(namespace, state))
+    }
+
+    /// A type parameter.
+    fn bind_type_parameter(&mut self, parameter: AstKind<'a>) -> Result<(), AllocError>
+        ensures made { (ds : List Declaration) (p : Place) → p.node ≡ parameter.entry.node.now → IsWithin self.old p p.chain → ShowsChain self.old.made.tables p.chain → HasVar p.chain → p.node.kind ≡ type_parameter →
+            OnOk result (self.new ≡ acting ds self.old (declared_on_entering p)) }
+        ensures goes { OnOk result (Goes self.old.made self.new.made) }
+    {
+        let row = rows::type_parameter_row();
+        if self.stands_under(AstType::TSInferType) {
+            self.bind_inferred(parameter, row)
+        } else {
+            self.bind_at(parameter, Role::Name, row)
+        }
+    }
+
+    /// A type parameter that `infer` declares goes out to the conditional type.
+    fn bind_inferred(&mut self, parameter: AstKind<'a>, row: Row) -> Result<(), AllocError>
+        ensures made { OnOk result (self.new ≡ declaring_past self.old scope.TsConditional.bits (map (named_by parameter.entry.node.now row false) (names_at name_role parameter.entry.node.now))) }
+        ensures goes { OnOk result (Goes self.old.made self.new.made) }
+    {
+        let route = Route::outward(
+            self.alloc,
+            self.declared.scoping(),
+            self.current_scope,
+            ScopeFlags::TsConditional,
+        )?;
+        self.declared
+            .declare_under(parameter, Role::Name, route.target, row)
+    }
+}

@@ -1,0 +1,365 @@
+//! The recursion over the tree.
+
+ghost use Rattle.std.specs.Prelude.{◌≡◌, ◌<◌, ◌≤◌, ◌&&◌, not, cond, ℕ, Option, Some, None, List, ◌∷◌, length, map, drop, IfOk, OnOk};
+ghost use Rattle.semantic_kinds.specs.Kinds.{same_kind};
+ghost use Rattle.semantic_kinds.specs.declared.kind.AstType.TheVariants.{Program as program_kind};
+ghost use Rattle.semantic_tree.specs.Children.{forest_of};
+ghost use Rattle.semantic_tree.specs.Forest.{Forest, nothing};
+ghost use Rattle.semantic_model.specs.Nodes.{has_role};
+ghost use Rattle.semantic_model.specs.Inside.{is_inside, any_inside, is_in_header, header_roles};
+ghost use Rattle.semantic_model.specs.Place.{Place, OpenScope, at};
+ghost use Rattle.semantic_model.specs.ScopeKind.{opened_scope};
+ghost use Rattle.semantic_model.specs.Declaration.{Declaration};
+ghost use Rattle.semantic_model.specs.Step.{opening, opening_at, scope_at, child_place, ending_after, opening_last};
+ghost use Rattle.semantic_model.specs.Ambient.{ambient_inside, ambient_round};
+ghost use Rattle.semantic_model.specs.Cursor.{cursor_before, cursor_behind};
+ghost use Rattle.semantic_model.specs.Outcome.{source_of, header_outcome};
+ghost use Rattle.walk_model.specs.Opens.{close_scope};
+ghost use Rattle.walk_model.specs.Walks.{after, after_all};
+ghost use Rattle.walk_model.specs.Shown.{ShowsChain, HasVar};
+ghost use Rattle.walk_model.specs.Waits.{HoldsAt, start_at};
+ghost use Rattle.table_building.specs.Growth.{Grows, Goes};
+ghost use Rattle.table_building.specs.Settled.{settled_from};
+ghost use Rattle.semantic_walk.specs.Turns.{IsTurn, child_scope};
+ghost use Rattle.semantic_walk.specs.AtPlace.{IsWithin, IsTurnAt, IsBetweenAt, IsComing, walked_over};
+
+use crate::walk::Walk;
+use node_rules::ambient::{is_ambient_in_child, is_ambient_inside};
+use node_rules::cursor::{before_child, behind_child};
+use node_rules::inside::{is_in_header, is_inside, is_parameter_decorator, opens};
+use semantic_syntax::{ReferenceFlags, ScopeId, Steps};
+use semantic_tree::{AstKind, AstType, Node, Role};
+use std::alloc::AllocError;
+
+/// Where the walk stands between two children of a node.
+#[derive(Clone, Copy)]
+pub struct Turn {
+    /// The scope where the node stands.
+    outer: ScopeId,
+    /// Whether the code around the node is ambient.
+    is_ambient: bool,
+    /// The node's own scope, once it is open.
+    own: Option<ScopeId>,
+    /// How many references waited when it opened.
+    header_start: usize,
+}
+
+/// Whether one of the children stands inside the scope of a parent of the kind.
+fn any_inside(parent: AstType, children: &[(Role, Node)]) -> bool
+    ensures { result ≡ any_inside parent (forest_of children.now) }
+{
+    for (role, _) in children {
+        if is_inside(parent, *role) {
+            return true;
+        }
+    }
+    false
+}
+
+/// Whether one of the children is a part of the header of a parent of the kind.
+fn any_in_header(parent: AstType, children: &[(Role, Node)]) -> bool
+    ensures { result ≡ has_role (header_roles parent) (forest_of children.now) }
+{
+    for (role, _) in children {
+        if is_in_header(parent, *role) {
+            return true;
+        }
+    }
+    false
+}
+
+#[tactic(auto, using(crate::proofs::Going::going))]
+impl<'a> Walk<'a> {
+    /// Before the first child of a node. The root's scope is open already.
+    fn turn(&self, kind: AstType) -> Turn
+        ensures stands { IsTurn self.now.made result }
+        ensures value { result ≡ record {
+          outer = self.now.current;
+          is_ambient = self.now.is_ambient;
+          own = cond (same_kind kind program_kind) (Some self.now.current) None;
+          header_start = length self.now.made.waiting;
+        } }
+    {
+        Turn {
+            outer: self.current_scope,
+            is_ambient: self.is_ambient,
+            own: if kind == AstType::Program {
+                Some(self.current_scope)
+            } else {
+                None
+            },
+            header_start: self.waiting(),
+        }
+    }
+
+    /// The scope where a child in the role stands.
+    fn scope_of_child(&self, turn: &Turn, parent: AstType, role: Role) -> ScopeId
+        requires { IsTurn self.now.made turn.now }
+        ensures value { result ≡ child_scope self.now.made.tables turn.now parent role }
+        ensures within { result < length self.now.made.tables.scopes }
+    {
+        if is_parameter_decorator(parent, role) {
+            return self.declared.around(turn.outer);
+        }
+        match turn.own {
+            Some(own) if is_inside(parent, role) => own,
+            _ => turn.outer,
+        }
+    }
+
+    /// Opens the node's scope, where its header starts.
+    fn open_own(
+        &mut self,
+        parent: AstKind<'a>,
+        parent_role: Role,
+        turn: &mut Turn,
+    ) -> Result<(), AllocError>
+        requires { IsTurn self.old.made turn.old }
+        ensures opens { (ds : List Declaration) (p : Place) → p.node ≡ parent.entry.node.now → p.role ≡ parent_role → IsWithin self.old p p.chain → ShowsChain self.old.made.tables p.chain → HasVar p.chain →
+            OnOk result (self.new ≡ record self.old { made = after ds self.old.made (opening p (opened_scope p (length self.old.made.tables.scopes))); current = length self.old.made.tables.scopes }) }
+        ensures own { OnOk result (turn.new ≡ record turn.old { own = Some (length self.old.made.tables.scopes); header_start = length self.old.made.waiting }) }
+        ensures goes { OnOk result (Goes self.old.made self.new.made) }
+        ensures stands { OnOk result (IsTurn self.new.made turn.new) }
+        ensures start { OnOk result (turn.old.header_start ≤ turn.new.header_start) }
+    {
+        turn.header_start = self.waiting();
+        turn.own = Some(self.open(parent, parent_role)?);
+        Ok(())
+    }
+
+    /// Before a child: the node's scope opens where the child is the first inside it.
+    fn open_for(
+        &mut self,
+        parent: AstKind<'a>,
+        parent_role: Role,
+        turn: &mut Turn,
+        role: Role,
+    ) -> Result<(), AllocError>
+        requires { IsTurn self.old.made turn.old }
+        ensures opens { (ds : List Declaration) (p : Place) (own : Option OpenScope) (n cursor start : ℕ) (f : Forest) → p.node ≡ parent.entry.node.now → p.role ≡ parent_role → IsBetweenAt ds self.old turn.old p own n cursor start f →
+            OnOk result ((record self.new { current = self.old.current } ≡ record self.old { made = after_all ds self.old.made (opening_at p role own n) }) × IsTurnAt turn.new p (scope_at p role own n) (start_at p role own start self.old.made)) }
+        ensures goes { OnOk result (Goes self.old.made self.new.made) }
+        ensures stands { OnOk result (IsTurn self.new.made turn.new) }
+        ensures start { OnOk result (turn.old.header_start ≤ turn.new.header_start) }
+    {
+        if turn.own.is_none() && is_inside(parent.ty(), role) {
+            self.open_own(parent, parent_role, turn)
+        } else {
+            Ok(())
+        }
+    }
+
+    /// Comes to a child: scope, ambience and cursor are the child's.
+    fn come_to(&mut self, parent: AstKind<'a>, turn: &Turn, role: Role, child: AstKind<'a>)
+        requires { IsTurn self.old.made turn.now }
+        ensures made { self.new ≡ record self.old {
+          current = child_scope self.old.made.tables turn.now parent.entry.node.now.kind role;
+          cursor = cursor_before parent.entry.node.now (ambient_inside parent.entry.node.now turn.now.is_ambient) role child.entry.node.now self.old.cursor;
+          is_ambient = ambient_round parent.entry.node.now turn.now.is_ambient role;
+        } }
+        ensures goes { Goes self.old.made self.new.made }
+    {
+        let inside = is_ambient_inside(parent.node(), turn.is_ambient);
+        self.current_scope = self.scope_of_child(turn, parent.ty(), role);
+        self.cursor = before_child(parent, inside, role, child, self.cursor);
+        self.is_ambient = is_ambient_in_child(parent.node(), turn.is_ambient, role);
+    }
+
+    /// Before a child: the node's scope may open, and the walk stands where the child does.
+    fn begin_child(
+        &mut self,
+        parent: AstKind<'a>,
+        parent_role: Role,
+        turn: &mut Turn,
+        role: Role,
+        child: AstKind<'a>,
+    ) -> Result<(), AllocError>
+        requires { IsTurn self.old.made turn.old }
+        ensures comes { (ds : List Declaration) (p : Place) (own : Option OpenScope) (n cursor start : ℕ) (rest : List (Role × Node)) → p.node ≡ parent.entry.node.now → p.role ≡ parent_role →
+            IsBetweenAt ds self.old turn.old p own n cursor start (forest_of ((role, child.entry.node.now) ∷ rest)) →
+            let place = child_place p (scope_at p role own n) cursor role child.entry.node.now in
+            OnOk result ((self.new ≡ record self.old {
+              made = after_all ds self.old.made (opening_at p role own n);
+              current = at place;
+              cursor = place.cursor;
+              is_ambient = place.is_ambient;
+            }) × IsTurnAt turn.new p (scope_at p role own n) (start_at p role own start self.old.made)) }
+        ensures goes { OnOk result (Goes self.old.made self.new.made) }
+        ensures stands { OnOk result (IsTurn self.new.made turn.new) }
+        ensures start { OnOk result (turn.old.header_start ≤ turn.new.header_start) }
+    {
+        self.open_for(parent, parent_role, turn, role)?;
+        self.come_to(parent, turn, role, child);
+        Ok(())
+    }
+
+    /// Comes back from a child: scope and ambience are the node's again.
+    fn come_back(&mut self, turn: &Turn)
+        requires { IsTurn self.old.made turn.now }
+        ensures made { self.new ≡ record self.old { current = turn.now.outer; is_ambient = turn.now.is_ambient } }
+        ensures goes { Goes self.old.made self.new.made }
+    {
+        self.current_scope = turn.outer;
+        self.is_ambient = turn.is_ambient;
+    }
+
+    /// The header of the scope ends after its last part.
+    fn end_header_behind<L>(
+        &mut self,
+        parent: AstType,
+        own: ScopeId,
+        start: usize,
+        role: Role,
+        rest: &[(Role, Node)],
+        steps: &mut Steps<L>,
+    ) -> Result<(), AllocError>
+        requires scope { own < length self.old.made.tables.scopes }
+        requires start { start ≤ length self.old.made.waiting }
+        ensures made { OnOk result (self.new ≡ cond (is_in_header parent role && not (has_role (header_roles parent) (forest_of rest.now)))
+            (record self.old { made = settled_from self.old.made start (map (header_outcome (source_of self.old.made.tables) own) (drop start self.old.made.waiting)) }) self.old) }
+        ensures grows { OnOk result (Grows self.old.made.tables self.new.made.tables) }
+        ensures waiting { OnOk result (start ≤ length self.new.made.waiting) }
+    {
+        if is_in_header(parent, role) && !any_in_header(parent, rest) {
+            self.end_header(own, start, steps)
+        } else {
+            Ok(())
+        }
+    }
+
+    /// The scope closes after the last child inside it.
+    fn close_behind(&mut self, parent: AstType, own: ScopeId, role: Role, rest: &[(Role, Node)])
+        requires { own < length self.old.made.tables.scopes }
+        ensures made { self.new ≡ cond (is_inside parent role && not (any_inside parent (forest_of rest.now))) (record self.old { made = close_scope self.old.made own }) self.old }
+        ensures goes { Goes self.old.made self.new.made }
+    {
+        if is_inside(parent, role) && !any_inside(parent, rest) {
+            self.close(own);
+        }
+    }
+
+    /// Behind a child: the header ends after its last part, and the scope closes after the last child inside it.
+    fn end_child<L>(
+        &mut self,
+        parent: AstType,
+        turn: &Turn,
+        role: Role,
+        rest: &[(Role, Node)],
+        steps: &mut Steps<L>,
+    ) -> Result<(), AllocError>
+        requires { IsTurn self.old.made turn.now }
+        ensures ends { (ds : List Declaration) (p : Place) (own : Option OpenScope) (start : ℕ) → p.node.kind ≡ parent → IsTurnAt turn.now p own start → HoldsAt self.old.made own start →
+            OnOk result (self.new ≡ record self.old { made = after_all ds self.old.made (ending_after p role own (forest_of rest.now)) }) }
+        ensures grows { OnOk result (Grows self.old.made.tables self.new.made.tables) }
+        ensures stands { OnOk result (IsTurn self.new.made turn.now) }
+    {
+        match turn.own {
+            Some(own) => {
+                self.end_header_behind(parent, own, turn.header_start, role, rest, steps)?;
+                self.close_behind(parent, own, role, rest);
+                Ok(())
+            }
+            None => Ok(()),
+        }
+    }
+
+    /// Opens the node's scope, and closes it at once.
+    fn open_empty(&mut self, kind: AstKind<'a>, role: Role, turn: &Turn) -> Result<(), AllocError>
+        requires { IsTurn self.old.made turn.now }
+        ensures ends { (ds : List Declaration) (p : Place) → p.node ≡ kind.entry.node.now → p.role ≡ role → IsWithin self.old p p.chain → ShowsChain self.old.made.tables p.chain → HasVar p.chain →
+            OnOk result (self.new ≡ record self.old {
+              made = close_scope (after ds self.old.made (opening p (opened_scope p (length self.old.made.tables.scopes)))) (length self.old.made.tables.scopes);
+              current = turn.now.outer;
+              is_ambient = turn.now.is_ambient;
+            }) }
+        ensures goes { OnOk result (Goes self.old.made self.new.made) }
+    {
+        let own = self.open(kind, role)?;
+        self.close(own);
+        self.come_back(turn);
+        Ok(())
+    }
+
+    /// A scope without any child inside opens, and closes at once, behind all children.
+    fn open_last(&mut self, kind: AstKind<'a>, role: Role, turn: &Turn) -> Result<(), AllocError>
+        requires { IsTurn self.old.made turn.now }
+        ensures ends { (ds : List Declaration) (p : Place) (own : Option OpenScope) (n cursor start : ℕ) → p.node ≡ kind.entry.node.now → p.role ≡ role → IsBetweenAt ds self.old turn.now p own n cursor start nothing →
+            OnOk result (self.new ≡ record self.old { made = after_all ds self.old.made (opening_last p own n) }) }
+        ensures goes { OnOk result (Goes self.old.made self.new.made) }
+    {
+        if turn.own.is_none() && opens(kind.ty()) {
+            self.open_empty(kind, role, turn)
+        } else {
+            Ok(())
+        }
+    }
+
+    /// The cursor of the walk.
+    fn cursor(&self) -> ReferenceFlags
+        ensures { result.bits ≡ self.now.cursor }
+    {
+        self.cursor
+    }
+
+    /// Behind a child the cursor may be what it was before, or empty.
+    fn turn_cursor(&mut self, parent: AstType, role: Role, before: ReferenceFlags)
+        ensures made { self.new ≡ record self.old { cursor = cursor_behind parent role before.bits self.old.cursor } }
+        ensures goes { Goes self.old.made self.new.made }
+    {
+        self.cursor = behind_child(parent, role, before, self.cursor);
+    }
+
+    /// Behind a child: the walk stands in the node again, and its header or scope may end.
+    fn finish_child<L>(
+        &mut self,
+        parent: AstType,
+        turn: &Turn,
+        role: Role,
+        before: ReferenceFlags,
+        rest: &[(Role, Node)],
+        steps: &mut Steps<L>,
+    ) -> Result<(), AllocError>
+        requires { IsTurn self.old.made turn.now }
+        ensures ends { (ds : List Declaration) (p : Place) (own : Option OpenScope) (start : ℕ) → p.node.kind ≡ parent → IsTurnAt turn.now p own start → HoldsAt self.old.made own start →
+            OnOk result (self.new ≡ record self.old {
+              made = after_all ds self.old.made (ending_after p role own (forest_of rest.now));
+              current = at p;
+              cursor = cursor_behind parent role before.bits self.old.cursor;
+              is_ambient = p.is_ambient;
+            }) }
+        ensures grows { OnOk result (Grows self.old.made.tables self.new.made.tables) }
+        ensures stands { OnOk result (IsTurn self.new.made turn.now) }
+    {
+        self.come_back(turn);
+        self.turn_cursor(parent, role, before);
+        self.end_child(parent, turn, role, rest, steps)
+    }
+
+    /// Walks over a node in its role and all that is below it.
+    #[tactic(auto, using(semantic_tree::specs::Falls::below, crate::proofs::Going::going))]
+    pub(crate) fn visit<L>(
+        &mut self,
+        kind: AstKind<'a>,
+        role: Role,
+        steps: &mut Steps<L>,
+    ) -> Result<(), AllocError>
+        ensures walks { (ds : List Declaration) (p : Place) (own : Option OpenScope) (n : ℕ) → p.node ≡ kind.entry.node.now → p.role ≡ role → IsComing ds self.old p own n →
+            OnOk result (self.new ≡ walked_over ds self.old p own n) }
+        ensures goes { OnOk result (Goes self.old.made self.new.made) }
+    {
+        self.enter(kind)?;
+        let mut turn = self.turn(kind.ty());
+        let mut left = kind.node().children.as_slice();
+        while let Some(((child_role, child), rest)) = left.split_first() {
+            let before = self.cursor();
+            let child = AstKind::new(child);
+            self.begin_child(kind, role, &mut turn, *child_role, child)?;
+            self.visit(child, *child_role, steps)?;
+            self.finish_child(kind.ty(), &turn, *child_role, before, rest, steps)?;
+            left = rest;
+        }
+        self.open_last(kind, role, &turn)?;
+        self.leave(kind);
+        Ok(())
+    }
+}

@@ -1,0 +1,424 @@
+//! The walker's state, and what each step of the walk does to it.
+
+ghost use Rattle.std.specs.Prelude.{◌≡◌, ◌==◌, ◌&&◌, ◌<◌, ◌≤◌, ◌-◌, List, [], ◌∷◌, ◌++◌, true, false, codes, cond, length, map, option_map, take, drop, IfSome, IfOk, OnOk};
+ghost use Rattle.std.specs.Str.{chars};
+ghost use Rattle.semantic_kinds.specs.declared.kind.AstType.TheVariants.{IdentifierReference as identifier_reference, CatchClause as catch_clause};
+ghost use Rattle.scoping.specs.Reading.{bindings_of, scope_of};
+ghost use Rattle.semantic_kinds.specs.declared.role.Role.TheVariants.{Callee as callee_role};
+ghost use Rattle.semantic_model.specs.Inner.{inner_expression};
+ghost use Rattle.semantic_model.specs.Nodes.{is, holds, child_of, reads as reads_word};
+ghost use Rattle.semantic_model.specs.Place.{Place, OpenScope, parent_holds};
+ghost use Rattle.semantic_model.specs.Cursor.{on_entering, on_leaving};
+ghost use Rattle.semantic_model.specs.Binder.{declared_on_entering, declared_on_opening};
+ghost use Rattle.semantic_model.specs.Event.{is_catch_body};
+ghost use Rattle.semantic_model.specs.ScopeKind.{opened_scope};
+ghost use Rattle.semantic_model.specs.Step.{opening};
+ghost use Rattle.semantic_model.specs.TablesOf.{is_direct_eval};
+ghost use Rattle.semantic_model.specs.Outcome.{source_of, header_outcome};
+ghost use Rattle.walk_model.specs.Settles.{settle_rest};
+ghost use Rattle.walk_model.specs.Shown.{ShowsChain, HasVar};
+ghost use Rattle.walk_model.specs.Walks.{after};
+ghost use Rattle.walk_model.specs.Opens.{add_eval, close_scope};
+ghost use Rattle.table_building.specs.Settled.{settled_from};
+ghost use Rattle.node_rules.specs.Seen.{path_of};
+ghost use Rattle.semantic_walk.specs.Paths.{parent_in};
+ghost use Rattle.semantic_walk.specs.Walker.{place_in, noting_node, referring, opening_in, taking_over};
+ghost use Rattle.semantic_walk.specs.Listed.{kept_from, list_kept};
+ghost use Rattle.node_store.specs.Entered.{leaving};
+ghost use Rattle.semantic_walk.specs.Begun.{begun, AreNamesOf};
+ghost use Rattle.table_building.specs.Conflicting.{told};
+ghost use Rattle.table_building.specs.Growth.{Grows, Goes};
+ghost use Rattle.semantic_model.specs.Declaration.{Declaration};
+ghost use Rattle.semantic_walk.specs.Binds.{block_target, is_bound_inside, acting};
+ghost use Rattle.semantic_walk.specs.AtPlace.{ComesTo, IsWithin, IsShown, entered, kept_at};
+
+use crate::analysis::Analysis;
+use crate::binder::Binder;
+use crate::block_target::stand_on;
+use crate::path::Path;
+use namesakes::namesakes::Namesakes;
+use node_rules::cursor;
+use node_rules::direct_eval::is_direct_eval;
+use node_rules::rows::is_statement;
+use node_rules::scope_kind::{flags_of, root_flags};
+use node_store::{AstNodes, EnteredNodes};
+use semantic_diagnostics::Diagnostics;
+use semantic_syntax::{Ident, ReferenceFlags, ScopeFlags, ScopeId, SourceType, Steps};
+use semantic_tree::{AstKind, AstType, Mark, Program, Role};
+use std::alloc::{AllocError, Global};
+use std::marker::Model;
+use table_building::declared::Declared;
+use table_building::route::Route;
+
+/// The walker's state: what the walk has made so far, and where it stands.
+#[derive(Drop)]
+pub struct Walk<'a> {
+    pub(crate) alloc: Global,
+    pub(crate) source_type: SourceType,
+    /// How many nodes the program has.
+    pub(crate) node_count: u32,
+    pub(crate) declared: Declared<'a>,
+    /// Past which declarations block functions don't move.
+    pub(crate) namesakes: Namesakes,
+    /// The nodes from the root to the one that is visited.
+    pub(crate) path: Path<'a>,
+    pub(crate) current_scope: ScopeId,
+    /// The flags of the next reference.
+    pub(crate) cursor: ReferenceFlags,
+    /// Whether the code where the walk stands is ambient.
+    pub(crate) is_ambient: bool,
+    /// The nodes that the walk has entered, if they are kept.
+    pub(crate) nodes: Option<EnteredNodes<'a>>,
+}
+
+impl<'a> Model for Walk<'a> {
+    ghost use Rattle.std.specs.Prelude.{◌<◌, length};
+    ghost use Rattle.std.specs.Coded.{codes};
+    ghost use Rattle.semantic_tree.specs.contracts.node.Node as node;
+    ghost use Rattle.semantic_syntax.specs.contracts.node_flags.NodeFlags as eight_flags;
+    ghost use Rattle.semantic_walk.specs.Walker.{Walker, walker};
+
+    ghost Value = { Walker };
+
+    ghost coded = { Prim.hlevel (codes, node.the_row.coded, eight_flags.the_row.coded) };
+
+    ghost view = { walker };
+
+    ghost invariant = { λ w. w.current_scope < length w.declared.tables.scopes };
+}
+
+/// Whether the node declares in its own scope, which is open then: a function or class expression, and a mapped
+/// type.
+fn declares_inside(kind: AstKind<'_>) -> bool
+    ensures inside { result ≡ is_bound_inside kind.entry.node.now }
+    ensures entering { (p : Place) → p.node ≡ kind.entry.node.now → result ≡ true → declared_on_entering p ≡ [] }
+    ensures opening { (p : Place) (own : OpenScope) → p.node ≡ kind.entry.node.now → result ≡ false → declared_on_opening p own ≡ [] }
+{
+    match kind.ty() {
+        AstType::Function | AstType::Class => !is_statement(kind),
+        AstType::TSMappedType => true,
+        _ => false,
+    }
+}
+
+/// What keeps the nodes that a walk enters, if they are to be kept.
+fn keeping<'a>(alloc: Global, keeps: bool) -> Option<EnteredNodes<'a>>
+    ensures { result ≡ kept_from keeps }
+{
+    if keeps {
+        Some(EnteredNodes::new(alloc))
+    } else {
+        None
+    }
+}
+
+/// The nodes that were kept; none where nothing keeps them.
+fn nodes_kept<'a>(alloc: Global, kept: Option<EnteredNodes<'a>>) -> AstNodes<'a>
+    ensures { result ≡ list_kept kept.entry }
+{
+    match kept {
+        Some(nodes) => nodes.into_nodes(),
+        None => AstNodes::new(alloc),
+    }
+}
+
+#[tactic(auto, using(crate::proofs::Going::going))]
+impl<'a> Walk<'a> {
+    /// The state at the root, whose scope is open. The nodes that are entered are kept, or not.
+    pub(crate) fn new(
+        alloc: Global,
+        program: &'a Program,
+        keeps: bool,
+    ) -> Result<Walk<'a>, AllocError>
+        ensures begins { IfOk result (λ w. w ≡ begun program.now w.namesakes keeps) }
+        ensures names { IfOk result (λ w. AreNamesOf program.now w.namesakes) }
+    {
+        let source_type = program.source_type();
+        let root = program.root();
+        let namesakes = Namesakes::of(alloc, program)?;
+        let declared = Declared::new(alloc, root, root_flags(root, source_type))?;
+        Ok(Walk {
+            alloc,
+            source_type,
+            node_count: program.node_count(),
+            declared,
+            namesakes,
+            path: Path::new(alloc),
+            current_scope: ScopeId::new(0),
+            cursor: ReferenceFlags::empty(),
+            is_ambient: source_type.is_typescript_definition(),
+            nodes: keeping(alloc, keeps),
+        })
+    }
+
+    /// The parent of the node that is visited.
+    pub(crate) fn parent(&self) -> Option<AstKind<'a>>
+        ensures { path_of result ≡ parent_in self.now.path }
+    {
+        self.path.parent()
+    }
+
+    /// The flags of the scope where the walk stands.
+    pub(crate) fn scope_flags(&self) -> ScopeFlags
+        ensures { result ≡ (scope_of self.now.made.tables self.now.current).flags }
+    {
+        self.declared.scoping().scope_flags(self.current_scope)
+    }
+
+    /// Keeps the node, if nodes are kept.
+    fn note_node(&mut self, kind: AstKind<'a>) -> Result<(), AllocError>
+        ensures made { OnOk result (self.new ≡ noting_node self.old kind.entry.node.now) }
+        ensures goes { OnOk result (Goes self.old.made self.new.made) }
+    {
+        match &mut self.nodes {
+            Some(nodes) => nodes.enter(kind, self.current_scope),
+            None => Ok(()),
+        }
+    }
+
+    /// Goes back to the parent of the node, if nodes are kept.
+    fn leave_node(&mut self)
+        ensures made { self.new ≡ record self.old { nodes = option_map leaving self.old.nodes } }
+        ensures goes { Goes self.old.made self.new.made }
+    {
+        match &mut self.nodes {
+            Some(nodes) => nodes.leave(),
+            None => {}
+        }
+    }
+
+    /// Steps to a node.
+    #[tactic(auto, using(crate::proofs::Going::going, table_building::proofs::Growing::growing))]
+    fn step_to(&mut self, kind: AstKind<'a>) -> Result<(), AllocError>
+        ensures made { OnOk result (self.new ≡ record (noting_node self.old kind.entry.node.now) { path = self.old.path ++ kind.entry.node.now ∷ []; cursor = on_entering kind.entry.node.now.kind self.old.cursor }) }
+        ensures goes { OnOk result (Goes self.old.made self.new.made) }
+    {
+        self.note_node(kind)?;
+        self.path.push(kind)?;
+        self.cursor = cursor::on_entering(kind.ty(), self.cursor);
+        Ok(())
+    }
+
+    /// Notes the reference that an identifier reference is.
+    fn note_reference(&mut self, kind: AstKind<'a>) -> Result<(), AllocError>
+        ensures made { OnOk result (self.new ≡ cond (is identifier_reference kind.entry.node.now) (referring self.old kind.entry.node.now) self.old) }
+        ensures goes { OnOk result (Goes self.old.made self.new.made) }
+    {
+        match kind.ty() {
+            AstType::IdentifierReference => self.refer(kind),
+            _ => Ok(()),
+        }
+    }
+
+    /// Notes a call of `eval` by its name.
+    fn note_eval(&mut self, kind: AstKind<'a>)
+        ensures made { self.new ≡ cond (is_direct_eval kind.entry.node.now) (record self.old { made = add_eval self.old.made self.old.current }) self.old }
+        ensures goes { Goes self.old.made self.new.made }
+    {
+        if is_direct_eval(kind) {
+            self.declared.add_direct_eval(self.current_scope);
+        }
+    }
+
+    /// Declares what the node declares, if it declares inside its own scope, or if it declares outside.
+    fn declare(&mut self, kind: AstKind<'a>, inside: bool) -> Result<(), AllocError>
+        ensures entering { (ds : List Declaration) (p : Place) → p.node ≡ kind.entry.node.now → inside ≡ false → IsWithin self.old p p.chain → IsShown ds self.old p →
+            OnOk result (self.new ≡ acting ds self.old (declared_on_entering p)) }
+        ensures opening { (ds : List Declaration) (p : Place) (own : OpenScope) → p.node ≡ kind.entry.node.now → inside ≡ true → IsWithin self.old p (own ∷ []) →
+            OnOk result (self.new ≡ acting ds self.old (declared_on_opening p own)) }
+        ensures goes { OnOk result (Goes self.old.made self.new.made) }
+    {
+        if declares_inside(kind) == inside {
+            kind.bind(self)
+        } else {
+            Ok(())
+        }
+    }
+
+    /// Enters a node: what it declares outside of its own scope is declared, and a reference is noted.
+    pub(crate) fn enter(&mut self, kind: AstKind<'a>) -> Result<(), AllocError>
+        ensures walks { (ds : List Declaration) (p : Place) → p.node ≡ kind.entry.node.now → ComesTo self.old p → IsShown ds self.old p →
+            OnOk result (self.new ≡ record self.old { made = entered ds self.old p; path = self.old.path ++ p.node ∷ []; cursor = on_entering p.node.kind p.cursor; nodes = kept_at self.old p }) }
+        ensures goes { OnOk result (Goes self.old.made self.new.made) }
+    {
+        self.step_to(kind)?;
+        self.note_reference(kind)?;
+        self.note_eval(kind);
+        self.declare(kind, false)
+    }
+
+    /// Notes a reference, which waits in the current scope.
+    fn refer(&mut self, kind: AstKind<'a>) -> Result<(), AllocError>
+        ensures made { OnOk result (self.new ≡ referring self.old kind.entry.node.now) }
+        ensures goes { OnOk result (Goes self.old.made self.new.made) }
+    {
+        let way = cursor::way_of(self.cursor);
+        self.declared.refer(kind, self.current_scope, way)
+    }
+
+    /// Makes the scope of the node in its role, which binds nothing.
+    fn make_scope(&mut self, kind: AstKind<'a>, role: Role) -> Result<ScopeId, AllocError>
+        ensures made { OnOk result (self.new ≡ record self.old { made = opening_in self.old role kind.entry.node.now }) }
+        ensures number { IfOk result (λ s. s ≡ length self.old.made.tables.scopes) }
+        ensures apart { IfOk result (λ s. (self.new.current == s) ≡ false) }
+        ensures empty { IfOk result (λ s. bindings_of self.new.made.tables s ≡ []) }
+        ensures goes { OnOk result (Goes self.old.made self.new.made) }
+        ensures within { IfOk result (λ s. s < length self.new.made.tables.scopes) }
+    {
+        self.declared.scoping().attest();
+        let flags = flags_of(kind, role, self.parent(), self.source_type);
+        self.declared.open(kind, self.current_scope, flags)
+    }
+
+    /// Goes into the scope.
+    pub(crate) fn go_to(&mut self, scope: ScopeId)
+        requires { scope < length self.old.made.tables.scopes }
+        ensures { self.new ≡ record self.old { current = scope } }
+    {
+        self.current_scope = scope;
+    }
+
+    /// Opens the scope of the node in its role.
+    pub(crate) fn open(&mut self, kind: AstKind<'a>, role: Role) -> Result<ScopeId, AllocError>
+        ensures opens { (ds : List Declaration) (p : Place) → p.node ≡ kind.entry.node.now → p.role ≡ role → IsWithin self.old p p.chain → ShowsChain self.old.made.tables p.chain → HasVar p.chain →
+            OnOk result (self.new ≡ record self.old { made = after ds self.old.made (opening p (opened_scope p (length self.old.made.tables.scopes))); current = length self.old.made.tables.scopes }) }
+        ensures number { IfOk result (λ s. s ≡ length self.old.made.tables.scopes) }
+        ensures goes { OnOk result (Goes self.old.made self.new.made) }
+        ensures within { IfOk result (λ s. s < length self.new.made.tables.scopes) }
+    {
+        let scope = self.make_scope(kind, role)?;
+        self.take_over(kind, role, scope)?;
+        self.go_to(scope);
+        self.declare(kind, true)?;
+        Ok(scope)
+    }
+
+    /// Whether the node in its role is the body of a catch clause.
+    fn is_catch_body(&self, kind: AstKind<'a>, role: Role) -> bool
+        ensures { result ≡ is_catch_body (place_in self.now role kind.entry.node.now) }
+    {
+        kind.ty() == AstType::BlockStatement && role == Role::Body && self.is_in_clause()
+    }
+
+    /// Whether the parent of the node that is visited is a catch clause.
+    fn is_in_clause(&self) -> bool
+        ensures { result ≡ parent_holds (is catch_clause) (parent_in self.now.path) }
+    {
+        match self.parent() {
+            Some(parent) => parent.ty() == AstType::CatchClause,
+            None => false,
+        }
+    }
+
+    /// The scope of a catch clause's body, which binds nothing yet, takes over what the clause binds.
+    fn take_over(&mut self, kind: AstKind<'a>, role: Role, scope: ScopeId) -> Result<(), AllocError>
+        requires scope { scope < length self.old.made.tables.scopes }
+        requires apart { (self.old.current == scope) ≡ false }
+        requires empty { bindings_of self.old.made.tables scope ≡ [] }
+        ensures made { OnOk result (self.new ≡ cond (is_catch_body (place_in self.old role kind.entry.node.now)) (taking_over self.old scope) self.old) }
+        ensures goes { OnOk result (Goes self.old.made self.new.made) }
+    {
+        if self.is_catch_body(kind, role) {
+            self.declared.take_over(self.current_scope, scope)
+        } else {
+            Ok(())
+        }
+    }
+
+    /// Where a function in a block of sloppy code moves: to the nearest function, unless a namesake stands between,
+    /// wherever that is written.
+    pub(crate) fn target_of_block_function(
+        &self,
+        name: Ident<'_>,
+    ) -> Result<Option<ScopeId>, AllocError>
+        ensures target { IfOk result (λ o. o ≡ block_target self.now.made.tables self.now.namesakes self.now.current (chars name.entry.text.now)) }
+        ensures within { IfOk result (λ o. IfSome o (λ s. s < length self.now.made.tables.scopes)) }
+    {
+        let block = self.current_scope;
+        let scoping = self.declared.scoping();
+        let route = Route::outward(self.alloc, scoping, block, ScopeFlags::Var)?;
+        let target = route.target;
+        Ok(if stand_on(&self.namesakes, &route, scoping, name) {
+            None
+        } else {
+            Some(target)
+        })
+    }
+
+    /// Closes the scope.
+    pub(crate) fn close(&mut self, scope: ScopeId)
+        requires { scope < length self.old.made.tables.scopes }
+        ensures made { self.new ≡ record self.old { made = close_scope self.old.made scope } }
+        ensures goes { Goes self.old.made self.new.made }
+    {
+        self.declared.close(scope);
+    }
+
+    /// Leaves the node that is visited.
+    pub(crate) fn leave(&mut self, kind: AstKind<'a>)
+        ensures made { self.new ≡ record self.old { path = take (length self.old.path - 1) self.old.path; cursor = on_leaving kind.entry.node.now.kind self.old.cursor; nodes = option_map leaving self.old.nodes } }
+        ensures goes { Goes self.old.made self.new.made }
+    {
+        self.leave_node();
+        self.cursor = cursor::on_leaving(kind.ty(), self.cursor);
+        self.path.pop();
+    }
+
+    /// At the end of a header the references that wait since its start are looked up as far as its scope.
+    pub(crate) fn end_header<L>(
+        &mut self,
+        scope: ScopeId,
+        start: usize,
+        steps: &mut Steps<L>,
+    ) -> Result<(), AllocError>
+        requires scope { scope < length self.old.made.tables.scopes }
+        requires start { start ≤ length self.old.made.waiting }
+        ensures made { OnOk result (self.new ≡ record self.old { made = settled_from self.old.made start (map (header_outcome (source_of self.old.made.tables) scope) (drop start self.old.made.waiting)) }) }
+        ensures grows { OnOk result (Grows self.old.made.tables self.new.made.tables) }
+        ensures waiting { OnOk result (start ≤ length self.new.made.waiting) }
+    {
+        self.declared.end_header(scope, start, steps)
+    }
+
+    /// After the walk every reference that waits is settled.
+    pub(crate) fn end<L>(&mut self, steps: &mut Steps<L>) -> Result<(), AllocError>
+        ensures { OnOk result (self.new ≡ record self.old { made = settle_rest self.old.made }) }
+    {
+        self.declared.settle_rest(steps)
+    }
+
+    /// How many references wait.
+    pub(crate) fn waiting(&self) -> usize
+        ensures { result ≡ length self.now.made.waiting }
+    {
+        self.declared.waiting()
+    }
+
+    /// A diagnostic for each conflict.
+    pub(crate) fn diagnostics(&self) -> Result<Diagnostics, AllocError>
+        ensures { IfOk result (λ made. made ≡ map told self.now.made.conflicts) }
+    {
+        self.declared.diagnostics()
+    }
+
+    /// What the walk has made.
+    pub(crate) fn finish(self, diagnostics: Diagnostics) -> Analysis<'a>
+        ensures scoping { result.scoping ≡ self.entry.made.tables }
+        ensures tables { result.tables ≡ self.entry.made.nodes }
+        ensures diagnostics { result.diagnostics ≡ diagnostics }
+        ensures node_list { result.nodes ≡ list_kept self.entry.nodes }
+    {
+        let (scoping, tables) = self.declared.into_tables();
+        Analysis {
+            scoping,
+            tables,
+            nodes: nodes_kept(self.alloc, self.nodes),
+            diagnostics,
+        }
+    }
+
+    /// Gives the walk up.
+    pub(crate) fn give_up(self) {
+        self.declared.give_up();
+    }
+}

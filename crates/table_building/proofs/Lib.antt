@@ -1,0 +1,10 @@
+pub mod Outcomes
+pub mod Numbered
+pub mod Ways
+pub mod Passing
+pub mod Growing
+pub mod Waiting
+pub mod Settling
+pub mod Bridging
+pub mod Outside
+pub mod EachName

@@ -1,0 +1,21 @@
+use Rattle.std.proofs.Common.{map, flat_map, false, sym, ap, ◌∙◌}
+use Rattle.walk_model.specs.Standing.{Standing}
+use Rattle.semantic_tree.specs.ChildIter.{left_of}
+use Rattle.table_building.specs.Named.{named_by}
+use Rattle.semantic_model.specs.Names.{bound_names}
+use Rattle.table_building.specs.Each.{declare_each}
+use Rattle.table_building.proofs.Growing.{goes-trans}
+use Rattle.table_building.proofs.EachName.{parts_turn}
+use Rattle.table_building.proofs.declared.Declared.declare_under.Goals as goal
+
+pub loop-part-preserved : goal.loop-part-preserved
+loop-part-preserved c =
+    let f = named_by c.args.node.node.now c.args.row false in
+    let left = left_of c.next.new.self in
+    record {
+      rest =
+          ap (λ (w : Standing). declare_each w c.args.scope (map f (flat_map bound_names left))) c.in_ok-declare_names.ensures.made
+          ∙ sym (parts_turn f c.loop-part.self c.args.scope _ _ left c.in-Some.ensures.steps)
+          ∙ c.loop-part.invariant.rest;
+      goes = goes-trans _ _ _ c.loop-part.invariant.goes c.in_ok-declare_names.ensures.goes;
+    }

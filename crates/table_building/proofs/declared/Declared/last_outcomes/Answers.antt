@@ -1,0 +1,29 @@
+use Rattle.std.proofs.Common.{◌≡◌, length, List, map, All}
+use Rattle.scoping.specs.Told.{source_of as told_of}
+use Rattle.resolver.specs.declared.outcomes.Outcome.{Outcome}
+use Rattle.semantic_model.specs.Outcome.{source_of, last_outcome}
+use Rattle.table_building.specs.Made.{pending_of}
+use Rattle.table_building.specs.Settled.{IsOutcomeWithin, outcome_of}
+use Rattle.table_building.proofs.Bridging.{lasts-same, tell_same}
+use Rattle.table_building.proofs.Waiting.{scopes_exist, references_exist, last-within, if_ok_is}
+use Rattle.table_building.proofs.declared.Declared.last_outcomes.Goals as goal
+
+pub resolve_all-requires-clause-lookup_scopes : goal.resolve_all-requires-clause-lookup_scopes
+resolve_all-requires-clause-lookup_scopes g c = scopes_exist c.self.inside.scoping c.self.inside.pending c.self.invariant.waiting
+
+pub resolve_all-requires-clause-references : goal.resolve_all-requires-clause-references
+resolve_all-requires-clause-references g c = references_exist c.self.inside.scoping c.self.inside.pending c.self.invariant.waiting
+
+pub returns-clause-outcomes : goal.returns-clause-outcomes
+returns-clause-outcomes g c =
+    let t = c.self.inside.scoping in
+    rw (← c.self.view_is)
+    (if_ok_is c.resolve_all.result (λ (o : List Outcome). map outcome_of o ≡ map (last_outcome (source_of t)) (map pending_of c.self.inside.pending)) _ c.resolve_all.ensures.outcomes
+    (lasts-same _ _ (tell_same t) c.self.inside.pending))
+
+pub returns-clause-within : goal.returns-clause-within
+returns-clause-within g c =
+    let t = c.self.inside.scoping in
+    rw (← c.self.view_is)
+    (if_ok_is c.resolve_all.result (All (IsOutcomeWithin (length t.symbols) (length t.scopes))) _ c.resolve_all.ensures.outcomes
+    (last-within (told_of t) c.attest.ensures.source c.self.inside.pending (scopes_exist t c.self.inside.pending c.self.invariant.waiting)))

@@ -1,0 +1,10 @@
+pub mod Settled
+pub mod Growth
+pub mod Waiting
+pub mod Made
+pub mod Hits
+pub mod Routes
+pub mod Each
+pub mod Named
+pub mod Conflicting
+pub mod Numbered

@@ -1,0 +1,31 @@
+-- What the walk has made so far, in the words of its definition.
+use Rattle.std.specs.Prelude.{ℕ, ◌<◌, List, map, length}
+use Rattle.std.specs.List.{AllByRecursion}
+use Rattle.scoping.specs.Names.{name_of}
+use Rattle.resolver.specs.declared.pending.UnresolvedReference.{UnresolvedReference}
+use Rattle.semantic_model.specs.Binding.{Binding}
+use Rattle.semantic_model.specs.Outcome.{Pending}
+use Rattle.walk_model.specs.Standing.{Standing}
+use Rattle.table_building.specs.Waiting.{AreWaiting}
+use Rattle.table_building.specs.declared.declared.Declared.TheInside.{Inside}
+
+abbrev pub pending_of : UnresolvedReference → Pending
+pending_of u = record { name = name_of u.name; reference = u.reference_id; lookup_scope = u.lookup_scope_id }
+
+abbrev pub standing : Inside → Standing
+standing d = record {
+  tables = d.scoping;
+  remembered = d.remembered;
+  conflicts = d.conflicts;
+  nodes = d.tables;
+  waiting = map pending_of d.pending;
+}
+
+-- each symbol is one of so many
+abbrev pub AreSymbols : ℕ → List Binding → Type 0
+AreSymbols count bs = AllByRecursion (λ b. b.symbol < count) bs
+
+-- the symbols that are remembered exist, and what waits is a reference in a scope
+pub record IsSound (d : Inside) : Type 0 where
+  pub remembered : AreSymbols (length d.scoping.symbols) d.remembered
+  pub waiting : AreWaiting d.scoping (map pending_of d.pending)

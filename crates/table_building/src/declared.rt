@@ -1,0 +1,357 @@
+//! What the walk has made so far, and how one more declaration comes to its symbol.
+
+ghost use Rattle.std.specs.Prelude.{◌≡◌, ◌<◌, None, length, map, option_map, fold, IfSome, IfOk, OnOk};
+ghost use Rattle.std.specs.Str.{bytes_eq};
+ghost use Rattle.std.specs.Map.{lookup};
+ghost use Rattle.scoping.specs.Names.{name_of};
+ghost use Rattle.scoping.specs.Reading.{scope_of};
+ghost use Rattle.semantic_model.specs.Binding.{get};
+ghost use Rattle.semantic_model.specs.Fold.{or_else};
+ghost use Rattle.walk_model.specs.Opens.{open_in};
+ghost use Rattle.walk_model.specs.Standing.{nothing_made};
+ghost use Rattle.walk_model.specs.Declares as walked;
+ghost use Rattle.table_building.specs.Conflicting.{told};
+ghost use Rattle.table_building.specs.Growth.{Goes};
+ghost use Rattle.table_building.specs.Named.{naming, named_by};
+
+use crate::conflicts::Conflicts;
+use crate::declaration::Declaration;
+use crate::remembered::Remembered;
+use node_rules::rows::Row;
+use resolver::UnresolvedReferences;
+use scoping::{NodeTables, Scoping};
+use semantic_diagnostics::Diagnostics;
+use semantic_syntax::{Ident, ScopeFlags, ScopeId, SymbolFlags, SymbolId};
+use semantic_tree::AstKind;
+use std::alloc::{AllocError, Global};
+use std::marker::Model;
+
+/// Scopes, symbols, bindings and references so far, what belongs to each node, the names that scopes remember,
+/// the conflicts, and the references that wait to be settled.
+#[derive(Drop)]
+pub struct Declared<'a> {
+    pub(crate) alloc: Global,
+    pub(crate) scoping: Scoping,
+    pub(crate) tables: NodeTables,
+    pub(crate) remembered: Remembered,
+    pub(crate) conflicts: Conflicts<'a>,
+    pub(crate) pending: UnresolvedReferences<'a>,
+}
+
+impl<'a> Model for Declared<'a> {
+    ghost use Rattle.walk_model.specs.Standing.{Standing};
+
+    ghost Value = { Standing };
+
+    ghost use Rattle.table_building.specs.Made.{standing, IsSound};
+
+    ghost view = { standing };
+
+    ghost invariant = { IsSound };
+}
+
+#[tactic(auto, using(crate::proofs::Growing::growing))]
+impl<'a> Declared<'a> {
+    /// Nothing is made yet but the root's scope.
+    pub fn new(
+        alloc: Global,
+        root: AstKind<'_>,
+        flags: ScopeFlags,
+    ) -> Result<Declared<'a>, AllocError>
+        ensures { IfOk result (λ made. made ≡ open_in nothing_made None root.entry.node.now.node_id 0 flags.bits) }
+    {
+        let mut declared = Declared::empty(alloc);
+        match declared.open_root(root, flags) {
+            Ok(_) => Ok(declared),
+            Err(error) => {
+                declared.give_up();
+                Err(error)
+            }
+        }
+    }
+
+    /// Nothing is made yet.
+    fn empty(alloc: Global) -> Declared<'a>
+        ensures { result ≡ nothing_made }
+    {
+        Declared {
+            alloc,
+            scoping: Scoping::new(alloc),
+            tables: NodeTables::new(alloc),
+            remembered: Remembered::new(alloc),
+            conflicts: Conflicts::new(alloc),
+            pending: UnresolvedReferences::new(alloc),
+        }
+    }
+
+    /// The tables.
+    pub fn scoping(&self) -> &Scoping
+        ensures { result.now ≡ self.now.tables }
+    {
+        &self.scoping
+    }
+
+    /// A diagnostic for each conflict.
+    pub fn diagnostics(&self) -> Result<Diagnostics, AllocError>
+        ensures { IfOk result (λ made. made ≡ map told self.now.conflicts) }
+    {
+        self.conflicts.diagnostics(self.alloc)
+    }
+
+    /// The tables, and what belongs to each node.
+    pub fn into_tables(self) -> (Scoping, NodeTables)
+        ensures scoping { result.0 ≡ self.entry.tables }
+        ensures tables { result.1 ≡ self.entry.nodes }
+    {
+        (self.scoping, self.tables)
+    }
+
+    /// Gives up what is made.
+    pub fn give_up(self) {
+        drop_scoping(self.scoping);
+        drop_tables(self.tables);
+    }
+
+    /// How many references wait.
+    pub fn waiting(&self) -> usize
+        ensures { result ≡ length self.now.waiting }
+    {
+        self.pending.len()
+    }
+
+    /// The symbol that the scope binds to the name.
+    pub(crate) fn bound(&self, scope: ScopeId, name: Ident<'_>) -> Option<SymbolId>
+        requires { scope < length self.now.tables.scopes }
+        ensures value { result ≡ walked.bound_to self.now.tables scope (name_of name.entry) }
+        ensures within { IfSome result (λ y. y < length self.now.tables.symbols) }
+    {
+        self.scoping.attest();
+        self.scoping.get_binding(scope, name)
+    }
+
+    /// The scope around the scope.
+    pub(crate) fn parent(&self, scope: ScopeId) -> Option<ScopeId>
+        requires { scope < length self.now.tables.scopes }
+        ensures value { result ≡ (scope_of self.now.tables scope).parent }
+        ensures within { IfSome result (λ s. s < length self.now.tables.scopes) }
+    {
+        self.scoping.attest();
+        self.scoping.scope_parent_id(scope)
+    }
+
+    /// The symbol that the scope remembers for the name.
+    fn recalled(&self, scope: ScopeId, name: Ident<'_>) -> Option<SymbolId>
+        ensures value { result ≡ get self.now.remembered scope (name_of name.entry) }
+        ensures within { IfSome result (λ y. y < length self.now.tables.symbols) }
+    {
+        self.remembered.get(scope, name)
+    }
+
+    /// The symbol that the scope binds to the name, else the one that it remembers.
+    fn known(&self, scope: ScopeId, name: Ident<'_>) -> Option<SymbolId>
+        requires { scope < length self.now.tables.scopes }
+        ensures value { result ≡ or_else (walked.bound_to self.now.tables scope (name_of name.entry)) (get self.now.remembered scope (name_of name.entry)) }
+        ensures within { IfSome result (λ y. y < length self.now.tables.symbols) }
+    {
+        if let Some(symbol) = self.bound(scope, name) {
+            return Some(symbol);
+        }
+        self.recalled(scope, name)
+    }
+
+    /// The symbol that the scope knows for the name. The own name of a function expression counts as none.
+    pub(crate) fn found(&self, scope: ScopeId, name: Ident<'_>) -> Option<SymbolId>
+        requires { scope < length self.now.tables.scopes }
+        ensures value { result ≡ walked.found self.now scope (name_of name.entry) }
+        ensures within { IfSome result (λ y. y < length self.now.tables.symbols) }
+    {
+        let symbol = self.known(scope, name)?;
+        let flags = self.scoping.symbol_flags(symbol);
+        if flags.intersects(SymbolFlags::FunctionExpression) {
+            return None;
+        }
+        Some(symbol)
+    }
+
+    /// Notes a conflict where the symbol may not be declared once more in this way.
+    pub(crate) fn note_conflict(
+        &mut self,
+        symbol: SymbolId,
+        declaration: &Declaration<'a>,
+    ) -> Result<(), AllocError>
+        requires { symbol < length self.old.tables.symbols }
+        ensures made { OnOk result (self.new ≡ walked.against self.old (naming declaration.now) symbol) }
+        ensures goes { Goes self.old self.new }
+    {
+        let flags = self.scoping.symbol_flags(symbol);
+        if flags.intersects(declaration.row.excluded) {
+            let earlier = self.scoping.symbol_span(symbol);
+            self.conflicts
+                .push(declaration.name, earlier, declaration.span)?;
+        }
+        Ok(())
+    }
+
+    /// Makes a new symbol, which the scope binds.
+    pub(crate) fn make(
+        &mut self,
+        scope: ScopeId,
+        declaration: &Declaration<'a>,
+    ) -> Result<SymbolId, AllocError>
+        requires { scope < length self.old.tables.scopes }
+        ensures made { OnOk result (self.new ≡ walked.make self.old scope (naming declaration.now)) }
+        ensures symbol { IfOk result (λ y. y ≡ length self.old.tables.symbols) }
+        ensures goes { Goes self.old self.new }
+        ensures within { IfOk result (λ y. y < length self.new.tables.symbols) }
+    {
+        check_room(self.scoping.symbols_len())?;
+        self.scoping.create_symbol_with_binding(
+            declaration.span,
+            Ident::new(declaration.name),
+            declaration.row.flags,
+            scope,
+            scope,
+            declaration.node,
+        )
+    }
+
+    /// One more declaration of the symbol, without its flags.
+    pub(crate) fn redeclare(
+        &mut self,
+        symbol: SymbolId,
+        declaration: &Declaration<'a>,
+    ) -> Result<(), AllocError>
+        requires { symbol < length self.old.tables.symbols }
+        ensures made { OnOk result (self.new ≡ walked.redeclare self.old symbol (naming declaration.now)) }
+        ensures goes { Goes self.old self.new }
+    {
+        self.scoping.add_symbol_redeclaration(
+            symbol,
+            declaration.row.flags,
+            declaration.node,
+            declaration.span,
+        )
+    }
+
+    /// Notes the symbol of the declaration.
+    pub(crate) fn gets(
+        &mut self,
+        symbol: SymbolId,
+        declaration: &Declaration<'a>,
+    ) -> Result<(), AllocError>
+        ensures made { OnOk result (self.new ≡ walked.gets self.old symbol (naming declaration.now)) }
+        ensures goes { Goes self.old self.new }
+    {
+        self.tables.set_symbol(declaration.identifier, symbol)?;
+        if declaration.is_pure {
+            self.scoping.mark_no_side_effects(symbol)?;
+        }
+        Ok(())
+    }
+
+    /// Adds to what the symbol is.
+    fn add_flags(&mut self, symbol: SymbolId, flags: SymbolFlags)
+        requires { symbol < length self.old.tables.symbols }
+        ensures made { self.new ≡ walked.add_flags self.old symbol flags.bits }
+        ensures goes { Goes self.old self.new }
+    {
+        self.scoping.union_symbol_flag(symbol, flags);
+    }
+
+    /// The symbol is declared once more, with the flags of the declaration.
+    fn unite(&mut self, symbol: SymbolId, declaration: &Declaration<'a>) -> Result<(), AllocError>
+        requires { symbol < length self.old.tables.symbols }
+        ensures made { OnOk result (self.new ≡ walked.unite self.old symbol (naming declaration.now)) }
+        ensures goes { Goes self.old self.new }
+    {
+        self.note_conflict(symbol, declaration)?;
+        self.redeclare(symbol, declaration)?;
+        self.add_flags(symbol, declaration.row.flags);
+        Ok(())
+    }
+
+    /// Declares in a scope: what is found there is declared once more, else a new symbol is bound. Gives the
+    /// symbol.
+    pub(crate) fn symbol_in(
+        &mut self,
+        scope: ScopeId,
+        declaration: &Declaration<'a>,
+    ) -> Result<SymbolId, AllocError>
+        requires { scope < length self.old.tables.scopes }
+        ensures made { OnOk result (self.new ≡ walked.with_symbol_in self.old scope (naming declaration.now)) }
+        ensures symbol { IfOk result (λ y. y ≡ walked.symbol_in self.old scope (naming declaration.now)) }
+        ensures goes { Goes self.old self.new }
+        ensures within { IfOk result (λ y. y < length self.new.tables.symbols) }
+    {
+        match self.found(scope, Ident::new(declaration.name)) {
+            Some(symbol) => {
+                self.unite(symbol, declaration)?;
+                Ok(symbol)
+            }
+            None => self.make(scope, declaration),
+        }
+    }
+
+    /// Declares in a scope.
+    pub(crate) fn declare(
+        &mut self,
+        scope: ScopeId,
+        declaration: &Declaration<'a>,
+    ) -> Result<(), AllocError>
+        requires { scope < length self.old.tables.scopes }
+        ensures made { OnOk result (self.new ≡ walked.declare self.old scope (naming declaration.now)) }
+        ensures goes { Goes self.old self.new }
+    {
+        let symbol = self.symbol_in(scope, declaration)?;
+        self.gets(symbol, declaration)
+    }
+
+    /// Declares in a scope, always anew.
+    pub(crate) fn declare_anew(
+        &mut self,
+        scope: ScopeId,
+        declaration: &Declaration<'a>,
+    ) -> Result<(), AllocError>
+        requires { scope < length self.old.tables.scopes }
+        ensures made { OnOk result (self.new ≡ walked.declare_anew self.old scope (naming declaration.now)) }
+        ensures goes { Goes self.old self.new }
+    {
+        let symbol = self.make(scope, declaration)?;
+        self.gets(symbol, declaration)
+    }
+
+    /// The node declares the name in a scope.
+    pub(crate) fn declare_name(
+        &mut self,
+        node: AstKind<'a>,
+        name: AstKind<'a>,
+        scope: ScopeId,
+        row: Row,
+        is_pure: bool,
+    ) -> Result<(), AllocError>
+        requires { scope < length self.old.tables.scopes }
+        ensures made { OnOk result (self.new ≡ walked.declare self.old scope (named_by node.entry.node.now row is_pure name.entry.node.now)) }
+        ensures goes { Goes self.old self.new }
+    {
+        let declaration = Declaration::new(node, name, row, is_pure);
+        self.declare(scope, &declaration)
+    }
+}
+
+/// Drops the tables, out of line: each function that drops them itself is proved anew to drop each of their parts.
+fn drop_scoping(_scoping: Scoping) {}
+
+/// Drops what belongs to each node, out of line too.
+fn drop_tables(_tables: NodeTables) {}
+
+/// Whether there is room for one more id. There always is: scopes, symbols and references are at most the nodes of
+/// the program, which have ids themselves.
+pub(crate) fn check_room(count: usize) -> Result<(), AllocError>
+    ensures { OnOk result (count < u32.MAX) }
+{
+    if count < u32::MAX as usize {
+        Ok(())
+    } else {
+        Err(AllocError)
+    }
+}
