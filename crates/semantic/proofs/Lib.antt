@@ -16,7 +16,6 @@ pub mod Waiting
 pub mod Settling
 pub mod Bridging
 pub mod Outside
-pub mod Innermost
 pub mod Counting
 pub mod Beginning
 pub mod Opening

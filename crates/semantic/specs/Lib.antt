@@ -19,7 +19,6 @@ pub mod Conflicting
 pub mod Numbered
 pub mod Tally
 pub mod FreeReference
-pub mod LabelStack
 pub mod Listed
 pub mod AtPlace
 pub mod Begun

@@ -14,7 +14,6 @@ pub mod global_reference;
 pub mod hoist;
 pub mod inside;
 pub mod instance_state;
-pub mod labels;
 pub mod names;
 pub mod namesakes;
 pub mod node_queries;
@@ -36,9 +35,9 @@ pub use binder::Binder;
 pub use builder::SemanticBuilder;
 pub use global_reference::{IsGlobalReference, IsGlobalReferenceName};
 pub use instance_state::{ModuleInstanceState, module_instance_state};
-pub use labels::{LabeledScope, UnusedLabels};
 pub use semantic::{Semantic, SemanticBuilderReturn};
 pub use stats::Stats;
+pub use unused_labels::{LabeledScope, UnusedLabels};
 pub use walk::Walk;
 
 #[cfg(test)]
