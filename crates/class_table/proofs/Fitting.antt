@@ -10,9 +10,8 @@ use Rattle.semantic_model.specs.Element.{Element}
 use Rattle.semantic_model.specs.Class.{Class, PrivateUse}
 use Rattle.class_table.specs.Lists.{ClassLists, with_class}
 use Rattle.class_table.specs.Outward.{parent_in}
-use Rattle.class_table.specs.Told.{parents_from}
+use Rattle.class_table.specs.Told.{parents_from, with_uses, told, FitCurrent, current_elements}
 use Rattle.class_table.proofs.Every.{every-more}
-use Rattle.class_table.proofs.Telling.{Fits, told, with_uses, current_elements}
 
 -- a class that stands inside another one is below n
 abbrev Below : ℕ → ℕ × ℕ → Type 0
@@ -44,7 +43,7 @@ there_more : (n m : ℕ) (current : Option ℕ) → n ≤ m → IfSome current (
 there_more n m None le there = tt
 there_more n m (Some c) le there = omega arith
 
-pub fits_told : (lists : ClassLists) (current : Option ℕ) (us : List PrivateUse) (cs : List Class) → Fits lists current → Fits (told lists current us cs) current
+pub fits_told : (lists : ClassLists) (current : Option ℕ) (us : List PrivateUse) (cs : List Class) → FitCurrent lists current → FitCurrent (told lists current us cs) current
 fits_told lists current us cs fits =
     let n = length lists.nodes in
     let nodes = length_told lists current us cs in
@@ -58,7 +57,7 @@ fits_told lists current us cs fits =
       inside = rw nodes (below_append (n + length cs) lists.parents (parents_from n cs) (below_more n (n + length cs) lists.parents more fits.inside) (below_from n (n + length cs) cs (omega arith)));
     }
 
-pub fits_class : (lists : ClassLists) (current : Option ℕ) (node : ℕ) (es : List Element) → Fits lists current → Fits (with_class lists current node es) (Some (length lists.nodes))
+pub fits_class : (lists : ClassLists) (current : Option ℕ) (node : ℕ) (es : List Element) → FitCurrent lists current → FitCurrent (with_class lists current node es) (Some (length lists.nodes))
 fits_class lists current node es fits =
     let n = length lists.nodes in
     let nodes : length (lists.nodes ++ node ∷ []) ≡ n + 1 = length-append lists.nodes (node ∷ []) in
@@ -69,7 +68,7 @@ fits_class lists current node es fits =
       inside = rw nodes (below_append (n + 1) lists.parents (option_to_list (option_map (λ p. (n, p)) current)) (below_more n (n + 1) lists.parents (omega arith) fits.inside) (below_here n (n + 1) current one));
     }
 
-pub elements_kept : (lists : ClassLists) (current : Option ℕ) (us : List PrivateUse) (cs : List Class) → Fits lists current → current_elements (told lists current us cs) current ≡ current_elements lists current
+pub elements_kept : (lists : ClassLists) (current : Option ℕ) (us : List PrivateUse) (cs : List Class) → FitCurrent lists current → current_elements (told lists current us cs) current ≡ current_elements lists current
 elements_kept lists None us cs fits = refl
 elements_kept lists (Some c) us cs fits =
     let there = fits.there in

@@ -8,32 +8,7 @@ use Rattle.std.proofs.lemmas.List.{map-append, append-nil, set-append_left, set-
 use Rattle.semantic_model.specs.Element.{Element}
 use Rattle.semantic_model.specs.Class.{Class, PrivateUse}
 use Rattle.class_table.specs.Lists.{ClassLists, with_class, with_use, elements_in}
-use Rattle.class_table.specs.Told.{parents_from}
-
--- the uses with some more of the current class
-abbrev pub with_uses : Option ℕ → List PrivateUse → List (List PrivateUse) → List (List PrivateUse)
-with_uses None us uses = uses
-with_uses (Some c) us uses = set uses c (get_or uses c [] ++ us)
-
--- the lists with some more
-abbrev pub told : ClassLists → Option ℕ → List PrivateUse → List Class → ClassLists
-told lists current us classes = record {
-  parents = lists.parents ++ parents_from (length lists.nodes) classes;
-  nodes = lists.nodes ++ map (λ c. c.node) classes;
-  elements = lists.elements ++ map (λ c. c.elements) classes;
-  uses = with_uses current us lists.uses ++ map (λ c. c.uses) classes;
-}
-
--- the lists fit and the current class is there
-pub record Fits (lists : ClassLists) (current : Option ℕ) : Type 0 where
-  pub there : IfSome current (λ c. c < length lists.nodes)
-  pub with_elements : length lists.elements ≡ length lists.nodes
-  pub with_uses : length lists.uses ≡ length lists.nodes
-  pub inside : AllByRecursion (λ e. e.0 < length lists.nodes) lists.parents
-
--- the elements of the current class
-abbrev pub current_elements : ClassLists → Option ℕ → List Element
-current_elements lists current = option_map_or (elements_in lists) current []
+use Rattle.class_table.specs.Told.{parents_from, with_uses, told, FitCurrent, current_elements}
 
 parents_append : (n : ℕ) (cs ds : List Class) → parents_from n (cs ++ ds) ≡ parents_from n cs ++ parents_from (n + length cs) ds
 parents_append n [] ds = ap (λ m. parents_from m ds) (sym (add-zero n))
@@ -58,7 +33,7 @@ uses_append : (current : Option ℕ) (uses : List (List PrivateUse)) (us us' : L
 uses_append None uses us us' more within = refl
 uses_append (Some c) uses us us' more within = twice uses c us us' more within
 
-within_uses : (lists : ClassLists) (current : Option ℕ) → Fits lists current → IfSome current (λ c. c < length lists.uses)
+within_uses : (lists : ClassLists) (current : Option ℕ) → FitCurrent lists current → IfSome current (λ c. c < length lists.uses)
 within_uses lists None fits = tt
 within_uses lists (Some c) fits = let there = fits.there in let same = fits.with_uses in omega arith
 
@@ -71,7 +46,7 @@ same_lists ps ps' ns ns' es es' us us' p n e u = cc
 appended : {A B : Type 0} (f : A → B) (l : List B) (xs ys : List A) → (l ++ map f xs) ++ map f ys ≡ l ++ map f (xs ++ ys)
 appended f l xs ys = append_assoc l (map f xs) (map f ys) ∙ ap (λ m. l ++ m) (sym (map-append f xs ys))
 
-pub told_twice : (lists : ClassLists) (current : Option ℕ) (us us' : List PrivateUse) (cs cs' : List Class) → Fits lists current
+pub told_twice : (lists : ClassLists) (current : Option ℕ) (us us' : List PrivateUse) (cs cs' : List Class) → FitCurrent lists current
     → told (told lists current us cs) current us' cs' ≡ told lists current (us ++ us') (cs ++ cs')
 told_twice lists current us us' cs cs' fits =
     let n = length lists.nodes in
@@ -113,14 +88,14 @@ last_set [] y z = refl
 last_set (x ∷ xs) y z = ap (λ l. x ∷ l) (last_set xs y z)
 
 -- the elements of a class that was just declared
-pub declared_elements : (lists : ClassLists) (current : Option ℕ) (node : ℕ) (es : List Element) → Fits lists current → elements_in (with_class lists current node es) (length lists.nodes) ≡ es
+pub declared_elements : (lists : ClassLists) (current : Option ℕ) (node : ℕ) (es : List Element) → FitCurrent lists current → elements_in (with_class lists current node es) (length lists.nodes) ≡ es
 declared_elements lists current node es fits = ap (λ n. get_or (lists.elements ++ es ∷ []) n []) (sym fits.with_elements) ∙ last_read lists.elements es []
 
 pub declared_length : (lists : ClassLists) (current : Option ℕ) (node : ℕ) (es : List Element) → length (with_class lists current node es).nodes ≡ length lists.nodes + 1
 declared_length lists current node es = length-append lists.nodes (node ∷ [])
 
 -- a class that was just declared, with uses and classes inside it
-pub told_class : (lists : ClassLists) (current : Option ℕ) (node : ℕ) (es : List Element) (us : List PrivateUse) (cs : List Class) → Fits lists current
+pub told_class : (lists : ClassLists) (current : Option ℕ) (node : ℕ) (es : List Element) (us : List PrivateUse) (cs : List Class) → FitCurrent lists current
     → told (with_class lists current node es) (Some (length lists.nodes)) us cs ≡ told lists current [] (record { node = node; parent = current; elements = es; uses = us } ∷ cs)
 told_class lists current node es us cs fits =
     let n = length lists.nodes in

@@ -5,3 +5,5 @@ pub mod Outward
 pub mod Building
 pub mod Told
 pub mod Noted
+pub mod NotedSteps
+pub mod Bodies

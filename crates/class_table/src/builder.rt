@@ -15,12 +15,12 @@ use semantic_syntax::{ClassId, NodeId};
 use semantic_tree::{AstKind, AstType};
 use std::alloc::{AllocError, Global};
 
-/// The table of classes, and the class in whose body the walk is. After want of memory each call leaves all as before.
+/// The table of classes, and the class that is current. After want of memory each call leaves all as before.
 #[derive(Drop)]
 pub struct ClassTableBuilder<'a> {
     /// Whether classes and uses are noted at all; at first they aren't.
     pub enabled: bool,
-    /// The innermost class in whose body the walk is.
+    /// The innermost class that the walk is in, from its body on.
     pub current_class_id: Option<ClassId>,
     pub classes: ClassTable<'a>,
 }

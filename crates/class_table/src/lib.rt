@@ -10,6 +10,7 @@ pub mod laws;
 mod making;
 pub mod private_name;
 pub mod table;
+mod walking;
 
 pub use ancestors::ClassAncestors;
 pub use builder::ClassTableBuilder;

@@ -1,3 +1,2 @@
-pub mod Innermost
 pub mod Counting
 pub mod LentBeside

@@ -1,6 +1,5 @@
 pub mod Tally
 pub mod FreeReference
-pub mod LabelStack
 pub mod Lending
 pub use Rattle.semantic_walk.specs.Begun
 pub use Rattle.semantic_walk.specs.Listed

@@ -3,15 +3,14 @@
 
 pub mod builder;
 pub mod global_reference;
-pub mod labels;
 pub mod node_queries;
 pub mod semantic;
 pub mod stats;
 
 pub use builder::SemanticBuilder;
 pub use global_reference::{IsGlobalReference, IsGlobalReferenceName};
-pub use labels::{LabeledScope, UnusedLabels};
 pub use namespace_states::{ModuleInstanceState, module_instance_state};
 pub use semantic::{Semantic, SemanticBuilderReturn};
 pub use semantic_walk::{Binder, Walk};
 pub use stats::Stats;
+pub use unused_labels::{LabeledScope, UnusedLabels};

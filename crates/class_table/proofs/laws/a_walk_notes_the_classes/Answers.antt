@@ -1,4 +1,5 @@
-use Rattle.class_table.proofs.Noting.{noted_classes, unnoted}
+use Rattle.class_table.proofs.Noting.{unnoted}
+use Rattle.class_table.proofs.NotingSteps.{noted_classes}
 use Rattle.class_table.proofs.laws.a_walk_notes_the_classes.Goals as goal
 
 pub returns-clause-noted : goal.returns-clause-noted

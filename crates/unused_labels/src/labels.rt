@@ -1,8 +1,8 @@
 //! Which labels no jump names.
 
-ghost use Rattle.std.specs.Prelude.{◌≡◌, ◌<◌, [], length, OnOk, OnErr};
-ghost use Rattle.scoping.specs.Names.{name_of};
-ghost use Rattle.semantic.specs.LabelStack.{label_seen, labels_seen, no_labels, entered, jumped, left, is_of};
+ghost use Rattle.std.specs.Prelude.{◌≡◌, [], OnOk, OnErr};
+ghost use Rattle.std.specs.Str.{chars};
+ghost use Rattle.unused_labels.specs.LabelStack.{label_seen, labels_seen, no_labels, entered, jumped, left, is_of};
 
 use semantic_syntax::{Ident, NodeId};
 use std::alloc::{AllocError, Global};
@@ -30,7 +30,7 @@ impl LabeledScope<'_> {
     /// Whether the statement has the label.
     #[tactic(auto, using(semantic_tree::proofs::SameTexts::texts))]
     fn is_of(&self, name: Ident<'_>) -> bool
-        ensures { result ≡ is_of (name_of name.entry) (label_seen self.now) }
+        ensures { result ≡ is_of (chars name.entry.text.now) (label_seen self.now) }
     {
         self.name.as_str() == name.as_str()
     }
@@ -49,7 +49,7 @@ impl<'a> UnusedLabels<'a> {
 
     /// Comes to a labelled statement. After want of memory all is as before.
     pub fn add(&mut self, name: Ident<'a>, node: NodeId) -> Result<(), AllocError>
-        ensures ok { OnOk result (labels_seen self.new ≡ entered (labels_seen self.old) (name_of name.entry) node) }
+        ensures ok { OnOk result (labels_seen self.new ≡ entered (labels_seen self.old) (chars name.entry.text.now) node) }
         ensures err { OnErr result (labels_seen self.new ≡ labels_seen self.old) }
     {
         let label = LabeledScope {
@@ -65,7 +65,7 @@ impl<'a> UnusedLabels<'a> {
 
     /// A jump names the label: the innermost statement of that label, if there is one, is used.
     pub fn reference(&mut self, name: Ident<'_>)
-        ensures { labels_seen self.new ≡ jumped (labels_seen self.old) (name_of name.entry) }
+        ensures { labels_seen self.new ≡ jumped (labels_seen self.old) (chars name.entry.text.now) }
     {
         let mut place = self.stack.len();
         while place > 0 {
@@ -77,10 +77,9 @@ impl<'a> UnusedLabels<'a> {
         }
     }
 
-    /// Leaves the innermost labelled statement, and lists it if no jump names it. After want of memory all is as
-    /// before.
+    /// Leaves the innermost labelled statement, if there is one, and lists it if no jump names it. After want of memory
+    /// all is as before.
     pub fn mark_unused(&mut self) -> Result<(), AllocError>
-        requires { 0 < length self.old.stack.items }
         ensures ok { OnOk result (labels_seen self.new ≡ left (labels_seen self.old)) }
         ensures err { OnErr result (labels_seen self.new ≡ labels_seen self.old) }
     {

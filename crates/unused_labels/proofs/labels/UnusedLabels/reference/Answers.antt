@@ -1,12 +1,12 @@
 use Rattle.std.proofs.Common.{◌≡◌, ℕ, suc, ◌-◌, ◌<◌, length, map, sym, ap, ◌∙◌, arith}
-use Rattle.scoping.specs.Names.{name_of}
-use Rattle.semantic.specs.LabelStack.{label_seen, labels_seen, jumped}
-use Rattle.semantic.proofs.Innermost.{lists, unmoved, moved}
-use Rattle.semantic.proofs.labels.UnusedLabels.reference.Goals as goal
+use Rattle.std.specs.Str.{chars}
+use Rattle.unused_labels.specs.LabelStack.{label_seen, labels_seen, jumped}
+use Rattle.unused_labels.proofs.Innermost.{lists, unmoved, moved}
+use Rattle.unused_labels.proofs.labels.UnusedLabels.reference.Goals as goal
 
 pub returns-then-is_of : goal.returns-then-is_of
 returns-then-is_of c =
-    let name = name_of c.args.name in
+    let name = chars c.args.name.text.now in
     let now = c.loop-place.self in
     let items = now.stack.items in
     let place : ℕ = c.loop-place.place - 1 in
@@ -19,7 +19,7 @@ returns-then-is_of c =
 
 pub returns : goal.returns
 returns c =
-    let name = name_of c.args.name in
+    let name = chars c.args.name.text.now in
     let now = c.loop-place.self in
     let end : c.loop-place.place ≡ 0 = omega arith in
     let none = rw end at c.loop-place.invariant.none in

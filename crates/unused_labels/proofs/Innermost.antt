@@ -5,8 +5,8 @@ use Rattle.std.proofs.lemmas.List.{length-map, take-map}
 use Rattle.std.proofs.lemmas.Option.{slice_get-map}
 use Rattle.std.specs.List.{list_any}
 use Rattle.semantic_syntax.specs.Tables.{Name}
-use Rattle.semantic.specs.declared.labels.LabeledScope.{LabeledScope}
-use Rattle.semantic.specs.LabelStack.{Labelled, LabelLists, label_seen, is_of, innermost_used, if_unused, left}
+use Rattle.unused_labels.specs.declared.labels.LabeledScope.{LabeledScope}
+use Rattle.unused_labels.specs.LabelStack.{Labelled, LabelLists, label_seen, is_of, innermost_used, if_unused, left}
 
 neither : (a b : Bool) → (a || b) ≡ false → (a ≡ false) × (b ≡ false)
 neither false b h = (refl, h)

@@ -2,9 +2,9 @@
 use Rattle.std.specs.Prelude.{ℕ, ◌-◌, List, [], ◌∷◌, ◌++◌, Bool, true, false, Option, Some, None, cond, length, map, bytes_eq, take, slice_get}
 use Rattle.std.specs.List.{list_any}
 use Rattle.semantic_syntax.specs.Tables.{Name}
-use Rattle.scoping.specs.Names.{name_of}
-use Rattle.semantic.specs.declared.labels.LabeledScope.{LabeledScope}
-use Rattle.semantic.specs.declared.labels.UnusedLabels.{UnusedLabels}
+use Rattle.std.specs.Str.{chars}
+use Rattle.unused_labels.specs.declared.labels.LabeledScope.{LabeledScope}
+use Rattle.unused_labels.specs.declared.labels.UnusedLabels.{UnusedLabels}
 
 -- a labelled statement: its label, whether a jump names it, and its node
 pub record Labelled : Type 0 where
@@ -18,7 +18,7 @@ pub record LabelLists : Type 0 where
   pub unused : List ℕ
 
 abbrev pub label_seen : LabeledScope → Labelled
-label_seen l = record { name = name_of l.name; used = l.used; node = l.node_id }
+label_seen l = record { name = chars l.name.text.now; used = l.used; node = l.node_id }
 
 abbrev pub labels_seen : UnusedLabels → LabelLists
 labels_seen u = record { around = map label_seen u.stack.items; unused = u.labels.items }

@@ -1,11 +1,11 @@
 use Rattle.std.proofs.Common.{◌≡◌, ◌-◌, List, [], ◌∷◌, ◌++◌, Some, None, cond, length, take, slice_get, sym, ap, vec_len, arith, rules, ◌∙◌}
 use Rattle.std.specs.Option.{option_copied}
-use Rattle.semantic.specs.declared.labels.LabeledScope.{LabeledScope}
-use Rattle.semantic.specs.declared.labels.UnusedLabels.{UnusedLabels}
-use Rattle.semantic.specs.LabelStack.{labels_seen}
-use Rattle.semantic.proofs.Innermost.{parted}
-use Rattle.semantic.proofs.labels.UnusedLabels.mark_unused.Goals.{in-Some+then-not-label+in_ok-push, in-Some+else-not-label, in_default}
-use Rattle.semantic.proofs.labels.UnusedLabels.mark_unused.Goals as goal
+use Rattle.unused_labels.specs.declared.labels.LabeledScope.{LabeledScope}
+use Rattle.unused_labels.specs.declared.labels.UnusedLabels.{UnusedLabels}
+use Rattle.unused_labels.specs.LabelStack.{labels_seen}
+use Rattle.unused_labels.proofs.Innermost.{parted}
+use Rattle.unused_labels.proofs.labels.UnusedLabels.mark_unused.Goals.{in-Some+then-not-label+in_ok-push, in-Some+else-not-label, in_default}
+use Rattle.unused_labels.proofs.labels.UnusedLabels.mark_unused.Goals as goal
 
 pub returns-clause-ok : goal.returns-clause-ok
 returns-clause-ok c =

@@ -1,0 +1,123 @@
+-- A program has a reference for each identifier reference.
+use Rattle.std.proofs.Common.{◌≡◌, ℕ, suc, ◌+◌, List, [], ◌∷◌, ◌++◌, Option, Some, None, Bool, true, false, ◌&&◌, not, cond, length, map, filter_map, refl, ap, ◌∙◌, arith}
+use Rattle.std.specs.List.{cons_option}
+use Rattle.std.proofs.lemmas.List.{length-map}
+use Rattle.semantic_kinds.specs.declared.kind.AstType.{AstType}
+use Rattle.semantic_kinds.specs.declared.kind.AstType.TheVariants as kind
+use Rattle.semantic_kinds.specs.declared.role.Role.{Role}
+use Rattle.semantic_kinds.specs.declared.role.Role.TheVariants as role
+use Rattle.semantic_tree.specs.Children.{single}
+use Rattle.semantic_tree.specs.Forest.{Forest, nothing, tree}
+use Rattle.semantic_tree.specs.Tree.{Tree}
+use Rattle.semantic_tree.specs.declared.node.Node.{Node}
+use Rattle.semantic_model.specs.Nodes.{is, has_role}
+use Rattle.semantic_model.specs.Inside.{opens, is_inside, any_inside, header_roles, is_in_header, scopes_in}
+use Rattle.semantic_model.specs.Place.{Place, OpenScope}
+use Rattle.semantic_model.specs.ScopeKind.{opened_scope}
+use Rattle.semantic_model.specs.Cursor.{on_entering}
+use Rattle.semantic_model.specs.Step.{Step, entering, opening, header_ending, closing, leaving, scope_at, next_at, opening_at, ending_after, opening_last, child_place, cursor_past, steps_below, steps_of, root_place, steps}
+use Rattle.semantic_model.specs.Reference.{Occurrence, reference_at, references}
+use Rattle.semantic_model.specs.Event.{Event, events}
+use Rattle.semantic_model.specs.Fold.{State, start}
+use Rattle.semantic_model.specs.Hoist.{run}
+use Rattle.semantic_model.specs.Tie.{Tie, ties}
+use Rattle.semantic_model.specs.TablesOf.{entry_of, tables_of}
+use Rattle.count_laws.specs.Counted.{how_many, is_reference}
+
+-- how many references the steps enter
+abbrev entered : List Step → ℕ
+entered [] = 0
+entered (entering p ∷ ss) = cond (is_reference p.node.kind) 1 0 + entered ss
+entered (opening p s ∷ ss) = entered ss
+entered (header_ending p s ∷ ss) = entered ss
+entered (closing p s ∷ ss) = entered ss
+entered (leaving p ∷ ss) = entered ss
+
+entered_all : (ss : List Step) → length (references ss) ≡ entered ss
+entered_all [] = refl
+entered_all (entering p ∷ ss) = by (is kind.IdentifierReference p.node) (entered_all ss)
+  where
+    by : (b : Bool) → length (references ss) ≡ entered ss → length (cons_option (cond b (Some (reference_at p)) None) (references ss)) ≡ cond b 1 0 + entered ss
+    by true h = omega (arith, h)
+    by false h = omega (arith, h)
+entered_all (opening p s ∷ ss) = entered_all ss
+entered_all (header_ending p s ∷ ss) = entered_all ss
+entered_all (closing p s ∷ ss) = entered_all ss
+entered_all (leaving p ∷ ss) = entered_all ss
+
+entered_append : (xs ys : List Step) → entered (xs ++ ys) ≡ entered xs + entered ys
+entered_append [] ys = omega arith
+entered_append (entering p ∷ xs) ys = omega (arith, entered_append xs ys)
+entered_append (opening p s ∷ xs) ys = entered_append xs ys
+entered_append (header_ending p s ∷ xs) ys = entered_append xs ys
+entered_append (closing p s ∷ xs) ys = entered_append xs ys
+entered_append (leaving p ∷ xs) ys = entered_append xs ys
+
+none_opening : (p : Place) (r : Role) (own : Option OpenScope) (n : ℕ) → entered (opening_at p r own n) ≡ 0
+none_opening p r (Some s) n = refl
+none_opening p r None n = by (is_inside p.node.kind r)
+  where
+    by : (b : Bool) → entered (cond b (opening p (opened_scope p n) ∷ []) []) ≡ 0
+    by true = refl
+    by false = refl
+
+none_ending : (p : Place) (r : Role) (own : Option OpenScope) (after : Forest) → entered (ending_after p r own after) ≡ 0
+none_ending p r None after = refl
+none_ending p r (Some s) after =
+    by (is_in_header p.node.kind r && not (has_role (header_roles p.node.kind) after)) (is_inside p.node.kind r && not (any_inside p.node.kind after))
+  where
+    by : (a b : Bool) → entered (cond a (header_ending p s ∷ []) [] ++ cond b (closing p s ∷ []) []) ≡ 0
+    by true true = refl
+    by true false = refl
+    by false true = refl
+    by false false = refl
+
+none_last : (p : Place) (own : Option OpenScope) (n : ℕ) → entered (opening_last p own n) ≡ 0
+none_last p (Some s) n = refl
+none_last p None n = by (opens p.node.kind)
+  where
+    by : (b : Bool) → entered (cond b (opening p (opened_scope p n) ∷ closing p (opened_scope p n) ∷ []) []) ≡ 0
+    by true = refl
+    by false = refl
+
+entered_below : (p : Place) (own : Option OpenScope) (n cursor : ℕ) (f : Forest) → entered (steps_below p own n cursor f) ≡ how_many is_reference f
+entered_below p own n cursor nothing = none_last p own n
+entered_below p own n cursor (tree r k span text marks below id after) =
+    let node : Node = record { kind = k; span = span; text = text; marks = marks; children = below; node_id = id } in
+    let scope : Option OpenScope = scope_at p r own n in
+    let next : ℕ = next_at p r own n in
+    let child : Place = child_place p scope cursor r node in
+    let inner : List Step = steps_below child None next (on_entering k child.cursor) below in
+    let a : List Step = opening_at p r own n in
+    let b : List Step = entering child ∷ (inner ++ leaving child ∷ []) in
+    let c : List Step = ending_after p r scope after in
+    let rest : ℕ = next + cond (opens k) 1 0 + scopes_in below in
+    let d : List Step = steps_below p scope rest (cursor_past p r cursor child) after in
+    omega (
+      arith,
+      entered_append (a ++ b ++ c) d,
+      entered_append (a ++ b) c,
+      entered_append a b,
+      entered_append inner (leaving child ∷ []),
+      none_opening p r own n,
+      none_ending p r scope after,
+      entered_below child None next (on_entering k child.cursor) below,
+      entered_below p scope rest (cursor_past p r cursor child) after,
+    )
+
+ties_length : (st : State) (es : List Event) (n : ℕ) (rs : List Occurrence) → length (ties st es n rs) ≡ length rs
+ties_length st es n [] = refl
+ties_length st es n (r ∷ rs) = ap suc (ties_length st es (suc n) rs)
+
+pub references_counted : (p : Tree) → length (tables_of p).references ≡ how_many is_reference (single role.Root p.root)
+references_counted p =
+    let es : List Event = events (steps p) in
+    let below : List Step = steps_below (root_place p) None 0 (on_entering p.root.kind 0) p.root.children in
+    omega (
+      arith,
+      length-map (ties (run start es) es 0 (references (steps p))) entry_of,
+      ties_length (run start es) es 0 (references (steps p)),
+      entered_all (steps p),
+      entered_append below (leaving (root_place p) ∷ []),
+      entered_below (root_place p) None 0 (on_entering p.root.kind 0) p.root.children,
+    )

@@ -1,0 +1,4 @@
+//! How large the tables of a program are.
+#![tactic(auto)]
+
+pub mod laws;

@@ -1,0 +1,4 @@
+pub mod Innermost
+pub mod Used
+pub mod Walked
+pub mod StepsWalked

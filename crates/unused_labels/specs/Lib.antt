@@ -1,0 +1,3 @@
+pub mod LabelStack
+pub mod Labelling
+pub mod LabelSteps
