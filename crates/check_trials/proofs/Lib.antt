@@ -1,0 +1,11 @@
+pub mod Names
+pub mod Literals
+pub mod Statements
+pub mod Jumps
+pub mod Again
+pub mod Classes
+pub mod Supers
+pub mod Expressions
+pub mod Types
+pub mod Exports
+pub mod Computed

@@ -1,0 +1,28 @@
+-- When what is handed to a check shows a walk at a place.
+use Rattle.std.specs.Prelude.{◌≡◌, ℕ, List, true}
+use Rattle.semantic_kinds.specs.declared.kind.AstType.TheVariants as kind
+use Rattle.semantic_model.specs.Nodes.{is}
+use Rattle.semantic_model.specs.Place.{Place, innermost}
+use Rattle.semantic_model.specs.Ambient.{ambient_inside}
+use Rattle.walk_model.specs.Standing.{Standing}
+use Rattle.walk_model.specs.Shown.{ShowsChain}
+use Rattle.check_model.specs.Context.{Context, classes_from, uses_from, unresolved_by}
+use Rattle.check_model.specs.SightOf.{standing_in, classes_at, uses_at, elements_at}
+use Rattle.check_walk.specs.WalkSight.{unresolved_in}
+
+-- the context of a walk at a place
+pub record IsContextAt (c : Context) (source : List ℕ) (w : Standing) (p : Place) : Type 0 where
+  pub source_is : c.source ≡ source
+  pub source_type : c.source_type ≡ p.source_type
+  pub tables : c.tables ≡ w.tables
+  pub nodes : c.nodes ≡ w.nodes
+  pub path : c.path ≡ p.path
+  pub current : c.current_scope ≡ (innermost (standing_in p)).number
+  pub is_ambient : c.is_ambient ≡ ambient_inside p.node p.is_ambient
+  -- the scopes of the place have rows in the tables
+  pub chain_shown : ShowsChain w.tables (standing_in p)
+  -- the classes: on leaving a class it is still the current one; all are there when the program is left
+  pub classes : classes_from c.classes c.current_class ≡ classes_at p.node p.path
+  pub uses : is kind.Class p.node ≡ true → uses_from c.classes c.current_class ≡ uses_at p.node
+  pub references : is kind.Program p.node ≡ true → unresolved_by w.nodes w.tables ≡ unresolved_in w.tables
+  pub elements : is kind.Program p.node ≡ true → c.classes.elements ≡ elements_at p.node
