@@ -1,0 +1,4 @@
+pub mod Numbers
+pub mod Few
+pub mod Graphs
+pub mod Bounded
