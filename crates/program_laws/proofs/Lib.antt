@@ -1,0 +1,9 @@
+pub mod Children
+pub mod CursorMarks
+pub mod ScopeMarks
+pub mod StepMarks
+pub mod NameMarks
+pub mod NamespaceMarks
+pub mod DeclarationMarks
+pub mod EventMarks
+pub mod TableMarks

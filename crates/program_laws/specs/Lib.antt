@@ -1,0 +1,3 @@
+pub mod Remarked
+pub mod ReadMarks
+pub mod SameAnalysis
