@@ -7,3 +7,8 @@ pub mod NamespaceMarks
 pub mod DeclarationMarks
 pub mod EventMarks
 pub mod TableMarks
+pub mod TiedNames
+pub mod TreeNodes
+pub mod Walked
+pub mod DeclaredNodes
+pub mod NodeNames
