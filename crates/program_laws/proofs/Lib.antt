@@ -1,0 +1,14 @@
+pub mod Children
+pub mod CursorMarks
+pub mod ScopeMarks
+pub mod StepMarks
+pub mod NameMarks
+pub mod NamespaceMarks
+pub mod DeclarationMarks
+pub mod EventMarks
+pub mod TableMarks
+pub mod TiedNames
+pub mod TreeNodes
+pub mod Walked
+pub mod DeclaredNodes
+pub mod NodeNames

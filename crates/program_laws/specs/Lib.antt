@@ -1,0 +1,4 @@
+pub mod Remarked
+pub mod ReadMarks
+pub mod SameAnalysis
+pub mod SymbolNames

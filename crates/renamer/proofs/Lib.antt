@@ -1,0 +1,11 @@
+pub mod NameShape
+pub mod Differences
+pub mod Swaps
+pub mod Entered
+pub mod NamedNodes
+pub mod AloneNames
+pub mod Completeness
+pub mod Rising
+pub mod Refusals
+pub mod Programs
+pub mod Rows

@@ -1,0 +1,117 @@
+-- The nodes of a numbered program are entered in the order of their ids.
+use Rattle.std.proofs.Common.{◌≡◌, ℕ, ◌+◌, ◌≤◌, List, [], ◌∷◌, ◌++◌, Option, Some, None, cond, Bool, true, false, not, ◌&&◌, inl, inr, ap, subst, arith}
+use Rattle.semantic_kinds.specs.declared.kind.AstType.{AstType}
+use Rattle.semantic_kinds.specs.declared.marks.Marks.{Marks}
+use Rattle.semantic_kinds.specs.declared.role.Role.{Role}
+use Rattle.semantic_syntax.specs.declared.spans.Span.{Span}
+use Rattle.semantic_tree.specs.Forest.{Forest, nothing, tree, count, numbered}
+use Rattle.semantic_tree.specs.Tree.{Tree, IsNumbered}
+use Rattle.semantic_tree.specs.declared.node.Node.{Node}
+use Rattle.semantic_model.specs.Cursor.{on_entering}
+use Rattle.semantic_model.specs.Entries.{Among}
+use Rattle.semantic_model.specs.Inside.{opens, is_inside, any_inside, header_roles, is_in_header, scopes_in}
+use Rattle.semantic_model.specs.Nodes.{has_role}
+use Rattle.semantic_model.specs.Place.{Place, OpenScope}
+use Rattle.semantic_model.specs.ScopeKind.{opened_scope}
+use Rattle.semantic_model.specs.Step.{Step, entering, opening, header_ending, closing, leaving, steps_below, steps, opening_at, ending_after, opening_last, scope_at, next_at, child_place, cursor_past, root_place}
+
+-- the ids of the nodes that are entered rise from the first number, and stay below the second
+abbrev pub Rises : ℕ → ℕ → List Step → Type 0
+Rises low high [] = low ≤ high
+Rises low high (entering p ∷ ss) = (low ≤ p.node.node_id) × Rises (p.node.node_id + 1) high ss
+Rises low high (opening p s ∷ ss) = Rises low high ss
+Rises low high (header_ending p s ∷ ss) = Rises low high ss
+Rises low high (closing p s ∷ ss) = Rises low high ss
+Rises low high (leaving p ∷ ss) = Rises low high ss
+
+lower : (low low' high : ℕ) (ss : List Step) → low' ≤ low → Rises low high ss → Rises low' high ss
+lower low low' high [] l h = omega (arith, l, h)
+lower low low' high (entering p ∷ ss) l h = (let k : low ≤ p.node.node_id = h.0 in omega (arith, l, k), h.1)
+lower low low' high (opening p s ∷ ss) l h = lower low low' high ss l h
+lower low low' high (header_ending p s ∷ ss) l h = lower low low' high ss l h
+lower low low' high (closing p s ∷ ss) l h = lower low low' high ss l h
+lower low low' high (leaving p ∷ ss) l h = lower low low' high ss l h
+
+append : (low mid high : ℕ) (xs ys : List Step) → Rises low mid xs → Rises mid high ys → Rises low high (xs ++ ys)
+append low mid high [] ys h k = lower mid low high ys h k
+append low mid high (entering p ∷ xs) ys h k = (h.0, append (p.node.node_id + 1) mid high xs ys h.1 k)
+append low mid high (opening p s ∷ xs) ys h k = append low mid high xs ys h k
+append low mid high (header_ending p s ∷ xs) ys h k = append low mid high xs ys h k
+append low mid high (closing p s ∷ xs) ys h k = append low mid high xs ys h k
+append low mid high (leaving p ∷ xs) ys h k = append low mid high xs ys h k
+
+opening_rises : (p : Place) (r : Role) (own : Option OpenScope) (n low : ℕ) → Rises low low (opening_at p r own n)
+opening_rises p r (Some s) n low = omega arith
+opening_rises p r None n low = go (is_inside p.node.kind r)
+  where
+    go : (b : Bool) → Rises low low (cond b (opening p (opened_scope p n) ∷ []) [])
+    go true = omega arith
+    go false = omega arith
+
+last_rises : (p : Place) (own : Option OpenScope) (n low : ℕ) → Rises low low (opening_last p own n)
+last_rises p (Some s) n low = omega arith
+last_rises p None n low = go (opens p.node.kind)
+  where
+    go : (b : Bool) → Rises low low (cond b (opening p (opened_scope p n) ∷ closing p (opened_scope p n) ∷ []) [])
+    go true = omega arith
+    go false = omega arith
+
+ending_rises : (p : Place) (r : Role) (own : Option OpenScope) (after : Forest) (low : ℕ) → Rises low low (ending_after p r own after)
+ending_rises p r None after low = omega arith
+ending_rises p r (Some s) after low = go (is_in_header p.node.kind r && not (has_role (header_roles p.node.kind) after)) (is_inside p.node.kind r && not (any_inside p.node.kind after))
+  where
+    go : (x y : Bool) → Rises low low (cond x (header_ending p s ∷ []) [] ++ cond y (closing p s ∷ []) [])
+    go true true = omega arith
+    go true false = omega arith
+    go false true = omega arith
+    go false false = omega arith
+
+below_same : {role : Role} {kind : AstType} {span : Span} {text : List ℕ} {marks : Marks} {b b' : Forest} {n n' : ℕ} {a a' : Forest} → tree role kind span text marks b n a ≡ tree role kind span text marks b' n' a' → (b ≡ b') × (n ≡ n') × (a ≡ a')
+below_same h = (cc, cc, cc)
+
+below_rises : (m : ℕ) (p : Place) (own : Option OpenScope) (n cursor : ℕ) (g : Forest) → numbered m g ≡ g → Rises m (m + count g) (steps_below p own n cursor g)
+below_rises m p own n cursor nothing h = subst (λ k. Rises m k (opening_last p own n)) (omega arith) (last_rises p own n m)
+below_rises m p own n cursor (tree r k span text marks below id after) h =
+    let (inner, is, rest) = below_same h in
+    let node : Node = record { kind = k; span = span; text = text; marks = marks; children = below; node_id = id } in
+    let scope : Option OpenScope = scope_at p r own n in
+    let next : ℕ = next_at p r own n in
+    let child : Place = child_place p scope cursor r node in
+    let ys : List Step = steps_below child None next (on_entering k child.cursor) below in
+    let middle : List Step = entering child ∷ (ys ++ leaving child ∷ []) in
+    let mid : ℕ = m + 1 + count below in
+    let xs_rise : Rises m m (opening_at p r own n) = opening_rises p r own n m in
+    let ys_rise : Rises (id + 1) mid ys = subst (λ i. Rises (i + 1) mid ys) is (below_rises (m + 1) child None next (on_entering k child.cursor) below inner) in
+    let middle_rise : Rises m mid middle = (omega (arith, is), append (id + 1) mid mid ys (leaving child ∷ []) ys_rise (omega arith)) in
+    let es_rise : Rises mid mid (ending_after p r scope after) = ending_rises p r scope after mid in
+    let ws : List Step = steps_below p scope (next + cond (opens k) 1 0 + scopes_in below) (cursor_past p r cursor child) after in
+    let ws_rise : Rises mid (mid + count after) ws = below_rises mid p scope (next + cond (opens k) 1 0 + scopes_in below) (cursor_past p r cursor child) after rest in
+    subst (λ i. Rises m i (opening_at p r own n ++ middle ++ ending_after p r scope after ++ ws)) (omega arith)
+    (append m mid (mid + count after) (opening_at p r own n ++ middle ++ ending_after p r scope after) ws
+    (append m mid mid (opening_at p r own n ++ middle) (ending_after p r scope after) (append m m mid (opening_at p r own n) middle xs_rise middle_rise) es_rise) ws_rise)
+
+pub steps_rise : (p : Tree) → IsNumbered p.root → Rises 0 (1 + count p.root.children) (steps p)
+steps_rise p h =
+    let root : Place = root_place p in
+    let first : 0 ≡ p.root.node_id = ap (λ n. n.node_id) h in
+    let below : List Step = steps_below root None 0 (on_entering p.root.kind 0) p.root.children in
+    let rise : Rises 1 (1 + count p.root.children) below = below_rises 1 root None 0 (on_entering p.root.kind 0) p.root.children (ap (λ n. n.children) h) in
+    (omega arith, append (p.root.node_id + 1) (1 + count p.root.children) (1 + count p.root.children) below (leaving root ∷ []) (lower 1 (p.root.node_id + 1) (1 + count p.root.children) below (omega (arith, first)) rise) (omega arith))
+
+-- what is entered later has at least the first number
+pub at_least : (low high : ℕ) (ss : List Step) → Rises low high ss → (p : Place) → Among (entering p) ss → low ≤ p.node.node_id
+at_least low high [] h p a = absurd a
+at_least low high (entering q ∷ ss) h p (inl e) = subst (λ i. low ≤ i) (ap (λ s. id_at s) e) h.0
+  where
+    id_at : Step → ℕ
+    id_at (entering x) = x.node.node_id
+    id_at _ = 0
+at_least low high (entering q ∷ ss) h p (inr a) = let k : low ≤ q.node.node_id = h.0 in let l : q.node.node_id + 1 ≤ p.node.node_id = at_least (q.node.node_id + 1) high ss h.1 p a in omega (arith, k, l)
+at_least low high (opening q s ∷ ss) h p (inl e) = absurd cc
+at_least low high (opening q s ∷ ss) h p (inr a) = at_least low high ss h p a
+at_least low high (header_ending q s ∷ ss) h p (inl e) = absurd cc
+at_least low high (header_ending q s ∷ ss) h p (inr a) = at_least low high ss h p a
+at_least low high (closing q s ∷ ss) h p (inl e) = absurd cc
+at_least low high (closing q s ∷ ss) h p (inr a) = at_least low high ss h p a
+at_least low high (leaving q ∷ ss) h p (inl e) = absurd cc
+at_least low high (leaving q ∷ ss) h p (inr a) = at_least low high ss h p a
