@@ -1,5 +1,5 @@
 -- References that wait, in tables that grow.
-use Rattle.std.proofs.Common.{◌≡◌, ℕ, zero, suc, ◌<◌, ◌≤◌, List, [], ◌∷◌, ◌++◌, length, take, drop, map, Option, Some, None, IfSome, All, arith, get_or, Result, Ok, Err, IfOk, subst, sym, refl, ap, slice_get, slice_index_or}
+use Rattle.std.proofs.Common.{◌≡◌, ℕ, zero, suc, ◌<◌, List, [], ◌∷◌, ◌++◌, length, take, drop, map, Some, None, All, arith, get_or, Result, Ok, Err, IfOk, subst, sym, refl, ap, slice_get, slice_index_or}
 use Rattle.std.proofs.lemmas.List.Elements.{All-nil, All-cons, All-head, All-tail, All-map}
 use Rattle.scoping.specs.Source.{Source, IsSource}
 use Rattle.resolver.specs.Settling.{header_outcome, last_outcome}
@@ -10,9 +10,8 @@ use Rattle.resolver.specs.declared.outcomes.Outcome.TheVariants.{Tied, Free, Pen
 use Rattle.resolver.specs.declared.pending.UnresolvedReference.{UnresolvedReference}
 use Rattle.resolver.specs.Staying.{staying as staying_of}
 use Rattle.semantic_model.specs.Outcome.{Pending as Waiting}
-use Rattle.walk_model.specs.Standing.{Standing}
 use Rattle.walk_model.specs.Settles.{staying}
-use Rattle.table_building.specs.Growth.{Grows, Goes}
+use Rattle.table_building.specs.Growth.{Grows}
 use Rattle.table_building.specs.Made.{pending_of}
 use Rattle.table_building.specs.Settled.{IsOutcomeWithin, outcome_of, no_pending}
 use Rattle.table_building.specs.Waiting.{AreWaiting}
