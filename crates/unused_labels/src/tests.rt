@@ -6,11 +6,11 @@ use std::alloc::{AllocError, Global};
 use std::test::Fail;
 
 /// A statement of the kind with the label.
-fn labelled(alloc: Global, kind: AstType, label: &str, id: u32) -> Result<Node, AllocError> {
+fn labelled(alloc: Global, kind: AstType, label: &str, id: NodeId) -> Result<Node, AllocError> {
     let span = Span::new(0, 1);
     let label = Node::new(alloc, AstType::LabelIdentifier, span, label, Marks::empty())?;
     let mut node = Node::new(alloc, kind, span, "", Marks::empty())?;
-    node.node_id = NodeId::new(id);
+    node.node_id = id;
     match node.push(Role::Label, label) {
         Ok(()) => Ok(node),
         Err(_) => Err(AllocError),
@@ -32,10 +32,10 @@ fn a_stack_by_hand(rt: HostRuntime) -> Result<(), Fail> {
 #[test]
 fn a_jump_uses_the_innermost_label_of_its_name(rt: HostRuntime) -> Result<(), Fail> {
     let alloc = rt.alloc();
-    let outer = labelled(alloc, AstType::LabeledStatement, "a", 1)?;
-    let inner = labelled(alloc, AstType::LabeledStatement, "a", 2)?;
-    let other = labelled(alloc, AstType::LabeledStatement, "b", 3)?;
-    let jump = labelled(alloc, AstType::ContinueStatement, "a", 4)?;
+    let outer = labelled(alloc, AstType::LabeledStatement, "a", NodeId::new(1))?;
+    let inner = labelled(alloc, AstType::LabeledStatement, "a", NodeId::new(2))?;
+    let other = labelled(alloc, AstType::LabeledStatement, "b", NodeId::new(3))?;
+    let jump = labelled(alloc, AstType::ContinueStatement, "a", NodeId::new(4))?;
     let kinds = [&outer, &inner, &other, &jump];
     let mut labels = UnusedLabels::new(alloc);
     for node in kinds {
