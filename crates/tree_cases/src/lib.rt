@@ -2,6 +2,8 @@
 #![tactic(auto)]
 
 #[cfg(test)]
+mod script;
+#[cfg(test)]
 mod syntax;
 #[cfg(test)]
 mod tree;
