@@ -4,6 +4,8 @@
 #[cfg(test)]
 mod reading;
 #[cfg(test)]
+mod script;
+#[cfg(test)]
 mod syntax;
 #[cfg(test)]
 mod tree;
