@@ -20,51 +20,53 @@ use Rattle.semantic_model.specs.Namespace.{InstanceState, non_instantiated, cons
 use Rattle.semantic_model.specs.Nodes.{is, has, is_with_text, children_of}
 use Rattle.semantic_model.specs.Place.{Place, OpenScope, innermost, is_strict, parent_holds}
 use Rattle.program_laws.specs.ReadMarks.{KeepsRead}
-use Rattle.program_laws.proofs.Children.{map_append, re, children_re, child_holds}
-use Rattle.program_laws.proofs.NameMarks.{bound_re, names_re, simple_re}
-use Rattle.program_laws.proofs.NamespaceMarks.{state_re}
-use Rattle.program_laws.proofs.ScopeMarks.{re_place}
+use Rattle.program_laws.proofs.Children.{children_same, child_holds}
+use Rattle.program_laws.proofs.NameMarks.{bound_same, names_same, simple_same}
+use Rattle.program_laws.proofs.NamespaceMarks.{state_same}
+use Rattle.program_laws.proofs.ScopeMarks.{remarked_place}
+use Rattle.semantic_model.proofs.Alike.{map_append}
+use Rattle.program_laws.specs.Remarked.{remarked_node}
 
 module _ (f : Node → Marks) where
   -- names that are declared at a node
-  pub rows_re : (node : Node) (row : Row) (is_pure : Bool) (xs : List Node) → map (declare (re f node) row is_pure) (map (re f) xs) ≡ map (declare node row is_pure) xs
-  rows_re node row is_pure [] = refl
-  rows_re node row is_pure (x ∷ xs) = ap (λ ds. declare node row is_pure x ∷ ds) (rows_re node row is_pure xs)
+  pub rows_same : (node : Node) (row : Row) (is_pure : Bool) (xs : List Node) → map (declare (remarked_node f node) row is_pure) (map (remarked_node f) xs) ≡ map (declare node row is_pure) xs
+  rows_same node row is_pure [] = refl
+  rows_same node row is_pure (x ∷ xs) = ap (λ ds. declare node row is_pure x ∷ ds) (rows_same node row is_pure xs)
 
-  pub at_role : (r : Role) (node : Node) (row : Row) (is_pure : Bool) → map (declare (re f node) row is_pure) (names_at r (re f node)) ≡ map (declare node row is_pure) (names_at r node)
-  at_role r node row is_pure = ap (map (declare (re f node) row is_pure)) (names_re f r node) ∙ rows_re node row is_pure (names_at r node)
+  pub at_role : (r : Role) (node : Node) (row : Row) (is_pure : Bool) → map (declare (remarked_node f node) row is_pure) (names_at r (remarked_node f node)) ≡ map (declare node row is_pure) (names_at r node)
+  at_role r node row is_pure = ap (map (declare (remarked_node f node) row is_pure)) (names_same f r node) ∙ rows_same node row is_pure (names_at r node)
 
-  bound_rows : (node : Node) (row : Row) (is_pure : Bool) → map (declare (re f node) row is_pure) (bound_names (re f node)) ≡ map (declare node row is_pure) (bound_names node)
-  bound_rows node row is_pure = ap (map (declare (re f node) row is_pure)) (bound_re f node) ∙ rows_re node row is_pure (bound_names node)
+  bound_rows : (node : Node) (row : Row) (is_pure : Bool) → map (declare (remarked_node f node) row is_pure) (bound_names (remarked_node f node)) ≡ map (declare node row is_pure) (bound_names node)
+  bound_rows node row is_pure = ap (map (declare (remarked_node f node) row is_pure)) (bound_same f node) ∙ rows_same node row is_pure (bound_names node)
 
   abbrev here_row : Place → ℕ → ℕ → Row
   here_row p flags excluded = record { flags = flags; excluded = excluded; how = plain; route = here p.chain }
 
   -- a test of the parent
-  parent_re : (test : Node → Bool) → ((n : Node) → test (re f n) ≡ test n) → (path : List Node) → parent_holds test (map (re f) path) ≡ parent_holds test path
-  parent_re test same [] = refl
-  parent_re test same (x ∷ xs) = same x
+  parent_same : (test : Node → Bool) → ((n : Node) → test (remarked_node f n) ≡ test n) → (path : List Node) → parent_holds test (map (remarked_node f) path) ≡ parent_holds test path
+  parent_same test same [] = refl
+  parent_same test same (x ∷ xs) = same x
 
-  pub parent_kind : (k : AstType) (path : List Node) → parent_holds (is k) (map (re f) path) ≡ parent_holds (is k) path
-  parent_kind k path = parent_re (is k) (λ n. refl) path
+  pub parent_kind : (k : AstType) (path : List Node) → parent_holds (is k) (map (remarked_node f) path) ≡ parent_holds (is k) path
+  parent_kind k path = parent_same (is k) (λ n. refl) path
 
   -- a parameter
   excluded_by : Bool → Bool → Bool → Bool → ℕ
   excluded_by a u s l = if a || u || s || not l then union symbol.FunctionScopedVariableExcludes.bits symbol.FunctionScopedVariable.bits else symbol.FunctionScopedVariableExcludes.bits
 
-  parameter_re : (x : Node) (chain : List OpenScope) → parameter_excluded (re f x) chain ≡ parameter_excluded x chain
+  parameter_same : (x : Node) (chain : List OpenScope) → parameter_excluded (remarked_node f x) chain ≡ parameter_excluded x chain
   unfolding excluded_by
-  parameter_re x chain = ap (excluded_by (is_with_text kind.FormalParameters (codes "arrow") x) (is_with_text kind.FormalParameters (codes "unique") x) (is_strict chain)) (simple_re f x)
+  parameter_same x chain = ap (excluded_by (is_with_text kind.FormalParameters (codes "arrow") x) (is_with_text kind.FormalParameters (codes "unique") x) (is_strict chain)) (simple_same f x)
 
-  parameters_re : (p : Place) (path : List Node) → parameters_under (map (re f) path) (re_place f p) ≡ parameters_under path p
-  parameters_re p [] = refl
-  parameters_re p (x ∷ xs) =
-      ap (λ n. declare_here (re_place f p) symbol.FunctionScopedVariable.bits n (bound_names (re f p.node))) (parameter_re x p.chain)
+  parameters_same : (p : Place) (path : List Node) → parameters_under (map (remarked_node f) path) (remarked_place f p) ≡ parameters_under path p
+  parameters_same p [] = refl
+  parameters_same p (x ∷ xs) =
+      ap (λ n. declare_here (remarked_place f p) symbol.FunctionScopedVariable.bits n (bound_names (remarked_node f p.node))) (parameter_same x p.chain)
       ∙ bound_rows p.node (here_row p symbol.FunctionScopedVariable.bits (parameter_excluded x p.chain)) false
 
   -- the names of a catch clause
-  catch_re : (p : Place) (x : Node) → catch_names (re_place f p) (re f x) ≡ catch_names p x
-  catch_re p x = go (is kind.BindingIdentifier x)
+  catch_same : (p : Place) (x : Node) → catch_names (remarked_place f p) (remarked_node f x) ≡ catch_names p x
+  catch_same p x = go (is kind.BindingIdentifier x)
     where
       row : Row
       row = record { flags = union symbol.FunctionScopedVariable.bits symbol.CatchVariable.bits; excluded = 0; how = caught; route = here p.chain }
@@ -72,66 +74,66 @@ module _ (f : Node → Marks) where
       flags : ℕ
       flags = union symbol.BlockScopedVariable.bits symbol.CatchVariable.bits
 
-      go : (b : Bool) → (if b then declare (re f p.node) (record { flags = union symbol.FunctionScopedVariable.bits symbol.CatchVariable.bits; excluded = 0; how = caught; route = here p.chain }) false (re f x) ∷ [] else declare_here (re_place f p) (union symbol.BlockScopedVariable.bits symbol.CatchVariable.bits) symbol.BlockScopedVariableExcludes.bits (bound_names (re f x))) ≡ (if b then declare p.node (record { flags = union symbol.FunctionScopedVariable.bits symbol.CatchVariable.bits; excluded = 0; how = caught; route = here p.chain }) false x ∷ [] else declare_here p (union symbol.BlockScopedVariable.bits symbol.CatchVariable.bits) symbol.BlockScopedVariableExcludes.bits (bound_names x))
+      go : (b : Bool) → (if b then declare (remarked_node f p.node) (record { flags = union symbol.FunctionScopedVariable.bits symbol.CatchVariable.bits; excluded = 0; how = caught; route = here p.chain }) false (remarked_node f x) ∷ [] else declare_here (remarked_place f p) (union symbol.BlockScopedVariable.bits symbol.CatchVariable.bits) symbol.BlockScopedVariableExcludes.bits (bound_names (remarked_node f x))) ≡ (if b then declare p.node (record { flags = union symbol.FunctionScopedVariable.bits symbol.CatchVariable.bits; excluded = 0; how = caught; route = here p.chain }) false x ∷ [] else declare_here p (union symbol.BlockScopedVariable.bits symbol.CatchVariable.bits) symbol.BlockScopedVariableExcludes.bits (bound_names x))
       go true = refl
-      go false = ap (declare_here (re_place f p) (union symbol.BlockScopedVariable.bits symbol.CatchVariable.bits) symbol.BlockScopedVariableExcludes.bits) (bound_re f x) ∙ rows_re p.node (here_row p (union symbol.BlockScopedVariable.bits symbol.CatchVariable.bits) symbol.BlockScopedVariableExcludes.bits) false (bound_names x)
+      go false = ap (declare_here (remarked_place f p) (union symbol.BlockScopedVariable.bits symbol.CatchVariable.bits) symbol.BlockScopedVariableExcludes.bits) (bound_same f x) ∙ rows_same p.node (here_row p (union symbol.BlockScopedVariable.bits symbol.CatchVariable.bits) symbol.BlockScopedVariableExcludes.bits) false (bound_names x)
 
-  catches_re : (p : Place) (xs : List Node) → flat_map (catch_names (re_place f p)) (map (re f) xs) ≡ flat_map (catch_names p) xs
-  catches_re p [] = refl
-  catches_re p (x ∷ xs) = λ i. catch_re p x i ++ catches_re p xs i
+  catches_same : (p : Place) (xs : List Node) → flat_map (catch_names (remarked_place f p)) (map (remarked_node f) xs) ≡ flat_map (catch_names p) xs
+  catches_same p [] = refl
+  catches_same p (x ∷ xs) = λ i. catch_same p x i ++ catches_same p xs i
 
   -- the members of an enum
-  named_re : (member id : Node) (xs : List Node) → map (named_member (re f member) (re f id)) (map (re f) xs) ≡ map (λ name. record (re f member) { text = name.text; span = id.span }) xs
-  named_re member id [] = refl
-  named_re member id (x ∷ xs) = ap (λ ns. record (re f member) { text = x.text; span = id.span } ∷ ns) (named_re member id xs)
+  named_same : (member id : Node) (xs : List Node) → map (named_member (remarked_node f member) (remarked_node f id)) (map (remarked_node f) xs) ≡ map (λ name. record (remarked_node f member) { text = name.text; span = id.span }) xs
+  named_same member id [] = refl
+  named_same member id (x ∷ xs) = ap (λ ns. record (remarked_node f member) { text = x.text; span = id.span } ∷ ns) (named_same member id xs)
 
-  pieces_re : (xs : List Node) → filter (is kind.TemplateElement) (map (re f) xs) ≡ map (re f) (filter (is kind.TemplateElement) xs)
-  pieces_re [] = refl
-  pieces_re (x ∷ xs) = go (is kind.TemplateElement x) (pieces_re xs)
+  pieces_same : (xs : List Node) → filter (is kind.TemplateElement) (map (remarked_node f) xs) ≡ map (remarked_node f) (filter (is kind.TemplateElement) xs)
+  pieces_same [] = refl
+  pieces_same (x ∷ xs) = go (is kind.TemplateElement x) (pieces_same xs)
     where
-      go : (b : Bool) → filter (is kind.TemplateElement) (map (re f) xs) ≡ map (re f) (filter (is kind.TemplateElement) xs) → cond b (re f x ∷ filter (is kind.TemplateElement) (map (re f) xs)) (filter (is kind.TemplateElement) (map (re f) xs)) ≡ map (re f) (cond b (x ∷ filter (is kind.TemplateElement) xs) (filter (is kind.TemplateElement) xs))
-      go true h = ap (λ ns. re f x ∷ ns) h
+      go : (b : Bool) → filter (is kind.TemplateElement) (map (remarked_node f) xs) ≡ map (remarked_node f) (filter (is kind.TemplateElement) xs) → cond b (remarked_node f x ∷ filter (is kind.TemplateElement) (map (remarked_node f) xs)) (filter (is kind.TemplateElement) (map (remarked_node f) xs)) ≡ map (remarked_node f) (cond b (x ∷ filter (is kind.TemplateElement) xs) (filter (is kind.TemplateElement) xs))
+      go true h = ap (λ ns. remarked_node f x ∷ ns) h
       go false h = h
 
-  member_names_re : (id : Node) → member_names (re f id) ≡ map (re f) (member_names id)
-  member_names_re id = go (holds_kind (kind.IdentifierName ∷ kind.StringLiteral ∷ []) id.kind) (is kind.TemplateLiteral id)
+  member_names_same : (id : Node) → member_names (remarked_node f id) ≡ map (remarked_node f) (member_names id)
+  member_names_same id = go (holds_kind (kind.IdentifierName ∷ kind.StringLiteral ∷ []) id.kind) (is kind.TemplateLiteral id)
     where
-      go : (x y : Bool) → cond x (re f id ∷ []) (cond y (filter (is kind.TemplateElement) (children_of role.Quasis (re f id).children)) []) ≡ map (re f) (cond x (id ∷ []) (cond y (filter (is kind.TemplateElement) (children_of role.Quasis id.children)) []))
+      go : (x y : Bool) → cond x (remarked_node f id ∷ []) (cond y (filter (is kind.TemplateElement) (children_of role.Quasis (remarked_node f id).children)) []) ≡ map (remarked_node f) (cond x (id ∷ []) (cond y (filter (is kind.TemplateElement) (children_of role.Quasis id.children)) []))
       go true y = refl
-      go false true = ap (filter (is kind.TemplateElement)) (children_re f role.Quasis id.children) ∙ pieces_re (children_of role.Quasis id.children)
+      go false true = ap (filter (is kind.TemplateElement)) (children_same f role.Quasis id.children) ∙ pieces_same (children_of role.Quasis id.children)
       go false false = refl
 
-  member_rows : (member id : Node) (row : Row) (xs : List Node) → map (declare (re f member) row false) (map (named_member (re f member) (re f id)) (map (re f) xs)) ≡ map (declare member row false) (map (named_member member id) xs)
+  member_rows : (member id : Node) (row : Row) (xs : List Node) → map (declare (remarked_node f member) row false) (map (named_member (remarked_node f member) (remarked_node f id)) (map (remarked_node f) xs)) ≡ map (declare member row false) (map (named_member member id) xs)
   member_rows member id row [] = refl
   member_rows member id row (x ∷ xs) = ap (λ ds. declare member row false (named_member member id x) ∷ ds) (member_rows member id row xs)
 
-  all_members : (member : Node) (row : Row) (xs : List Node) → map (declare (re f member) row false) (flat_map (member_named (re f member)) (map (re f) xs)) ≡ map (declare member row false) (flat_map (member_named member) xs)
+  all_members : (member : Node) (row : Row) (xs : List Node) → map (declare (remarked_node f member) row false) (flat_map (member_named (remarked_node f member)) (map (remarked_node f) xs)) ≡ map (declare member row false) (flat_map (member_named member) xs)
   all_members member row [] = refl
   all_members member row (x ∷ xs) =
-      map_append (declare (re f member) row false) (member_named (re f member) (re f x)) (flat_map (member_named (re f member)) (map (re f) xs))
-      ∙ (λ i. (ap (λ ns. map (declare (re f member) row false) (map (named_member (re f member) (re f x)) ns)) (member_names_re x) ∙ member_rows member x row (member_names x)) i ++ all_members member row xs i)
+      map_append (declare (remarked_node f member) row false) (member_named (remarked_node f member) (remarked_node f x)) (flat_map (member_named (remarked_node f member)) (map (remarked_node f) xs))
+      ∙ (λ i. (ap (λ ns. map (declare (remarked_node f member) row false) (map (named_member (remarked_node f member) (remarked_node f x)) ns)) (member_names_same x) ∙ member_rows member x row (member_names x)) i ++ all_members member row xs i)
       ∙ sym (map_append (declare member row false) (member_named member x) (flat_map (member_named member) xs))
 
-  members_re : (p : Place) → members (re_place f p) ≡ members p
-  members_re p =
+  members_same : (p : Place) → members (remarked_place f p) ≡ members p
+  members_same p =
       let row : Row = here_row p symbol.EnumMember.bits symbol.EnumMemberExcludes.bits in
-      ap (λ ns. map (declare (re f p.node) row false) (flat_map (member_named (re f p.node)) ns)) (children_re f role.Id p.node.children)
+      ap (λ ns. map (declare (remarked_node f p.node) row false) (flat_map (member_named (remarked_node f p.node)) ns)) (children_same f role.Id p.node.children)
       ∙ all_members p.node row (children_of role.Id p.node.children)
 
   module _ (keeps : KeepsRead f) where
-    ambient_re : (node : Node) → marked_ambient (re f node) ≡ marked_ambient node
-    ambient_re node = ap ambient_if (keeps node mark.Declare refl)
+    ambient_same : (node : Node) → marked_ambient (remarked_node f node) ≡ marked_ambient node
+    ambient_same node = ap ambient_if (keeps node mark.Declare refl)
 
     -- names declared here with flags of the node
-    flagged : (r : Role) (p : Place) (flags flags' excluded : ℕ) → flags' ≡ flags → declare_here (re_place f p) flags' excluded (names_at r (re f p.node)) ≡ declare_here p flags excluded (names_at r p.node)
-    flagged r p flags flags' excluded e = ap (λ n. declare_here (re_place f p) n excluded (names_at r (re f p.node))) e ∙ at_role r p.node (here_row p flags excluded) false
+    flagged : (r : Role) (p : Place) (flags flags' excluded : ℕ) → flags' ≡ flags → declare_here (remarked_place f p) flags' excluded (names_at r (remarked_node f p.node)) ≡ declare_here p flags excluded (names_at r p.node)
+    flagged r p flags flags' excluded e = ap (λ n. declare_here (remarked_place f p) n excluded (names_at r (remarked_node f p.node))) e ∙ at_role r p.node (here_row p flags excluded) false
 
     -- a function or arrow without side effects
-    pure_function_re : (node : Node) → is_pure_function (re f node) ≡ is_pure_function node
-    pure_function_re node = ap (λ b. holds_kind (kind.Function ∷ kind.ArrowFunctionExpression ∷ []) node.kind && b) (keeps node mark.Pure refl)
+    pure_function_same : (node : Node) → is_pure_function (remarked_node f node) ≡ is_pure_function node
+    pure_function_same node = ap (λ b. holds_kind (kind.Function ∷ kind.ArrowFunctionExpression ∷ []) node.kind && b) (keeps node mark.Pure refl)
 
-    pure_re : (node : Node) → is_pure_declarator (re f node) ≡ is_pure_declarator node
-    pure_re node = λ i. child_holds f role.Id (is kind.BindingIdentifier) (λ n. refl) node i && child_holds f role.Init is_pure_function pure_function_re node i
+    pure_same : (node : Node) → is_pure_declarator (remarked_node f node) ≡ is_pure_declarator node
+    pure_same node = λ i. child_holds f role.Id (is kind.BindingIdentifier) (λ n. refl) node i && child_holds f role.Init is_pure_function pure_function_same node i
 
     -- a variable
     variable_by : Node → List OpenScope → ℕ → Row
@@ -140,22 +142,22 @@ module _ (f : Node → Marks) where
         then record { flags = union symbol.FunctionScopedVariable.bits ambient; excluded = symbol.FunctionScopedVariableExcludes.bits; how = hoisted; route = outward_to is_var chain }
         else record { flags = union (lexical_flags x) ambient; excluded = symbol.BlockScopedVariableExcludes.bits; how = plain; route = here chain }
 
-    variable_re : (x : Node) (chain : List OpenScope) → variable_row (re f x) chain ≡ variable_row x chain
+    variable_same : (x : Node) (chain : List OpenScope) → variable_row (remarked_node f x) chain ≡ variable_row x chain
     unfolding variable_by
-    variable_re x chain = ap (variable_by x chain) (ambient_re x)
+    variable_same x chain = ap (variable_by x chain) (ambient_same x)
 
-    variables_re : (p : Place) (path : List Node) → variables_under (map (re f) path) (re_place f p) ≡ variables_under path p
-    variables_re p [] = refl
-    variables_re p (x ∷ xs) =
-        (λ i. map (declare (re f p.node) (variable_re x p.chain i) (pure_re p.node i)) (bound_names (re f p.node)))
+    variables_same : (p : Place) (path : List Node) → variables_under (map (remarked_node f) path) (remarked_place f p) ≡ variables_under path p
+    variables_same p [] = refl
+    variables_same p (x ∷ xs) =
+        (λ i. map (declare (remarked_node f p.node) (variable_same x p.chain i) (pure_same p.node i)) (bound_names (remarked_node f p.node)))
         ∙ bound_rows p.node (variable_row x p.chain) (is_pure_declarator p.node)
 
     -- a function
-    special_re : (node : Node) → is_special (re f node) ≡ is_special node
-    special_re node = λ i. keeps node mark.Async refl i || keeps node mark.Generator refl i
+    special_same : (node : Node) → is_special (remarked_node f node) ≡ is_special node
+    special_same node = λ i. keeps node mark.Async refl i || keeps node mark.Generator refl i
 
-    function_flags_re : (node : Node) → function_flags (re f node) ≡ function_flags node
-    function_flags_re node = λ i. union (union symbol.Function.bits (ambient_re node i)) (union (cond (is_statement node) 0 symbol.FunctionExpression.bits) (cond (special_re node i) symbol.AsyncOrGeneratorFunction.bits 0))
+    function_flags_same : (node : Node) → function_flags (remarked_node f node) ≡ function_flags node
+    function_flags_same node = λ i. union (union symbol.Function.bits (ambient_same node i)) (union (cond (is_statement node) 0 symbol.FunctionExpression.bits) (cond (special_same node i) symbol.AsyncOrGeneratorFunction.bits 0))
 
     excluded_for : Place → Bool → ℕ
     excluded_for p b =
@@ -169,61 +171,61 @@ module _ (f : Node → Marks) where
         then record { flags = flags; excluded = excluded_for p b; how = moved; route = outward_past is_var p.chain }
         else record { flags = flags; excluded = excluded_for p b; how = plain; route = here p.chain }
 
-    function_re : (p : Place) → function_row (re_place f p) ≡ function_row p
+    function_same : (p : Place) → function_row (remarked_place f p) ≡ function_row p
     unfolding function_by excluded_for
-    function_re p = λ i. function_by p (special_re p.node i) (function_flags_re p.node i) (parent_kind kind.IfStatement p.path i)
+    function_same p = λ i. function_by p (special_same p.node i) (function_flags_same p.node i) (parent_kind kind.IfStatement p.path i)
 
-    pub own_function_re : (p : Place) (own : OpenScope) → own_function_row (re_place f p) own ≡ own_function_row p own
+    pub own_function_same : (p : Place) (own : OpenScope) → own_function_row (remarked_place f p) own ≡ own_function_row p own
     unfolding excluded_for
-    own_function_re p own = λ i. record { flags = function_flags_re p.node i; excluded = excluded_for p (parent_kind kind.IfStatement p.path i); how = plain; route = here (own ∷ []) }
+    own_function_same p own = λ i. record { flags = function_flags_same p.node i; excluded = excluded_for p (parent_kind kind.IfStatement p.path i); how = plain; route = here (own ∷ []) }
 
-    pub class_re : (p : Place) (chain : List OpenScope) → class_row (re_place f p) chain ≡ class_row p chain
-    class_re p chain = λ i. record { flags = union symbol.Class.bits (ambient_re p.node i); excluded = symbol.ClassExcludes.bits; how = plain; route = here chain }
+    pub class_same : (p : Place) (chain : List OpenScope) → class_row (remarked_place f p) chain ≡ class_row p chain
+    class_same p chain = λ i. record { flags = union symbol.Class.bits (ambient_same p.node i); excluded = symbol.ClassExcludes.bits; how = plain; route = here chain }
 
-    namespace_re : (s : InstanceState) (p : Place) → namespace_row s (re_place f p) ≡ namespace_row s p
-    namespace_re non_instantiated p = flagged role.Id p (union symbol.NamespaceModule.bits (marked_ambient p.node)) (union symbol.NamespaceModule.bits (marked_ambient (re f p.node))) symbol.NamespaceModuleExcludes.bits (ap (union symbol.NamespaceModule.bits) (ambient_re p.node))
-    namespace_re const_enum_only p = flagged role.Id p (union symbol.ValueModule.bits (marked_ambient p.node)) (union symbol.ValueModule.bits (marked_ambient (re f p.node))) symbol.ValueModuleExcludes.bits (ap (union symbol.ValueModule.bits) (ambient_re p.node))
-    namespace_re instantiated p = flagged role.Id p (union symbol.ValueModule.bits (marked_ambient p.node)) (union symbol.ValueModule.bits (marked_ambient (re f p.node))) symbol.ValueModuleExcludes.bits (ap (union symbol.ValueModule.bits) (ambient_re p.node))
+    namespace_same : (s : InstanceState) (p : Place) → namespace_row s (remarked_place f p) ≡ namespace_row s p
+    namespace_same non_instantiated p = flagged role.Id p (union symbol.NamespaceModule.bits (marked_ambient p.node)) (union symbol.NamespaceModule.bits (marked_ambient (remarked_node f p.node))) symbol.NamespaceModuleExcludes.bits (ap (union symbol.NamespaceModule.bits) (ambient_same p.node))
+    namespace_same const_enum_only p = flagged role.Id p (union symbol.ValueModule.bits (marked_ambient p.node)) (union symbol.ValueModule.bits (marked_ambient (remarked_node f p.node))) symbol.ValueModuleExcludes.bits (ap (union symbol.ValueModule.bits) (ambient_same p.node))
+    namespace_same instantiated p = flagged role.Id p (union symbol.ValueModule.bits (marked_ambient p.node)) (union symbol.ValueModule.bits (marked_ambient (remarked_node f p.node))) symbol.ValueModuleExcludes.bits (ap (union symbol.ValueModule.bits) (ambient_same p.node))
 
-    enums_re : (p : Place) → enums (re_place f p) ≡ enums p
-    enums_re p = ap (λ b. if b then declare_here (re_place f p) (union symbol.ConstEnum.bits (marked_ambient (re f p.node))) symbol.ConstEnumExcludes.bits (ids (re f p.node)) else declare_here (re_place f p) (union symbol.RegularEnum.bits (marked_ambient (re f p.node))) symbol.RegularEnumExcludes.bits (ids (re f p.node))) (keeps p.node mark.Const refl) ∙ go (has mark.Const p.node)
+    enums_same : (p : Place) → enums (remarked_place f p) ≡ enums p
+    enums_same p = ap (λ b. if b then declare_here (remarked_place f p) (union symbol.ConstEnum.bits (marked_ambient (remarked_node f p.node))) symbol.ConstEnumExcludes.bits (ids (remarked_node f p.node)) else declare_here (remarked_place f p) (union symbol.RegularEnum.bits (marked_ambient (remarked_node f p.node))) symbol.RegularEnumExcludes.bits (ids (remarked_node f p.node))) (keeps p.node mark.Const refl) ∙ go (has mark.Const p.node)
       where
-        go : (b : Bool) → (if b then declare_here (re_place f p) (union symbol.ConstEnum.bits (marked_ambient (re f p.node))) symbol.ConstEnumExcludes.bits (ids (re f p.node)) else declare_here (re_place f p) (union symbol.RegularEnum.bits (marked_ambient (re f p.node))) symbol.RegularEnumExcludes.bits (ids (re f p.node))) ≡ (if b then declare_here p (union symbol.ConstEnum.bits (marked_ambient p.node)) symbol.ConstEnumExcludes.bits (ids p.node) else declare_here p (union symbol.RegularEnum.bits (marked_ambient p.node)) symbol.RegularEnumExcludes.bits (ids p.node))
-        go true = flagged role.Id p (union symbol.ConstEnum.bits (marked_ambient p.node)) (union symbol.ConstEnum.bits (marked_ambient (re f p.node))) symbol.ConstEnumExcludes.bits (ap (union symbol.ConstEnum.bits) (ambient_re p.node))
-        go false = flagged role.Id p (union symbol.RegularEnum.bits (marked_ambient p.node)) (union symbol.RegularEnum.bits (marked_ambient (re f p.node))) symbol.RegularEnumExcludes.bits (ap (union symbol.RegularEnum.bits) (ambient_re p.node))
+        go : (b : Bool) → (if b then declare_here (remarked_place f p) (union symbol.ConstEnum.bits (marked_ambient (remarked_node f p.node))) symbol.ConstEnumExcludes.bits (ids (remarked_node f p.node)) else declare_here (remarked_place f p) (union symbol.RegularEnum.bits (marked_ambient (remarked_node f p.node))) symbol.RegularEnumExcludes.bits (ids (remarked_node f p.node))) ≡ (if b then declare_here p (union symbol.ConstEnum.bits (marked_ambient p.node)) symbol.ConstEnumExcludes.bits (ids p.node) else declare_here p (union symbol.RegularEnum.bits (marked_ambient p.node)) symbol.RegularEnumExcludes.bits (ids p.node))
+        go true = flagged role.Id p (union symbol.ConstEnum.bits (marked_ambient p.node)) (union symbol.ConstEnum.bits (marked_ambient (remarked_node f p.node))) symbol.ConstEnumExcludes.bits (ap (union symbol.ConstEnum.bits) (ambient_same p.node))
+        go false = flagged role.Id p (union symbol.RegularEnum.bits (marked_ambient p.node)) (union symbol.RegularEnum.bits (marked_ambient (remarked_node f p.node))) symbol.RegularEnumExcludes.bits (ap (union symbol.RegularEnum.bits) (ambient_same p.node))
 
-    imports_re : (p : Place) → imports (re_place f p) ≡ imports p
-    imports_re p = flagged role.Local p (import_flags p) (import_flags (re_place f p)) symbol.ImportBindingExcludes.bits
-        (λ i. cond (keeps p.node mark.TypeOnly refl i || parent_re (has mark.TypeOnly) (λ n. keeps n mark.TypeOnly refl) p.path i) symbol.TypeImport.bits symbol.Import.bits)
+    imports_same : (p : Place) → imports (remarked_place f p) ≡ imports p
+    imports_same p = flagged role.Local p (import_flags p) (import_flags (remarked_place f p)) symbol.ImportBindingExcludes.bits
+        (λ i. cond (keeps p.node mark.TypeOnly refl i || parent_same (has mark.TypeOnly) (λ n. keeps n mark.TypeOnly refl) p.path i) symbol.TypeImport.bits symbol.Import.bits)
 
-    pub declared_re : (k : AstType) (p : Place) → declared_by k (re_place f p) ≡ declared_by k p
-    declared_re kind.VariableDeclarator p = variables_re p p.path
-    declared_re kind.Function p = ap (λ ds. cond (is_statement p.node) ds [])
-        ((λ i. map (declare (re f p.node) (function_re p i) (keeps p.node mark.Pure refl i)) (ids (re f p.node))) ∙ at_role role.Id p.node (function_row p) (has mark.Pure p.node))
-    declared_re kind.Class p = ap (λ ds. cond (is_statement p.node) ds []) (ap (λ row. map (declare (re f p.node) row false) (ids (re f p.node))) (class_re p p.chain) ∙ at_role role.Id p.node (class_row p p.chain) false)
-    declared_re kind.FormalParameter p = parameters_re p p.path
-    declared_re kind.FormalParameterRest p = parameters_re p p.path
-    declared_re kind.BindingRestElement p =
+    pub declared_same : (k : AstType) (p : Place) → declared_by k (remarked_place f p) ≡ declared_by k p
+    declared_same kind.VariableDeclarator p = variables_same p p.path
+    declared_same kind.Function p = ap (λ ds. cond (is_statement p.node) ds [])
+        ((λ i. map (declare (remarked_node f p.node) (function_same p i) (keeps p.node mark.Pure refl i)) (ids (remarked_node f p.node))) ∙ at_role role.Id p.node (function_row p) (has mark.Pure p.node))
+    declared_same kind.Class p = ap (λ ds. cond (is_statement p.node) ds []) (ap (λ row. map (declare (remarked_node f p.node) row false) (ids (remarked_node f p.node))) (class_same p p.chain) ∙ at_role role.Id p.node (class_row p p.chain) false)
+    declared_same kind.FormalParameter p = parameters_same p p.path
+    declared_same kind.FormalParameterRest p = parameters_same p p.path
+    declared_same kind.BindingRestElement p =
         let excluded : ℕ = union symbol.FunctionScopedVariableExcludes.bits symbol.FunctionScopedVariable.bits in
         λ i. cond (parent_kind kind.FormalParameters p.path i) (bound_rows p.node (here_row p symbol.FunctionScopedVariable.bits excluded) false i) []
-    declared_re kind.CatchParameter p = ap (flat_map (catch_names (re_place f p))) (children_re f role.Pattern p.node.children) ∙ catches_re p (children_of role.Pattern p.node.children)
-    declared_re kind.ImportSpecifier p = imports_re p
-    declared_re kind.ImportDefaultSpecifier p = imports_re p
-    declared_re kind.ImportNamespaceSpecifier p = imports_re p
-    declared_re kind.TSImportEqualsDeclaration p = flagged role.Id p symbol.Import.bits symbol.Import.bits symbol.ImportBindingExcludes.bits refl
-    declared_re kind.TSTypeAliasDeclaration p = flagged role.Id p (union symbol.TypeAlias.bits (marked_ambient p.node)) (union symbol.TypeAlias.bits (marked_ambient (re f p.node))) symbol.TypeAliasExcludes.bits (ap (union symbol.TypeAlias.bits) (ambient_re p.node))
-    declared_re kind.TSInterfaceDeclaration p = flagged role.Id p (union symbol.Interface.bits (marked_ambient p.node)) (union symbol.Interface.bits (marked_ambient (re f p.node))) symbol.InterfaceExcludes.bits (ap (union symbol.Interface.bits) (ambient_re p.node))
-    declared_re kind.TSEnumDeclaration p = enums_re p
-    declared_re kind.TSEnumMember p = members_re p
-    declared_re kind.TSNamespaceDeclaration p = ap (λ s. namespace_row s (re_place f p)) (state_re f keeps p.node p.path) ∙ namespace_re (instance_state p.node p.path (nodes_around p.node p.path)) p
-    declared_re kind.TSTypeParameter p =
-        ap (λ b. map (declare (re f p.node) (type_parameter_row (cond b (outward_to is_conditional p.chain) (here p.chain))) false) (names_at role.Name (re f p.node))) (parent_kind kind.TSInferType p.path)
+    declared_same kind.CatchParameter p = ap (flat_map (catch_names (remarked_place f p))) (children_same f role.Pattern p.node.children) ∙ catches_same p (children_of role.Pattern p.node.children)
+    declared_same kind.ImportSpecifier p = imports_same p
+    declared_same kind.ImportDefaultSpecifier p = imports_same p
+    declared_same kind.ImportNamespaceSpecifier p = imports_same p
+    declared_same kind.TSImportEqualsDeclaration p = flagged role.Id p symbol.Import.bits symbol.Import.bits symbol.ImportBindingExcludes.bits refl
+    declared_same kind.TSTypeAliasDeclaration p = flagged role.Id p (union symbol.TypeAlias.bits (marked_ambient p.node)) (union symbol.TypeAlias.bits (marked_ambient (remarked_node f p.node))) symbol.TypeAliasExcludes.bits (ap (union symbol.TypeAlias.bits) (ambient_same p.node))
+    declared_same kind.TSInterfaceDeclaration p = flagged role.Id p (union symbol.Interface.bits (marked_ambient p.node)) (union symbol.Interface.bits (marked_ambient (remarked_node f p.node))) symbol.InterfaceExcludes.bits (ap (union symbol.Interface.bits) (ambient_same p.node))
+    declared_same kind.TSEnumDeclaration p = enums_same p
+    declared_same kind.TSEnumMember p = members_same p
+    declared_same kind.TSNamespaceDeclaration p = ap (λ s. namespace_row s (remarked_place f p)) (state_same f keeps p.node p.path) ∙ namespace_same (instance_state p.node p.path (nodes_around p.node p.path)) p
+    declared_same kind.TSTypeParameter p =
+        ap (λ b. map (declare (remarked_node f p.node) (type_parameter_row (cond b (outward_to is_conditional p.chain) (here p.chain))) false) (names_at role.Name (remarked_node f p.node))) (parent_kind kind.TSInferType p.path)
         ∙ at_role role.Name p.node (type_parameter_row (cond (parent_holds (is kind.TSInferType) p.path) (outward_to is_conditional p.chain) (here p.chain))) false
-    declared_re _ p = refl
+    declared_same _ p = refl
 
-    pub inside_re : (k : AstType) (p : Place) (own : OpenScope) → declared_inside k (re_place f p) own ≡ declared_inside k p own
-    inside_re kind.Function p own = ap (λ ds. cond (is_statement p.node) [] ds)
-        ((λ i. map (declare (re f p.node) (own_function_re p own i) (keeps p.node mark.Pure refl i)) (ids (re f p.node))) ∙ at_role role.Id p.node (own_function_row p own) (has mark.Pure p.node))
-    inside_re kind.Class p own = ap (λ ds. cond (is_statement p.node) [] ds) (ap (λ row. map (declare (re f p.node) row false) (ids (re f p.node))) (class_re p (own ∷ [])) ∙ at_role role.Id p.node (class_row p (own ∷ [])) false)
-    inside_re kind.TSMappedType p own = at_role role.Key p.node (type_parameter_row (here (own ∷ []))) false
-    inside_re _ p own = refl
+    pub inside_same : (k : AstType) (p : Place) (own : OpenScope) → declared_inside k (remarked_place f p) own ≡ declared_inside k p own
+    inside_same kind.Function p own = ap (λ ds. cond (is_statement p.node) [] ds)
+        ((λ i. map (declare (remarked_node f p.node) (own_function_same p own i) (keeps p.node mark.Pure refl i)) (ids (remarked_node f p.node))) ∙ at_role role.Id p.node (own_function_row p own) (has mark.Pure p.node))
+    inside_same kind.Class p own = ap (λ ds. cond (is_statement p.node) [] ds) (ap (λ row. map (declare (remarked_node f p.node) row false) (ids (remarked_node f p.node))) (class_same p (own ∷ [])) ∙ at_role role.Id p.node (class_row p (own ∷ [])) false)
+    inside_same kind.TSMappedType p own = at_role role.Key p.node (type_parameter_row (here (own ∷ []))) false
+    inside_same _ p own = refl

@@ -14,177 +14,179 @@ use Rattle.semantic_model.specs.Names.{bound_names}
 use Rattle.semantic_model.specs.Namespace.{non_instantiated, const_enum_only, instantiated, Item, Reached, counts_as, leads_to, is_module, is_import_equals, is_list, statements, body_items, declaration_in, exported, declares, first_declaring, target_of, item_reached, local_reached, specifier_reached, specifiers_reached, declaration_reached, reached_from, is_among, new_items, reach, reached_within, greatest, instance_state, nodes_around}
 use Rattle.semantic_model.specs.Nodes.{is, reads, children_of, child_of}
 use Rattle.program_laws.specs.ReadMarks.{KeepsRead}
-use Rattle.program_laws.proofs.Children.{map_append, re, children_re, child_re, any_re, count_re}
-use Rattle.program_laws.proofs.NameMarks.{bound_re}
+use Rattle.program_laws.proofs.Children.{children_same, child_same, any_same, count_same}
+use Rattle.program_laws.proofs.NameMarks.{bound_same}
+use Rattle.semantic_model.proofs.Alike.{map_append}
+use Rattle.program_laws.specs.Remarked.{remarked_node}
 
 module _ (f : Node → Marks) where
-  abbrev re_lists : List (List Node) → List (List Node)
-  re_lists ls = map (map (re f)) ls
+  abbrev remarked_lists : List (List Node) → List (List Node)
+  remarked_lists ls = map (map (remarked_node f)) ls
 
-  abbrev re_item : Item → Item
-  re_item i = record { node = re f i.node; lists = re_lists i.lists }
+  abbrev remarked_item : Item → Item
+  remarked_item i = record { node = remarked_node f i.node; lists = remarked_lists i.lists }
 
-  abbrev re_items : List Item → List Item
-  re_items is = map re_item is
+  abbrev remarked_items : List Item → List Item
+  remarked_items is = map remarked_item is
 
-  abbrev re_reached : Reached → Reached
-  re_reached r = record { states = r.states; items = re_items r.items }
+  abbrev remarked_reached : Reached → Reached
+  remarked_reached r = record { states = r.states; items = remarked_items r.items }
 
-  items_re : (ls : List (List Node)) (xs : List Node) → map (λ n. record { node = n; lists = re_lists ls }) (map (re f) xs) ≡ re_items (map (λ n. record { node = n; lists = ls }) xs)
-  items_re ls [] = refl
-  items_re ls (x ∷ xs) = ap (λ is. record { node = re f x; lists = re_lists ls } ∷ is) (items_re ls xs)
+  items_same : (ls : List (List Node)) (xs : List Node) → map (λ n. record { node = n; lists = remarked_lists ls }) (map (remarked_node f) xs) ≡ remarked_items (map (λ n. record { node = n; lists = ls }) xs)
+  items_same ls [] = refl
+  items_same ls (x ∷ xs) = ap (λ is. record { node = remarked_node f x; lists = remarked_lists ls } ∷ is) (items_same ls xs)
 
-  body_re : (o : Option Node) (ls : List (List Node)) → body_items (option_map (re f) o) (re_lists ls) ≡ re_reached (body_items o ls)
-  body_re None ls = refl
-  body_re (Some x) ls =
-      ap (λ ss. leads_to (cond (is_list x) (map (λ n. record { node = n; lists = ss ∷ re_lists ls }) ss) (record { node = re f x; lists = re_lists ls } ∷ []))) (children_re f role.Body x.children)
+  body_same : (o : Option Node) (ls : List (List Node)) → body_items (option_map (remarked_node f) o) (remarked_lists ls) ≡ remarked_reached (body_items o ls)
+  body_same None ls = refl
+  body_same (Some x) ls =
+      ap (λ ss. leads_to (cond (is_list x) (map (λ n. record { node = n; lists = ss ∷ remarked_lists ls }) ss) (record { node = remarked_node f x; lists = remarked_lists ls } ∷ []))) (children_same f role.Body x.children)
       ∙ go (is_list x)
     where
-      go : (b : Bool) → leads_to (cond b (map (λ n. record { node = n; lists = map (re f) (statements x) ∷ re_lists ls }) (map (re f) (statements x))) (record { node = re f x; lists = re_lists ls } ∷ [])) ≡ re_reached (leads_to (cond b (map (λ n. record { node = n; lists = statements x ∷ ls }) (statements x)) (record { node = x; lists = ls } ∷ [])))
-      go true = ap leads_to (items_re (statements x ∷ ls) (statements x))
+      go : (b : Bool) → leads_to (cond b (map (λ n. record { node = n; lists = map (remarked_node f) (statements x) ∷ remarked_lists ls }) (map (remarked_node f) (statements x))) (record { node = remarked_node f x; lists = remarked_lists ls } ∷ [])) ≡ remarked_reached (leads_to (cond b (map (λ n. record { node = n; lists = statements x ∷ ls }) (statements x)) (record { node = x; lists = ls } ∷ [])))
+      go true = ap leads_to (items_same (statements x ∷ ls) (statements x))
       go false = refl
 
-  inner_re : (x : Node) (o : Option Node) → declaration_in (re f x) (option_map (re f) o) ≡ re f (declaration_in x o)
-  inner_re x None = refl
-  inner_re x (Some d) = refl
+  inner_same : (x : Node) (o : Option Node) → declaration_in (remarked_node f x) (option_map (remarked_node f) o) ≡ remarked_node f (declaration_in x o)
+  inner_same x None = refl
+  inner_same x (Some d) = refl
 
-  exported_re : (x : Node) → exported (re f x) ≡ re f (exported x)
-  exported_re x = go (holds_kind (kind.ExportDeclaration ∷ kind.ExportDefaultDeclaration ∷ []) x.kind)
+  exported_same : (x : Node) → exported (remarked_node f x) ≡ remarked_node f (exported x)
+  exported_same x = go (holds_kind (kind.ExportDeclaration ∷ kind.ExportDefaultDeclaration ∷ []) x.kind)
     where
-      go : (b : Bool) → cond b (declaration_in (re f x) (child_of role.Declaration (re f x))) (re f x) ≡ re f (cond b (declaration_in x (child_of role.Declaration x)) x)
-      go true = ap (declaration_in (re f x)) (child_re f role.Declaration x) ∙ inner_re x (child_of role.Declaration x)
+      go : (b : Bool) → cond b (declaration_in (remarked_node f x) (child_of role.Declaration (remarked_node f x))) (remarked_node f x) ≡ remarked_node f (cond b (declaration_in x (child_of role.Declaration x)) x)
+      go true = ap (declaration_in (remarked_node f x)) (child_same f role.Declaration x) ∙ inner_same x (child_of role.Declaration x)
       go false = refl
 
-  declares_re : (name : Name) (x : Node) → declares name (re f x) ≡ declares name x
-  declares_re name x =
-      ap (λ y. list_any (reads name) (bound_names y)) (exported_re x)
-      ∙ ap (list_any (reads name)) (bound_re f (exported x))
-      ∙ any_re f (reads name) (λ n. refl) (bound_names (exported x))
+  declares_same : (name : Name) (x : Node) → declares name (remarked_node f x) ≡ declares name x
+  declares_same name x =
+      ap (λ y. list_any (reads name) (bound_names y)) (exported_same x)
+      ∙ ap (list_any (reads name)) (bound_same f (exported x))
+      ∙ any_same f (reads name) (λ n. refl) (bound_names (exported x))
 
-  first_re : (name : Name) (xs : List Node) → first_declaring name (map (re f) xs) ≡ option_map (re f) (first_declaring name xs)
-  first_re name [] = refl
-  first_re name (x ∷ xs) = ap (λ b. cond b (Some (re f x)) (first_declaring name (map (re f) xs))) (declares_re name x) ∙ go (declares name x) (first_re name xs)
+  first_same : (name : Name) (xs : List Node) → first_declaring name (map (remarked_node f) xs) ≡ option_map (remarked_node f) (first_declaring name xs)
+  first_same name [] = refl
+  first_same name (x ∷ xs) = ap (λ b. cond b (Some (remarked_node f x)) (first_declaring name (map (remarked_node f) xs))) (declares_same name x) ∙ go (declares name x) (first_same name xs)
     where
-      go : (b : Bool) → first_declaring name (map (re f) xs) ≡ option_map (re f) (first_declaring name xs) → cond b (Some (re f x)) (first_declaring name (map (re f) xs)) ≡ option_map (re f) (cond b (Some x) (first_declaring name xs))
+      go : (b : Bool) → first_declaring name (map (remarked_node f) xs) ≡ option_map (remarked_node f) (first_declaring name xs) → cond b (Some (remarked_node f x)) (first_declaring name (map (remarked_node f) xs)) ≡ option_map (remarked_node f) (cond b (Some x) (first_declaring name xs))
       go true h = refl
       go false h = h
 
   found_in : List Node → List (List Node) → Option Item → Option Node → Option Item
   found_in xs ls later o = elim o [ None ↦ later | Some x ↦ Some (record { node = x; lists = xs ∷ ls }) ]
 
-  target_re : (name : Name) (ls : List (List Node)) → target_of name (re_lists ls) ≡ option_map re_item (target_of name ls)
+  target_same : (name : Name) (ls : List (List Node)) → target_of name (remarked_lists ls) ≡ option_map remarked_item (target_of name ls)
   unfolding found_in
-  target_re name [] = refl
-  target_re name (xs ∷ ls) =
-      (λ i. found_in (map (re f) xs) (re_lists ls) (target_re name ls i) (first_re name xs i)) ∙ go (first_declaring name xs)
+  target_same name [] = refl
+  target_same name (xs ∷ ls) =
+      (λ i. found_in (map (remarked_node f) xs) (remarked_lists ls) (target_same name ls i) (first_same name xs i)) ∙ go (first_declaring name xs)
     where
-      go : (o : Option Node) → found_in (map (re f) xs) (re_lists ls) (option_map re_item (target_of name ls)) (option_map (re f) o) ≡ option_map re_item (found_in xs ls (target_of name ls) o)
+      go : (o : Option Node) → found_in (map (remarked_node f) xs) (remarked_lists ls) (option_map remarked_item (target_of name ls)) (option_map (remarked_node f) o) ≡ option_map remarked_item (found_in xs ls (target_of name ls) o)
       go None = refl
       go (Some x) = refl
 
-  item_re : (o : Option Item) → item_reached (option_map re_item o) ≡ re_reached (item_reached o)
-  item_re None = refl
-  item_re (Some x) = ap (λ n. cond (is_import_equals n) (counts_as instantiated) (leads_to (re_item x ∷ []))) (exported_re x.node) ∙ go (is_import_equals (exported x.node))
+  item_same : (o : Option Item) → item_reached (option_map remarked_item o) ≡ remarked_reached (item_reached o)
+  item_same None = refl
+  item_same (Some x) = ap (λ n. cond (is_import_equals n) (counts_as instantiated) (leads_to (remarked_item x ∷ []))) (exported_same x.node) ∙ go (is_import_equals (exported x.node))
     where
-      go : (b : Bool) → cond b (counts_as instantiated) (leads_to (re_item x ∷ [])) ≡ re_reached (cond b (counts_as instantiated) (leads_to (x ∷ [])))
+      go : (b : Bool) → cond b (counts_as instantiated) (leads_to (remarked_item x ∷ [])) ≡ remarked_reached (cond b (counts_as instantiated) (leads_to (x ∷ [])))
       go true = refl
       go false = refl
 
-  local_re : (ls : List (List Node)) (o : Option Node) → local_reached (re_lists ls) (option_map (re f) o) ≡ re_reached (local_reached ls o)
-  local_re ls None = refl
-  local_re ls (Some x) = go (is kind.IdentifierReference x)
+  local_same : (ls : List (List Node)) (o : Option Node) → local_reached (remarked_lists ls) (option_map (remarked_node f) o) ≡ remarked_reached (local_reached ls o)
+  local_same ls None = refl
+  local_same ls (Some x) = go (is kind.IdentifierReference x)
     where
-      go : (b : Bool) → cond b (item_reached (target_of x.text (re_lists ls))) (counts_as instantiated) ≡ re_reached (cond b (item_reached (target_of x.text ls)) (counts_as instantiated))
-      go true = ap item_reached (target_re x.text ls) ∙ item_re (target_of x.text ls)
+      go : (b : Bool) → cond b (item_reached (target_of x.text (remarked_lists ls))) (counts_as instantiated) ≡ remarked_reached (cond b (item_reached (target_of x.text ls)) (counts_as instantiated))
+      go true = ap item_reached (target_same x.text ls) ∙ item_same (target_of x.text ls)
       go false = refl
 
-  specifier_re : (ls : List (List Node)) (x : Node) → specifier_reached (re_lists ls) (re f x) ≡ re_reached (specifier_reached ls x)
-  specifier_re ls x = ap (local_reached (re_lists ls)) (child_re f role.Local x) ∙ local_re ls (child_of role.Local x)
+  specifier_same : (ls : List (List Node)) (x : Node) → specifier_reached (remarked_lists ls) (remarked_node f x) ≡ remarked_reached (specifier_reached ls x)
+  specifier_same ls x = ap (local_reached (remarked_lists ls)) (child_same f role.Local x) ∙ local_same ls (child_of role.Local x)
 
-  specifiers_re : (ls : List (List Node)) (xs : List Node) → specifiers_reached (map (specifier_reached (re_lists ls)) (map (re f) xs)) ≡ re_reached (specifiers_reached (map (specifier_reached ls) xs))
-  specifiers_re ls [] = refl
-  specifiers_re ls (x ∷ xs) =
+  specifiers_same : (ls : List (List Node)) (xs : List Node) → specifiers_reached (map (specifier_reached (remarked_lists ls)) (map (remarked_node f) xs)) ≡ remarked_reached (specifiers_reached (map (specifier_reached ls) xs))
+  specifiers_same ls [] = refl
+  specifiers_same ls (x ∷ xs) =
       let rest : Reached = specifiers_reached (map (specifier_reached ls) xs) in
-      (λ i. record { states = (specifier_re ls x i).states ++ (specifiers_re ls xs i).states; items = (specifier_re ls x i).items ++ (specifiers_re ls xs i).items })
-      ∙ ap (λ is. record { states = (specifier_reached ls x).states ++ rest.states; items = is }) (sym (map_append re_item (specifier_reached ls x).items rest.items))
+      (λ i. record { states = (specifier_same ls x i).states ++ (specifiers_same ls xs i).states; items = (specifier_same ls x i).items ++ (specifiers_same ls xs i).items })
+      ∙ ap (λ is. record { states = (specifier_reached ls x).states ++ rest.states; items = is }) (sym (map_append remarked_item (specifier_reached ls x).items rest.items))
 
-  declaration_re : (ls : List (List Node)) (x : Node) → declaration_reached (re_lists ls) (re f x) ≡ re_reached (declaration_reached ls x)
-  declaration_re ls x = go (is_module x) (holds_kind (kind.TSTypeAliasDeclaration ∷ kind.TSInterfaceDeclaration ∷ []) x.kind)
+  declaration_same : (ls : List (List Node)) (x : Node) → declaration_reached (remarked_lists ls) (remarked_node f x) ≡ remarked_reached (declaration_reached ls x)
+  declaration_same ls x = go (is_module x) (holds_kind (kind.TSTypeAliasDeclaration ∷ kind.TSInterfaceDeclaration ∷ []) x.kind)
     where
-      go : (a b : Bool) → cond a (leads_to (record { node = re f x; lists = re_lists ls } ∷ [])) (cond b (counts_as non_instantiated) (counts_as instantiated)) ≡ re_reached (cond a (leads_to (record { node = x; lists = ls } ∷ [])) (cond b (counts_as non_instantiated) (counts_as instantiated)))
+      go : (a b : Bool) → cond a (leads_to (record { node = remarked_node f x; lists = remarked_lists ls } ∷ [])) (cond b (counts_as non_instantiated) (counts_as instantiated)) ≡ remarked_reached (cond a (leads_to (record { node = x; lists = ls } ∷ [])) (cond b (counts_as non_instantiated) (counts_as instantiated)))
       go true b = refl
       go false true = refl
       go false false = refl
 
   module _ (keeps : KeepsRead f) where
-    from_re : (k : AstType) (i : Item) → reached_from k (re_item i) ≡ re_reached (reached_from k i)
-    from_re kind.TSInterfaceDeclaration i = refl
-    from_re kind.TSTypeAliasDeclaration i = refl
-    from_re kind.TSImportEqualsDeclaration i = refl
-    from_re kind.TSEnumDeclaration i = ap (λ b. counts_as (cond b const_enum_only instantiated)) (keeps i.node mark.Const refl)
-    from_re kind.TSNamespaceDeclaration i = ap (λ o. body_items o (re_lists i.lists)) (child_re f role.Body i.node) ∙ body_re (child_of role.Body i.node) i.lists
-    from_re kind.TSExternalModuleDeclaration i = ap (λ o. body_items o (re_lists i.lists)) (child_re f role.Body i.node) ∙ body_re (child_of role.Body i.node) i.lists
-    from_re kind.ExportDeclaration i = ap (declaration_reached (re_lists i.lists)) (exported_re i.node) ∙ declaration_re i.lists (exported i.node)
-    from_re kind.ExportDefaultDeclaration i = ap (λ n. counts_as (cond (is kind.TSInterfaceDeclaration n) non_instantiated instantiated)) (exported_re i.node)
-    from_re kind.ExportNamedDeclaration i =
-        ap (λ ns. specifiers_reached (map (specifier_reached (re_lists i.lists)) ns)) (children_re f role.Specifiers i.node.children)
-        ∙ specifiers_re i.lists (children_of role.Specifiers i.node.children)
-    from_re _ i = refl
+    from_same : (k : AstType) (i : Item) → reached_from k (remarked_item i) ≡ remarked_reached (reached_from k i)
+    from_same kind.TSInterfaceDeclaration i = refl
+    from_same kind.TSTypeAliasDeclaration i = refl
+    from_same kind.TSImportEqualsDeclaration i = refl
+    from_same kind.TSEnumDeclaration i = ap (λ b. counts_as (cond b const_enum_only instantiated)) (keeps i.node mark.Const refl)
+    from_same kind.TSNamespaceDeclaration i = ap (λ o. body_items o (remarked_lists i.lists)) (child_same f role.Body i.node) ∙ body_same (child_of role.Body i.node) i.lists
+    from_same kind.TSExternalModuleDeclaration i = ap (λ o. body_items o (remarked_lists i.lists)) (child_same f role.Body i.node) ∙ body_same (child_of role.Body i.node) i.lists
+    from_same kind.ExportDeclaration i = ap (declaration_reached (remarked_lists i.lists)) (exported_same i.node) ∙ declaration_same i.lists (exported i.node)
+    from_same kind.ExportDefaultDeclaration i = ap (λ n. counts_as (cond (is kind.TSInterfaceDeclaration n) non_instantiated instantiated)) (exported_same i.node)
+    from_same kind.ExportNamedDeclaration i =
+        ap (λ ns. specifiers_reached (map (specifier_reached (remarked_lists i.lists)) ns)) (children_same f role.Specifiers i.node.children)
+        ∙ specifiers_same i.lists (children_of role.Specifiers i.node.children)
+    from_same _ i = refl
 
-    reach_re : (i : Item) → reach (re_item i) ≡ re_reached (reach i)
-    reach_re i = from_re i.node.kind i
+    reach_same : (i : Item) → reach (remarked_item i) ≡ remarked_reached (reach i)
+    reach_same i = from_same i.node.kind i
 
-    among_re : (i : Item) (js : List Item) → is_among (re_item i) (re_items js) ≡ is_among i js
-    among_re i [] = refl
-    among_re i (j ∷ js) = ap (λ b. i.node.node_id == j.node.node_id || b) (among_re i js)
+    among_same : (i : Item) (js : List Item) → is_among (remarked_item i) (remarked_items js) ≡ is_among i js
+    among_same i [] = refl
+    among_same i (j ∷ js) = ap (λ b. i.node.node_id == j.node.node_id || b) (among_same i js)
 
-    new_re : (old is : List Item) → new_items (re_items old) (re_items is) ≡ re_items (new_items old is)
-    new_re old [] = refl
-    new_re old (i ∷ more) =
-        ap (λ b. cond b (new_items (re_items old) (re_items more)) (re_item i ∷ new_items (re_items (i ∷ old)) (re_items more))) (among_re i old)
-        ∙ go (is_among i old) (new_re old more) (new_re (i ∷ old) more)
+    new_same : (old is : List Item) → new_items (remarked_items old) (remarked_items is) ≡ remarked_items (new_items old is)
+    new_same old [] = refl
+    new_same old (i ∷ more) =
+        ap (λ b. cond b (new_items (remarked_items old) (remarked_items more)) (remarked_item i ∷ new_items (remarked_items (i ∷ old)) (remarked_items more))) (among_same i old)
+        ∙ go (is_among i old) (new_same old more) (new_same (i ∷ old) more)
       where
-        go : (b : Bool) → new_items (re_items old) (re_items more) ≡ re_items (new_items old more) → new_items (re_items (i ∷ old)) (re_items more) ≡ re_items (new_items (i ∷ old) more) → cond b (new_items (re_items old) (re_items more)) (re_item i ∷ new_items (re_items (i ∷ old)) (re_items more)) ≡ re_items (cond b (new_items old more) (i ∷ new_items (i ∷ old) more))
+        go : (b : Bool) → new_items (remarked_items old) (remarked_items more) ≡ remarked_items (new_items old more) → new_items (remarked_items (i ∷ old)) (remarked_items more) ≡ remarked_items (new_items (i ∷ old) more) → cond b (new_items (remarked_items old) (remarked_items more)) (remarked_item i ∷ new_items (remarked_items (i ∷ old)) (remarked_items more)) ≡ remarked_items (cond b (new_items old more) (i ∷ new_items (i ∷ old) more))
         go true h k = h
-        go false h k = ap (λ js. re_item i ∷ js) k
+        go false h k = ap (λ js. remarked_item i ∷ js) k
 
-    led_re : (is : List Item) → flat_map (λ j. (reach j).items) (re_items is) ≡ re_items (flat_map (λ j. (reach j).items) is)
-    led_re [] = refl
-    led_re (i ∷ more) = (λ t. (reach_re i t).items ++ led_re more t) ∙ sym (map_append re_item (reach i).items (flat_map (λ j. (reach j).items) more))
+    led_same : (is : List Item) → flat_map (λ j. (reach j).items) (remarked_items is) ≡ remarked_items (flat_map (λ j. (reach j).items) is)
+    led_same [] = refl
+    led_same (i ∷ more) = (λ t. (reach_same i t).items ++ led_same more t) ∙ sym (map_append remarked_item (reach i).items (flat_map (λ j. (reach j).items) more))
 
-    within_re : (rounds : ℕ) (old is : List Item) → reached_within rounds (re_items old) (re_items is) ≡ re_items (reached_within rounds old is)
-    within_re zero old [] = refl
-    within_re (suc rounds) old [] = refl
-    within_re zero old (i ∷ more) = sym (map_append re_item old (i ∷ more))
-    within_re (suc rounds) old (i ∷ more) =
-        let all : re_items old ++ re_items (i ∷ more) ≡ re_items (old ++ i ∷ more) = sym (map_append re_item old (i ∷ more)) in
+    within_same : (rounds : ℕ) (old is : List Item) → reached_within rounds (remarked_items old) (remarked_items is) ≡ remarked_items (reached_within rounds old is)
+    within_same zero old [] = refl
+    within_same (suc rounds) old [] = refl
+    within_same zero old (i ∷ more) = sym (map_append remarked_item old (i ∷ more))
+    within_same (suc rounds) old (i ∷ more) =
+        let all : remarked_items old ++ remarked_items (i ∷ more) ≡ remarked_items (old ++ i ∷ more) = sym (map_append remarked_item old (i ∷ more)) in
         let next : List Item = flat_map (λ j. (reach j).items) (i ∷ more) in
-        (λ t. reached_within rounds (all t) (new_items (all t) (led_re (i ∷ more) t)))
-        ∙ ap (reached_within rounds (re_items (old ++ i ∷ more))) (new_re (old ++ i ∷ more) next)
-        ∙ within_re rounds (old ++ i ∷ more) (new_items (old ++ i ∷ more) next)
+        (λ t. reached_within rounds (all t) (new_items (all t) (led_same (i ∷ more) t)))
+        ∙ ap (reached_within rounds (remarked_items (old ++ i ∷ more))) (new_same (old ++ i ∷ more) next)
+        ∙ within_same rounds (old ++ i ∷ more) (new_items (old ++ i ∷ more) next)
 
-    states_re : (is : List Item) → flat_map (λ i. (reach i).states) (re_items is) ≡ flat_map (λ i. (reach i).states) is
-    states_re [] = refl
-    states_re (i ∷ more) = λ t. (reach_re i t).states ++ states_re more t
+    states_same : (is : List Item) → flat_map (λ i. (reach i).states) (remarked_items is) ≡ flat_map (λ i. (reach i).states) is
+    states_same [] = refl
+    states_same (i ∷ more) = λ t. (reach_same i t).states ++ states_same more t
 
-    lists_re : (path : List Node) → map statements (filter is_list (map (re f) path)) ≡ re_lists (map statements (filter is_list path))
-    lists_re [] = refl
-    lists_re (x ∷ xs) = go (is_list x) (lists_re xs)
+    lists_same : (path : List Node) → map statements (filter is_list (map (remarked_node f) path)) ≡ remarked_lists (map statements (filter is_list path))
+    lists_same [] = refl
+    lists_same (x ∷ xs) = go (is_list x) (lists_same xs)
       where
-        go : (b : Bool) → map statements (filter is_list (map (re f) xs)) ≡ re_lists (map statements (filter is_list xs)) → map statements (cond b (re f x ∷ filter is_list (map (re f) xs)) (filter is_list (map (re f) xs))) ≡ re_lists (map statements (cond b (x ∷ filter is_list xs) (filter is_list xs)))
-        go true h = λ i. children_re f role.Body x.children i ∷ h i
+        go : (b : Bool) → map statements (filter is_list (map (remarked_node f) xs)) ≡ remarked_lists (map statements (filter is_list xs)) → map statements (cond b (remarked_node f x ∷ filter is_list (map (remarked_node f) xs)) (filter is_list (map (remarked_node f) xs))) ≡ remarked_lists (map statements (cond b (x ∷ filter is_list xs) (filter is_list xs)))
+        go true h = λ i. children_same f role.Body x.children i ∷ h i
         go false h = h
 
-    around_re : (node : Node) (path : List Node) → nodes_around (re f node) (map (re f) path) ≡ nodes_around node path
-    around_re node [] = ap suc (count_re f node.children)
-    around_re node (x ∷ xs) = around_re x xs
+    around_same : (node : Node) (path : List Node) → nodes_around (remarked_node f node) (map (remarked_node f) path) ≡ nodes_around node path
+    around_same node [] = ap suc (count_same f node.children)
+    around_same node (x ∷ xs) = around_same x xs
 
     -- a namespace below nodes with other marks
-    pub state_re : (node : Node) (path : List Node) → instance_state (re f node) (map (re f) path) (nodes_around (re f node) (map (re f) path)) ≡ instance_state node path (nodes_around node path)
-    state_re node path =
+    pub state_same : (node : Node) (path : List Node) → instance_state (remarked_node f node) (map (remarked_node f) path) (nodes_around (remarked_node f node) (map (remarked_node f) path)) ≡ instance_state node path (nodes_around node path)
+    state_same node path =
         let bound : ℕ = nodes_around node path in
         let first : Item = record { node = node; lists = map statements (filter is_list path) } in
-        ap (instance_state (re f node) (map (re f) path)) (around_re node path)
-        ∙ ap (λ ls. greatest (flat_map (λ i. (reach i).states) (reached_within bound [] (record { node = re f node; lists = ls } ∷ [])))) (lists_re path)
-        ∙ ap (λ is. greatest (flat_map (λ i. (reach i).states) is)) (within_re bound [] (first ∷ []))
-        ∙ ap greatest (states_re (reached_within bound [] (first ∷ [])))
+        ap (instance_state (remarked_node f node) (map (remarked_node f) path)) (around_same node path)
+        ∙ ap (λ ls. greatest (flat_map (λ i. (reach i).states) (reached_within bound [] (record { node = remarked_node f node; lists = ls } ∷ [])))) (lists_same path)
+        ∙ ap (λ is. greatest (flat_map (λ i. (reach i).states) is)) (within_same bound [] (first ∷ []))
+        ∙ ap greatest (states_same (reached_within bound [] (first ∷ [])))

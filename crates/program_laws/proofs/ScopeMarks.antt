@@ -14,43 +14,44 @@ use Rattle.semantic_tree.specs.declared.node.Node.{Node}
 use Rattle.semantic_model.specs.Nodes.{is, is_with_text, has_use_strict, children_of}
 use Rattle.semantic_model.specs.Place.{Place, is_strict}
 use Rattle.semantic_model.specs.ScopeKind.{strict_if, strict_by_body, value_of, method_flags, flags_of_kind, opened_scope}
-use Rattle.program_laws.proofs.Children.{re, children_re, child_holds, any_re, body_re}
+use Rattle.program_laws.proofs.Children.{children_same, child_holds, any_same, body_same}
+use Rattle.program_laws.specs.Remarked.{remarked_node}
 
 module _ (f : Node → Marks) where
   -- the place with the marks of its node, of those below it and of those above it changed
-  abbrev pub re_place : Place → Place
-  re_place p = record p { node = re f p.node; path = map (re f) p.path }
+  abbrev pub remarked_place : Place → Place
+  remarked_place p = record p { node = remarked_node f p.node; path = map (remarked_node f) p.path }
 
-  strict_re : (node : Node) → has_use_strict (re f node) ≡ has_use_strict node
-  strict_re node =
-      ap (list_any (is_with_text kind.Directive (codes "use strict"))) (children_re f role.Directives node.children)
-      ∙ any_re f (is_with_text kind.Directive (codes "use strict")) (λ n. refl) (children_of role.Directives node.children)
+  strict_same : (node : Node) → has_use_strict (remarked_node f node) ≡ has_use_strict node
+  strict_same node =
+      ap (list_any (is_with_text kind.Directive (codes "use strict"))) (children_same f role.Directives node.children)
+      ∙ any_same f (is_with_text kind.Directive (codes "use strict")) (λ n. refl) (children_of role.Directives node.children)
 
-  body_strict_re : (node : Node) → strict_by_body (re f node) ≡ strict_by_body node
-  body_strict_re node = ap strict_if (child_holds f role.Body has_use_strict strict_re node)
+  body_strict_same : (node : Node) → strict_by_body (remarked_node f node) ≡ strict_by_body node
+  body_strict_same node = ap strict_if (child_holds f role.Body has_use_strict strict_same node)
 
-  value_re : (k : AstType) (text : Name) (node : Node) → value_of k text (re f node) ≡ value_of k text node
-  value_re kind.MethodDefinition text node = refl
-  value_re kind.ObjectProperty text node = refl
-  value_re _ text node = refl
+  value_same : (k : AstType) (text : Name) (node : Node) → value_of k text (remarked_node f node) ≡ value_of k text node
+  value_same kind.MethodDefinition text node = refl
+  value_same kind.ObjectProperty text node = refl
+  value_same _ text node = refl
 
-  methods_re : (path : List Node) (node : Node) → method_flags (map (re f) path) (re f node) ≡ method_flags path node
-  methods_re [] node = refl
-  methods_re (x ∷ xs) node = value_re x.kind x.text node
+  methods_same : (path : List Node) (node : Node) → method_flags (map (remarked_node f) path) (remarked_node f node) ≡ method_flags path node
+  methods_same [] node = refl
+  methods_same (x ∷ xs) node = value_same x.kind x.text node
 
-  flags_re : (k : AstType) (p : Place) → flags_of_kind k (re_place p) ≡ flags_of_kind k p
-  flags_re kind.Program p = ap (λ b. union scope.Top.bits (strict_if (is_module p.source_type || b))) (strict_re p.node)
-  flags_re kind.Function p = λ i. union scope.Function.bits (union (body_strict_re p.node i) (cond (same_role p.role role.Value) (methods_re p.path p.node i) 0))
-  flags_re kind.ArrowFunctionExpression p = ap (λ b. union scope.Function.bits (union scope.Arrow.bits b)) (body_strict_re p.node)
-  flags_re kind.TSNamespaceDeclaration p = ap (λ b. union scope.TsModuleBlock.bits b) (body_strict_re p.node)
-  flags_re kind.TSExternalModuleDeclaration p = ap (λ b. union scope.TsModuleBlock.bits b) (body_strict_re p.node)
-  flags_re _ p = refl
+  flags_same : (k : AstType) (p : Place) → flags_of_kind k (remarked_place p) ≡ flags_of_kind k p
+  flags_same kind.Program p = ap (λ b. union scope.Top.bits (strict_if (is_module p.source_type || b))) (strict_same p.node)
+  flags_same kind.Function p = λ i. union scope.Function.bits (union (body_strict_same p.node i) (cond (same_role p.role role.Value) (methods_same p.path p.node i) 0))
+  flags_same kind.ArrowFunctionExpression p = ap (λ b. union scope.Function.bits (union scope.Arrow.bits b)) (body_strict_same p.node)
+  flags_same kind.TSNamespaceDeclaration p = ap (λ b. union scope.TsModuleBlock.bits b) (body_strict_same p.node)
+  flags_same kind.TSExternalModuleDeclaration p = ap (λ b. union scope.TsModuleBlock.bits b) (body_strict_same p.node)
+  flags_same _ p = refl
 
-  pub opened_re : (p : Place) (n : ℕ) → opened_scope (re_place p) n ≡ opened_scope p n
-  opened_re p n = λ i. record {
+  pub opened_same : (p : Place) (n : ℕ) → opened_scope (remarked_place p) n ≡ opened_scope p n
+  opened_same p n = λ i. record {
     number = n;
     opener = p.node.node_id;
-    flags = union (flags_re p.node.kind p i) (strict_if (is_strict p.chain));
-    body = cond (is kind.CatchClause p.node) (body_re f (suc n) p.node.children i) None;
+    flags = union (flags_same p.node.kind p i) (strict_if (is_strict p.chain));
+    body = cond (is kind.CatchClause p.node) (body_same f (suc n) p.node.children i) None;
     in_header = false;
   }

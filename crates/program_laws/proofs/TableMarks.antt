@@ -21,29 +21,29 @@ use Rattle.semantic_model.specs.Tie.{ties, in_order}
 use Rattle.program_laws.specs.ReadMarks.{is_read, KeepsRead, without_mark, without_where, unmarked_tree}
 use Rattle.program_laws.specs.Remarked.{remarked_tree}
 use Rattle.program_laws.specs.SameAnalysis.{HaveSameAnalysis}
-use Rattle.program_laws.proofs.EventMarks.{references_re, scopes_re, events_re, states_re}
-use Rattle.program_laws.proofs.StepMarks.{re_steps, steps_re}
+use Rattle.program_laws.proofs.EventMarks.{references_same, scopes_same, events_same, states_same}
+use Rattle.program_laws.proofs.StepMarks.{remarked_steps, steps_same}
 
 abbrev tables_by_parts : List Scope → List Event → List Occurrence → Tables
 tables_by_parts opened es rs = tables_from opened (run start es) (ties (run start es) es 0 rs) (in_order es (ties (run start es) es 0 rs))
 
 module _ (f : Node → Marks) (keeps : KeepsRead f) where
-  tables_re : (ss : List Step) → tables_by (re_steps f ss) ≡ tables_by ss
-  tables_re ss = λ i. tables_by_parts (scopes_re f keeps ss i) (events_re f keeps ss i) (references_re f ss i)
+  tables_same : (ss : List Step) → tables_by (remarked_steps f ss) ≡ tables_by ss
+  tables_same ss = λ i. tables_by_parts (scopes_same f keeps ss i) (events_same f keeps ss i) (references_same f ss i)
 
-  node_tables_re : (ss : List Step) → node_tables (re_steps f ss) ≡ node_tables ss
-  node_tables_re ss = λ i. record {
-    scopes = numbered_from 0 (map (λ s. s.node) (scopes_re f keeps ss i));
-    symbols = symbols_of (run start (events_re f keeps ss i));
-    references = numbered_from 0 (map (λ r. r.node) (references_re f ss i));
+  node_tables_same : (ss : List Step) → node_tables (remarked_steps f ss) ≡ node_tables ss
+  node_tables_same ss = λ i. record {
+    scopes = numbered_from 0 (map (λ s. s.node) (scopes_same f keeps ss i));
+    symbols = symbols_of (run start (events_same f keeps ss i));
+    references = numbered_from 0 (map (λ r. r.node) (references_same f ss i));
   }
 
   pub same_analysis : (p : Tree) → HaveSameAnalysis (remarked_tree f p) p
   same_analysis p = record {
-    tables = ap tables_by (steps_re f keeps p) ∙ tables_re (steps p);
-    at_nodes = ap node_tables (steps_re f keeps p) ∙ node_tables_re (steps p);
-    conflicts = ap (λ es. (run start es).conflicts) (ap events (steps_re f keeps p) ∙ events_re f keeps (steps p));
-    states = ap namespace_states (steps_re f keeps p) ∙ states_re f keeps (steps p);
+    tables = ap tables_by (steps_same f keeps p) ∙ tables_same (steps p);
+    at_nodes = ap node_tables (steps_same f keeps p) ∙ node_tables_same (steps p);
+    conflicts = ap (λ es. (run start es).conflicts) (ap events (steps_same f keeps p) ∙ events_same f keeps (steps p));
+    states = ap namespace_states (steps_same f keeps p) ∙ states_same f keeps (steps p);
   }
 
 -- ---- one mark that is not read

@@ -36,7 +36,7 @@ pub placed_node : (root : Node) (here : Place) (x : Node) → Among (here, x) (a
 placed_node root here x (inl e) = inl (ap (λ q. q.1) e)
 placed_node root here x (inr a) = inr (placed_in _ root.kind root.children here x a)
 
-below_same : {role : Role} {kind : AstType} {span : Span} {text : List ℕ} {marks : Marks} {b b' : Forest} {n n' : ℕ} {a a' : Forest} → tree role kind span text marks b n a ≡ tree role kind span text marks b' n' a' → (b ≡ b') × (n ≡ n') × (a ≡ a')
+pub below_same : {role : Role} {kind : AstType} {span : Span} {text : List ℕ} {marks : Marks} {b b' : Forest} {n n' : ℕ} {a a' : Forest} → tree role kind span text marks b n a ≡ tree role kind span text marks b' n' a' → (b ≡ b') × (n ≡ n') × (a ≡ a')
 below_same h = (cc, cc, cc)
 
 -- the ids lie between the first number and the end

@@ -1,5 +1,5 @@
 -- Where a name belongs to one symbol alone and another is used nowhere, the nodes stand alone.
-use Rattle.std.proofs.Common.{◌≡◌, ℕ, List, [], ◌∷◌, ◌++◌, Bool, true, false, ◌&&◌, ◌||◌, cond, Option, Some, None, ◌⊎◌, inl, inr, if◌then◌else◌, refl, sym, ap, subst, ◌∙◌, map, flat_map, bytes_eq}
+use Rattle.std.proofs.Common.{◌≡◌, ℕ, List, [], ◌∷◌, ◌++◌, Bool, true, false, ◌&&◌, ◌||◌, cond, Some, None, ◌⊎◌, inl, inr, if◌then◌else◌, refl, sym, ap, subst, ◌∙◌, map, flat_map, bytes_eq}
 use Rattle.std.specs.Prelude.{filter, slice_get}
 use Rattle.std.proofs.lemmas.Option.{slice_get_within}
 use Rattle.semantic_kinds.specs.Kinds.{same_kind}
@@ -52,7 +52,7 @@ use Rattle.renamer.specs.Alone.{names_of, BelongsTo, IsUnused}
 use Rattle.renamer.specs.Refusal.{fixes_name, first_fixed}
 use Rattle.renamer.specs.Renamed.{named_by}
 use Rattle.renamer.proofs.Entered.{Enters, enters, place_of}
-use Rattle.renamer.proofs.NamedNodes.{Tells, declares, is_tied, tells, owner_named, symbol_named, tie_named}
+use Rattle.renamer.proofs.NamedNodes.{some_is, Tells, declares, is_tied, tells, owner_named, symbol_named, tie_named}
 use Rattle.renamer.proofs.Refusals.{none_fixes}
 use Rattle.renamer.proofs.Swaps.{Bears, AloneIn}
 
@@ -96,10 +96,7 @@ module _ (p : Tree) (faultless : first_fault p ≡ None) (numbered : IsNumbered 
 
   -- the name of the symbol
   its_name : (x : Name) → IsNamed (tables_of p) s x → x ≡ y.name
-  its_name x w = sym w.named ∙ ap (λ (z : Symbol). z.name) (some_is (sym w.is_there ∙ there))
-    where
-      some_is : {a b : Symbol} → ◌≡◌ {A = Option Symbol} (Some a) (Some b) → a ≡ b
-      some_is e = cc
+  its_name x w = sym w.named ∙ ap (λ (z : Symbol). z.name) (some_is w.symbol y (sym w.is_there ∙ there))
 
   -- a node among the ids is an identifier with the symbol's name
   pub is_of_symbol : (here : placed.Place) (x : Node) → Among (here, x) (all_placed p.root) → contains ids x.node_id ≡ true → (is_identifier x.kind ≡ true) × (x.text ≡ y.name)

@@ -24,7 +24,6 @@ use Rattle.semantic_kinds.specs.declared.part.Part.{Part}
 use Rattle.semantic_kinds.specs.declared.role.Role.{Role}
 use Rattle.semantic_kinds.specs.declared.role.Role.TheVariants as role
 use Rattle.semantic_syntax.specs.Tables.{Name}
-use Rattle.semantic_syntax.specs.declared.spans.Span.{Span}
 use Rattle.semantic_tree.specs.Faults.{first_fault}
 use Rattle.semantic_tree.specs.Fit.{allows, all_of, is_run, AreInRole, Fit}
 use Rattle.semantic_tree.specs.Forest.{Forest, nothing, tree, count, numbered}
@@ -45,7 +44,8 @@ use Rattle.semantic_model.proofs.Clauses.{kind_is}
 use Rattle.semantic_model.proofs.Members.{among_left, among_right}
 use Rattle.program_laws.specs.ReadMarks.{without_mark, without_where}
 use Rattle.renamer.specs.WithName.{is_named_value, sheds, with_name, with_name_in, is_identifier, AreIdentifiers}
-use Rattle.program_laws.proofs.Children.{map_append}
+use Rattle.program_laws.proofs.TreeNodes.{below_same}
+use Rattle.semantic_model.proofs.Alike.{map_append}
 
 -- ---- identifiers
 
@@ -72,9 +72,6 @@ clear_bits b m o h = same_from_bits (bit_or (bit_and b m) o) o (λ i. let e : bi
 
 pub within_without : (marks others : Marks) (m : Mark) → is_within marks others ≡ true → is_within (without_mark marks m) others ≡ true
 within_without marks others m h = eq-eqb (bit_or (without_mark marks m).bits others.bits) others.bits (clear_bits marks.bits _ others.bits (eqb-true (bit_or marks.bits others.bits) others.bits h))
-
-below_same : {role : Role} {kind : AstType} {span : Span} {text : List ℕ} {marks : Marks} {b b' : Forest} {n n' : ℕ} {a a' : Forest} → tree role kind span text marks b n a ≡ tree role kind span text marks b' n' a' → (b ≡ b') × (n ≡ n') × (a ≡ a')
-below_same h = (cc, cc, cc)
 
 module _ (ids : List ℕ) (name : Name) where
   -- the node with the name, if it is among them

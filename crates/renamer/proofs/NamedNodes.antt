@@ -58,7 +58,7 @@ kept test (y ∷ ys) x (inr a) t = go (test y) (kept test ys x a t)
     go true c = inr c
     go false c = c
 
-some_is : {A : Type 0} → (x y : A) → ◌≡◌ {A = Option A} (Some x) (Some y) → x ≡ y
+pub some_is : {A : Type 0} → (x y : A) → ◌≡◌ {A = Option A} (Some x) (Some y) → x ≡ y
 some_is x y e = cc
 
 -- ---- from the ids

@@ -15,6 +15,7 @@ use Rattle.renamer.specs.Refusal.{Refusal, bad_name, fixed, differs, is_bad_name
 use Rattle.renamer.specs.Renamed.{named_by, renamed}
 use Rattle.renamer.specs.Same.{Same, DiffersFirstAt, first_difference}
 use Rattle.renamer.proofs.Differences.{exact_none, exact_some, complete}
+use Rattle.renamer.proofs.NamedNodes.{some_is}
 use Rattle.renamer.proofs.Rising.{Rises, steps_rise, at_least}
 
 -- ---- the least node that fixes a name
@@ -26,9 +27,6 @@ record FirstAt (exported ids : List ℕ) (ss : List Step) (node : ℕ) : Type 0 
   fixes : fixes_name exported ids (entering place) ≡ true
   id : place.node.node_id ≡ node
   least : (other : Place) → Among (entering other) ss → fixes_name exported ids (entering other) ≡ true → node ≤ other.node.node_id
-
-some_number : (m n : ℕ) → Some m ≡ Some n → m ≡ n
-some_number m n e = cc
 
 no_number : (n : ℕ) → ◌≡◌ {A = Option ℕ} None (Some n) → ⊥
 no_number n e = cc
@@ -65,7 +63,7 @@ module _ (exported ids : List ℕ) where
       after other (inr a) = let l : p.node.node_id + 1 ≤ other.node.node_id = at_least (p.node.node_id + 1) high ss h.1 other a in omega (arith, l)
 
       go : (b : Bool) → fixes_name exported ids (entering p) ≡ b → cond b (Some p.node.node_id) (first_fixed exported ids ss) ≡ Some node → (first_fixed exported ids ss ≡ Some node → FirstAt exported ids ss node) → FirstAt exported ids (entering p ∷ ss) node
-      go true t k more = record { place = p; among = inl refl; fixes = t; id = some_number p.node.node_id node k; least = λ other a f. subst (λ i. i ≤ other.node.node_id) (some_number p.node.node_id node k) (after other a) }
+      go true t k more = record { place = p; among = inl refl; fixes = t; id = some_is p.node.node_id node k; least = λ other a f. subst (λ i. i ≤ other.node.node_id) (some_is p.node.node_id node k) (after other a) }
       go false t k more = passes (entering p) ss node t (more k)
   first_at low high (opening p s ∷ ss) node h e = passes (opening p s) ss node refl (first_at low high ss node h e)
   first_at low high (header_ending p s ∷ ss) node h e = passes (header_ending p s) ss node refl (first_at low high ss node h e)

@@ -1,9 +1,6 @@
 -- The nodes of a numbered program are entered in the order of their ids.
 use Rattle.std.proofs.Common.{◌≡◌, ℕ, ◌+◌, ◌≤◌, List, [], ◌∷◌, ◌++◌, Option, Some, None, cond, Bool, true, false, not, ◌&&◌, inl, inr, ap, subst, arith}
-use Rattle.semantic_kinds.specs.declared.kind.AstType.{AstType}
-use Rattle.semantic_kinds.specs.declared.marks.Marks.{Marks}
 use Rattle.semantic_kinds.specs.declared.role.Role.{Role}
-use Rattle.semantic_syntax.specs.declared.spans.Span.{Span}
 use Rattle.semantic_tree.specs.Forest.{Forest, nothing, tree, count, numbered}
 use Rattle.semantic_tree.specs.Tree.{Tree, IsNumbered}
 use Rattle.semantic_tree.specs.declared.node.Node.{Node}
@@ -14,6 +11,7 @@ use Rattle.semantic_model.specs.Nodes.{has_role}
 use Rattle.semantic_model.specs.Place.{Place, OpenScope}
 use Rattle.semantic_model.specs.ScopeKind.{opened_scope}
 use Rattle.semantic_model.specs.Step.{Step, entering, opening, header_ending, closing, leaving, steps_below, steps, opening_at, ending_after, opening_last, scope_at, next_at, child_place, cursor_past, root_place}
+use Rattle.program_laws.proofs.TreeNodes.{below_same}
 
 -- the ids of the nodes that are entered rise from the first number, and stay below the second
 abbrev pub Rises : ℕ → ℕ → List Step → Type 0
@@ -65,9 +63,6 @@ ending_rises p r (Some s) after low = go (is_in_header p.node.kind r && not (has
     go true false = omega arith
     go false true = omega arith
     go false false = omega arith
-
-below_same : {role : Role} {kind : AstType} {span : Span} {text : List ℕ} {marks : Marks} {b b' : Forest} {n n' : ℕ} {a a' : Forest} → tree role kind span text marks b n a ≡ tree role kind span text marks b' n' a' → (b ≡ b') × (n ≡ n') × (a ≡ a')
-below_same h = (cc, cc, cc)
 
 below_rises : (m : ℕ) (p : Place) (own : Option OpenScope) (n cursor : ℕ) (g : Forest) → numbered m g ≡ g → Rises m (m + count g) (steps_below p own n cursor g)
 below_rises m p own n cursor nothing h = subst (λ k. Rises m k (opening_last p own n)) (omega arith) (last_rises p own n m)
