@@ -66,4 +66,5 @@ leaves_nothing here x h = λ i. record {
 }
 
 pub ruleset unnoted = (labels_class_nothing, others_label_nothing)
+
 pub ruleset silent = (enters_nothing, leaves_nothing)
