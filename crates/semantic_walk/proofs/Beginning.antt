@@ -42,6 +42,10 @@ use Rattle.node_store.specs.NodeList.{no_nodes}
 use Rattle.semantic_walk.specs.Listed.{IsNext, listed, all_listed, kept_from, list_kept, kept_nodes}
 use Rattle.semantic_model.specs.NodeTable.{NodeEntry, nodes as entered_nodes}
 use Rattle.semantic_walk.specs.Walker.{Walker}
+use Rattle.semantic_model.specs.Label.{unused_labels}
+use Rattle.walk_notes.specs.NoteLists.{NoteLists, nothing_noted, noted_over, classes_noted}
+use Rattle.walk_notes.proofs.WholeProgram.{program_classes, program_labels}
+use Rattle.unused_labels.specs.LabelStack.{LabelLists}
 use Rattle.semantic_walk.proofs.Listing.{nodes_within, last_without}
 
 named_left : (ds : List Declaration) (ws : List Written) (xs ys : List Step) → AllNamed ds ws (xs ++ ys) → AllNamed ds ws xs
@@ -79,35 +83,35 @@ root_next program numbered false = tt
 root_next program numbered true = record { next = ap (λ (x : Node). x.node_id) numbered; above = ap (λ (id : ℕ). (record { node = program.root; scope = at (root_place program); parent = id }) ∷ []) (sym (ap (λ (x : Node). x.node_id) numbered)); order = root_in_preorder program.root numbered; parents = refl }
 
 -- the walk comes to the root
-root_comes_at : (ds : List Declaration) (program : Tree) (ws : List Written) (keeps : Bool) → program.root.kind ≡ kind.Program → IsNumbered program.root
+root_comes_at : (ds : List Declaration) (program : Tree) (ws : List Written) (keeps on : Bool) → program.root.kind ≡ kind.Program → IsNumbered program.root
     → IsBetween (root_made ds (root_place program)) (root_place program) (Some (root_scope (root_place program))) 1 (on_entering program.root.kind 0) 0 program.root.children
-    → AllNamed ds ws (steps program) → IsComing ds (begun program ws keeps) (root_place program) (Some (root_scope (root_place program))) 1
-root_comes_at ds program ws keeps e numbered h named = record {
+    → AllNamed ds ws (steps program) → IsComing ds (begun program ws keeps on) (root_place program) (Some (root_scope (root_place program))) 1
+root_comes_at ds program ws keeps on e numbered h named = record {
   comes = record { source_type = refl; path = refl; current = refl; cursor = refl; is_ambient = refl; count = omega arith };
   shown = record { chain = tt; grounded = inr e; named = named.0 };
   root = (e, refl);
-  between = between (root_place program) (on_entering program.root.kind 0) program.root.children (root_made ds (root_place program)) (entered ds (begun program ws keeps) (root_place program))
+  between = between (root_place program) (on_entering program.root.kind 0) program.root.children (root_made ds (root_place program)) (entered ds (begun program ws keeps on) (root_place program))
       (entered_is ds (root_place program) e) (none_waits ds (root_place program) e) h;
   named = root_named ds ws (root_place program) (on_entering program.root.kind 0) program.root.children e
       (named_left ds ws (steps_below (root_place program) None 0 (on_entering program.root.kind 0) program.root.children) (leaving (root_place program) ∷ []) named.1);
   kept = root_next program numbered keeps;
 }
 
-pub root_comes : (program : Tree) → first_fault program ≡ None → IsNumbered program.root → (ws : List Written) → (keeps : Bool) → (ds : List Declaration) → AllNamed ds ws (steps program) → IsComing ds (begun program ws keeps) (root_place program) (Some (root_scope (root_place program))) 1
-root_comes program fits numbered ws keeps ds named = root_comes_at ds program ws keeps (root_is_program program fits) numbered (root_between ds program fits) named
+pub root_comes : (program : Tree) → first_fault program ≡ None → IsNumbered program.root → (ws : List Written) → (keeps on : Bool) → (ds : List Declaration) → AllNamed ds ws (steps program) → IsComing ds (begun program ws keeps on) (root_place program) (Some (root_scope (root_place program))) 1
+root_comes program fits numbered ws keeps on ds named = root_comes_at ds program ws keeps on (root_is_program program fits) numbered (root_between ds program fits) named
 
 -- and has made, behind the root, all that the steps do
-pub root_done : (ds : List Declaration) (program : Tree) (ws : List Written) (keeps : Bool) → program.root.kind ≡ kind.Program
-    → (walked_over ds (begun program ws keeps) (root_place program) (Some (root_scope (root_place program))) 1).made
+pub root_done : (ds : List Declaration) (program : Tree) (ws : List Written) (keeps on : Bool) → program.root.kind ≡ kind.Program
+    → (walked_over ds (begun program ws keeps on) (root_place program) (Some (root_scope (root_place program))) 1).made
     ≡ after_all ds (root_made ds (root_place program)) (steps_below (root_place program) (Some (root_scope (root_place program))) 1 (on_entering program.root.kind 0) program.root.children)
-root_done ds program ws keeps e =
+root_done ds program ws keeps on e =
     ap (λ (v : Standing). after_all ds v (steps_below (root_place program) (Some (root_scope (root_place program))) 1 (on_entering program.root.kind 0) program.root.children)) (entered_is ds (root_place program) e)
 
 -- which is the walk over the program
-pub root_walks : (program : Tree) → first_fault program ≡ None → (ws : List Written) (keeps : Bool) → (made : Standing)
-    → made ≡ (walked_over (written_declarations (steps program)) (begun program ws keeps) (root_place program) (Some (root_scope (root_place program))) 1).made → settle_rest made ≡ walked program
-root_walks program fits ws keeps made is =
-    ap settle_rest (is ∙ root_done (written_declarations (steps program)) program ws keeps (root_is_program program fits)) ∙ sym (root_walked program (root_is_program program fits))
+pub root_walks : (program : Tree) → first_fault program ≡ None → (ws : List Written) (keeps on : Bool) → (made : Standing)
+    → made ≡ (walked_over (written_declarations (steps program)) (begun program ws keeps on) (root_place program) (Some (root_scope (root_place program))) 1).made → settle_rest made ≡ walked program
+root_walks program fits ws keeps on made is =
+    ap settle_rest (is ∙ root_done (written_declarations (steps program)) program ws keeps on (root_is_program program fits)) ∙ sym (root_walked program (root_is_program program fits))
 
 -- so it has the tables of the program
 pub root_tables : (program : Tree) → first_fault program ≡ None → (made : Standing) → made ≡ walked program → made.tables ≡ tables_of program
@@ -134,24 +138,24 @@ made_first program k d made root from flags none is typed e first =
     all = e ∙ (λ i. union flag.Top.bits (strict_if (is_module (typed i) || has_use_strict (is i)))) ∙ sym top
 
 -- a walk that has done no more
-pub begins : (program : Tree) (w : Walker) (keeps : Bool) → w.made ≡ open_scope nothing_made (root_place program) (root_scope (root_place program)) → w.source_type ≡ program.source_type → w.node_count ≡ node_count program.root
-    → w.path ≡ [] → w.current ≡ 0 → w.cursor ≡ 0 → w.is_ambient ≡ is_typescript_definition program.source_type → w.nodes ≡ kept_from keeps → w ≡ begun program w.namesakes keeps
-begins program w keeps made from count path current cursor ambient nodes =
-    λ i. record { made = made i; source_type = from i; node_count = count i; namesakes = w.namesakes; path = path i; current = current i; cursor = cursor i; is_ambient = ambient i; nodes = nodes i }
+pub begins : (program : Tree) (w : Walker) (keeps on : Bool) → w.made ≡ open_scope nothing_made (root_place program) (root_scope (root_place program)) → w.source_type ≡ program.source_type → w.node_count ≡ node_count program.root
+    → w.path ≡ [] → w.current ≡ 0 → w.cursor ≡ 0 → w.is_ambient ≡ is_typescript_definition program.source_type → w.nodes ≡ kept_from keeps → w.notes ≡ nothing_noted on → w ≡ begun program w.namesakes keeps on
+begins program w keeps on made from count path current cursor ambient nodes notes =
+    λ i. record { made = made i; source_type = from i; node_count = count i; namesakes = w.namesakes; path = path i; current = current i; cursor = cursor i; is_ambient = ambient i; nodes = nodes i; notes = notes i }
 
 -- the walk comes to the root with the names of the program
-pub walk_comes : (program : Tree) → first_fault program ≡ None → IsNumbered program.root → (keeps : Bool) (w : Walker) → w ≡ begun program w.namesakes keeps → AreNamesOf program w.namesakes
+pub walk_comes : (program : Tree) → first_fault program ≡ None → IsNumbered program.root → (keeps on : Bool) (w : Walker) → w ≡ begun program w.namesakes keeps on → AreNamesOf program w.namesakes
     → IsComing (written_declarations (steps program)) w (root_place program) (Some (root_scope (root_place program))) 1
-walk_comes program fits numbered keeps w first names =
+walk_comes program fits numbered keeps on w first names =
     subst (λ (v : Walker). IsComing (written_declarations (steps program)) v (root_place program) (Some (root_scope (root_place program))) 1) (sym first)
-    (root_comes program fits numbered w.namesakes keeps (written_declarations (steps program)) (names_stand program fits numbered w.namesakes names))
+    (root_comes program fits numbered w.namesakes keeps on (written_declarations (steps program)) (names_stand program fits numbered w.namesakes names))
 
 -- and in the end it has made what the definition of the walk says
-pub walk_ends : (program : Tree) → first_fault program ≡ None → (keeps : Bool) (w v u : Walker) → w ≡ begun program w.namesakes keeps
+pub walk_ends : (program : Tree) → first_fault program ≡ None → (keeps on : Bool) (w v u : Walker) → w ≡ begun program w.namesakes keeps on
     → v ≡ walked_over (written_declarations (steps program)) w (root_place program) (Some (root_scope (root_place program))) 1 → u ≡ record v { made = settle_rest v.made } → u.made ≡ walked program
-walk_ends program fits keeps w v u first over last =
+walk_ends program fits keeps on w v u first over last =
     ap (λ (x : Walker). x.made) last
-    ∙ root_walks program fits w.namesakes keeps v.made
+    ∙ root_walks program fits w.namesakes keeps on v.made
     (ap (λ (x : Walker). x.made) over
     ∙ ap (λ (x : Walker). (walked_over (written_declarations (steps program)) x (root_place program) (Some (root_scope (root_place program))) 1).made) first)
 
@@ -175,12 +179,29 @@ root_listed program e true =
     ∙ sym (nodes_within p p (steps_below p None 0 (on_entering program.root.kind 0) program.root.children)))
 
 -- so these are kept in the end, if nodes are
-pub walk_lists : (program : Tree) → first_fault program ≡ None → (keeps : Bool) (w v u : Walker) → w ≡ begun program w.namesakes keeps
+pub walk_lists : (program : Tree) → first_fault program ≡ None → (keeps on : Bool) (w v u : Walker) → w ≡ begun program w.namesakes keeps on
     → v ≡ walked_over (written_declarations (steps program)) w (root_place program) (Some (root_scope (root_place program))) 1 → u ≡ record v { made = settle_rest v.made } → list_kept u.nodes ≡ kept_nodes keeps program
-walk_lists program fits keeps w v u first over last =
+walk_lists program fits keeps on w v u first over last =
     ap (λ (x : Walker). list_kept x.nodes) (last ∙ ap (λ (x : Walker). record x { made = settle_rest x.made }) over)
     ∙ ap (λ (x : Walker). list_kept (walked_over (written_declarations (steps program)) x (root_place program) (Some (root_scope (root_place program))) 1).nodes) first
     ∙ root_listed program (root_is_program program fits) keeps
+
+-- what is noted in the end is what a walk from the root notes
+notes_last : (program : Tree) (keeps on : Bool) (w v u : Walker) → w ≡ begun program w.namesakes keeps on
+    → v ≡ walked_over (written_declarations (steps program)) w (root_place program) (Some (root_scope (root_place program))) 1 → u ≡ record v { made = settle_rest v.made } → u.notes ≡ noted_over [] program.root (nothing_noted on)
+notes_last program keeps on w v u first over last =
+    ap (λ (x : Walker). x.notes) last ∙ ap (λ (x : Walker). x.notes) over ∙ ap (λ (x : Walker). noted_over [] program.root x.notes) first
+
+-- so it has the program's classes, if it notes them, and its unused labels
+pub walk_classes : (program : Tree) → first_fault program ≡ None → (keeps on : Bool) (w v u : Walker) → w ≡ begun program w.namesakes keeps on
+    → v ≡ walked_over (written_declarations (steps program)) w (root_place program) (Some (root_scope (root_place program))) 1 → u ≡ record v { made = settle_rest v.made } → u.notes.classes.classes ≡ classes_noted on program
+walk_classes program fits keeps on w v u first over last =
+    ap (λ (x : NoteLists). x.classes.classes) (notes_last program keeps on w v u first over last) ∙ program_classes on program fits
+
+pub walk_labels : (program : Tree) → first_fault program ≡ None → (keeps on : Bool) (w v u : Walker) → w ≡ begun program w.namesakes keeps on
+    → v ≡ walked_over (written_declarations (steps program)) w (root_place program) (Some (root_scope (root_place program))) 1 → u ≡ record v { made = settle_rest v.made } → u.notes.labels.unused ≡ unused_labels program.root
+walk_labels program fits keeps on w v u first over last =
+    ap (λ (x : NoteLists). x.labels.unused) (notes_last program keeps on w v u first over last) ∙ ap (λ (x : LabelLists). x.unused) (program_labels on program fits)
 
 -- what is answered, if anything is
 pub of_answer : {A B : Type 0} (r : Result A B) (P Q : A → Type 0) → ((x : A) → P x → Q x) → IfOk r P → IfOk r Q

@@ -1,5 +1,5 @@
 -- The walk enters a node.
-use Rattle.std.proofs.Common.{◌≡◌, List, [], ◌∷◌, ◌++◌, Bool, true, false, cond, Result, OnOk, option_map, refl, sym, ap, subst, ◌∙◌}
+use Rattle.std.proofs.Common.{◌≡◌, List, [], ◌∷◌, ◌++◌, Bool, true, false, cond, option_map, refl, sym, ap, subst, ◌∙◌}
 use Rattle.std.proofs.lemmas.List.{reverse-append}
 use Rattle.semantic_kinds.specs.declared.kind.AstType.TheVariants as kind
 use Rattle.semantic_tree.specs.declared.node.Node.{Node}
@@ -19,6 +19,14 @@ use Rattle.node_store.specs.Entered.{Entered}
 use Rattle.node_store.specs.Entered as store
 use Rattle.semantic_walk.specs.AtPlace.{ComesTo, IsWithin, IsShown, entered, kept_at}
 use Rattle.semantic_walk.specs.Binds.{acting}
+use Rattle.semantic_walk.specs.Paths.{parent_in}
+use Rattle.semantic_walk.proofs.Opening.{alone, parent_above}
+use Rattle.walk_notes.specs.NoteLists.{NoteLists, noting}
+
+-- no more than the parent is asked for
+noting_alone : (path : List Node) (here : Node) (x : NoteLists) → noting (alone path) here x ≡ noting path here x
+noting_alone [] here x = refl
+noting_alone (parent ∷ path) here x = refl
 
 module _ (ds : List Declaration) (w : Walker) (p : Place) (comes : ComesTo w p) (shown : IsShown ds w p) where
   -- the walk has stepped to the node
@@ -55,6 +63,10 @@ module _ (ds : List Declaration) (w : Walker) (p : Place) (comes : ComesTo w p) 
       ∙ ap (λ n. record (noting_node w p.node) { made = note_eval (note_reference w.made p) p; path = w.path ++ p.node ∷ []; cursor = on_entering p.node.kind n }) comes.cursor
       ∙ ap (λ n. record noted { nodes = option_map (λ (e : Entered). store.entering e p.node n) w.nodes }) comes.current
 
+  -- and has declared what the node declares outside
+  abbrev pub stands_in : Walker
+  stands_in = record w { made = entered ds w p; path = w.path ++ p.node ∷ []; cursor = on_entering p.node.kind p.cursor; nodes = kept_at w p }
+
   within_noted : IsWithin noted p p.chain
   within_noted = record {
     source_type = comes.source_type;
@@ -66,12 +78,28 @@ module _ (ds : List Declaration) (w : Walker) (p : Place) (comes : ComesTo w p) 
   shown_noted : IsShown ds noted p
   shown_noted = record { chain = chain_kept w.made.tables noted.made.tables p.chain (prepare_rows w.made (entering p)) shown.chain; grounded = shown.grounded; named = shown.named }
 
-  -- what the node declares outside comes last
-  pub enters : {X E : Type 0} (r : Result X E) (node : Node) (now then_ last : Walker) → p.node ≡ node → now ≡ cond (is kind.IdentifierReference node) (referring (stepped node) node) (stepped node)
+  -- what the node declares outside comes next
+  pub enters : (node : Node) (now then_ last : Walker) → p.node ≡ node → now ≡ cond (is kind.IdentifierReference node) (referring (stepped node) node) (stepped node)
       → then_ ≡ cond (is_direct_eval node) (record now { made = add_eval now.made now.current }) now
-      → (IsWithin then_ p p.chain → IsShown ds then_ p → OnOk r (last ≡ acting ds then_ (declared_on_entering p)))
-      → OnOk r (last ≡ record w { made = entered ds w p; path = w.path ++ p.node ∷ []; cursor = on_entering p.node.kind p.cursor; nodes = kept_at w p })
-  enters r node now then_ last e h k declares =
+      → (IsWithin then_ p p.chain → IsShown ds then_ p → last ≡ acting ds then_ (declared_on_entering p))
+      → last ≡ stands_in
+  enters node now then_ last e h k declares =
       let same : then_ ≡ noted = noted_is node now then_ e h k in
-      subst (λ (v : Walker). OnOk r (last ≡ acting ds v (declared_on_entering p))) same
+      subst (λ (v : Walker). last ≡ acting ds v (declared_on_entering p)) same
       (declares (subst (λ (v : Walker). IsWithin v p p.chain) (sym same) within_noted) (subst (λ (v : Walker). IsShown ds v p) (sym same) shown_noted))
+
+  parent_is : (x : NoteLists) → noting (parent_in (w.path ++ p.node ∷ [])) p.node x ≡ noting p.path p.node x
+  parent_is x =
+      ap (λ (xs : List Node). noting (parent_in xs) p.node x) (ap (λ (xs : List Node). xs ++ p.node ∷ []) comes.path ∙ sym (reverse-append (p.node ∷ []) p.path))
+      ∙ ap (λ (xs : List Node). noting xs p.node x) (parent_above p.node p.path)
+      ∙ noting_alone p.path p.node x
+
+  -- what is noted of classes and labels comes last
+  pub notes_last : (node : Node) (last ended : Walker) → p.node ≡ node → last ≡ stands_in
+      → ended ≡ record last { notes = noting (parent_in last.path) node last.notes }
+      → ended ≡ record stands_in { notes = noting p.path p.node w.notes }
+  notes_last node last ended e h n =
+      n
+      ∙ ap (λ (v : Walker). record v { notes = noting (parent_in v.path) node v.notes }) h
+      ∙ ap (λ (m : Node). record stands_in { notes = noting (parent_in (w.path ++ p.node ∷ [])) m w.notes }) (sym e)
+      ∙ ap (λ (x : NoteLists). record stands_in { notes = x }) (parent_is w.notes)

@@ -58,11 +58,11 @@ parent_last (a ∷ b ∷ []) parent node = refl
 parent_last (a ∷ b ∷ d ∷ above) parent node = parent_last (b ∷ d ∷ above) parent node
 
 -- the first alone
-abbrev alone : List Node → List Node
+abbrev pub alone : List Node → List Node
 alone [] = []
 alone (x ∷ xs) = x ∷ []
 
-parent_above : (node : Node) (path : List Node) → parent_in (reverse (node ∷ path)) ≡ alone path
+pub parent_above : (node : Node) (path : List Node) → parent_in (reverse (node ∷ path)) ≡ alone path
 parent_above node [] = refl
 parent_above node (parent ∷ path) = ap parent_in (reverse-append (node ∷ parent ∷ []) path) ∙ parent_last (reverse path) parent node
 

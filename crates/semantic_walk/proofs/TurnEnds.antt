@@ -25,7 +25,11 @@ pub none_there : (o : Option ℕ) → is_some o ≡ false → o ≡ None
 none_there None e = refl
 none_there (Some s) e = absurd cc
 
--- what follows from two facts of an answer
+-- what follows from a fact of an answer, and from two
+pub on_ok : {T E : Type 0} {P Q : Type 0} (r : Result T E) → OnOk r P → (P → Q) → OnOk r Q
+on_ok (Ok x) p f = f p
+on_ok (Err e) p f = tt
+
 pub on_ok_both : {T E : Type 0} {P Q R : Type 0} (r : Result T E) → OnOk r P → OnOk r Q → (P → Q → R) → OnOk r R
 on_ok_both (Ok x) p q f = f p q
 on_ok_both (Err e) p q f = tt

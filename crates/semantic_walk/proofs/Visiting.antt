@@ -29,6 +29,7 @@ use Rattle.walk_model.proofs.TurnParts.{within_at}
 use Rattle.walk_model.proofs.WalkTurns as turns
 use Rattle.node_store.specs.Entered.{Entered, leaving as leaving_node}
 use Rattle.semantic_walk.specs.Listed.{IsAmong, all_listed}
+use Rattle.walk_notes.specs.NoteLists.{NoteLists, noting, leaving as leaving_notes, noted_inside, noted_over}
 use Rattle.semantic_walk.specs.Walker.{Walker}
 use Rattle.semantic_walk.specs.Turns.{child_scope, own_or}
 use Rattle.semantic_walk.specs.AtPlace.{ComesTo, IsWithin, IsTurnAt, IsBetweenAt, IsOpenAtRoot, IsComing, entered, kept_at, walked_over}
@@ -36,8 +37,8 @@ use Rattle.semantic_walk.specs.declared.visit.Turn.{Turn}
 use Rattle.semantic_walk.proofs.Listing.{last_without, child_kept, rest_kept, rest_lists, first_kept, left_kept}
 
 -- a walk is what it has made and where it stands
-same_walker : (w v : Walker) → w.made ≡ v.made → w.source_type ≡ v.source_type → w.node_count ≡ v.node_count → w.namesakes ≡ v.namesakes → w.path ≡ v.path → w.current ≡ v.current → w.cursor ≡ v.cursor → w.is_ambient ≡ v.is_ambient → w.nodes ≡ v.nodes → w ≡ v
-same_walker w v made source_type node_count namesakes path current cursor is_ambient nodes = λ i. record {
+same_walker : (w v : Walker) → w.made ≡ v.made → w.source_type ≡ v.source_type → w.node_count ≡ v.node_count → w.namesakes ≡ v.namesakes → w.path ≡ v.path → w.current ≡ v.current → w.cursor ≡ v.cursor → w.is_ambient ≡ v.is_ambient → w.nodes ≡ v.nodes → w.notes ≡ v.notes → w ≡ v
+same_walker w v made source_type node_count namesakes path current cursor is_ambient nodes notes = λ i. record {
   made = made i;
   source_type = source_type i;
   node_count = node_count i;
@@ -47,6 +48,7 @@ same_walker w v made source_type node_count namesakes path current cursor is_amb
   cursor = cursor i;
   is_ambient = is_ambient i;
   nodes = nodes i;
+  notes = notes i;
 }
 
 named_left : (ds : List Declaration) (ws : List Written) (xs ys : List Step) → AllNamed ds ws (xs ++ ys) → AllNamed ds ws xs
@@ -84,6 +86,10 @@ module _ (ds : List Declaration) (first : Walker) (p : Place) (own : Option Open
   abbrev pub all_kept : Option Entered
   all_kept = option_map (all_listed (steps_below p own n (on_entering p.node.kind p.cursor) p.node.children)) (kept_at first p)
 
+  -- all that is noted below the node
+  abbrev pub all_noted : NoteLists
+  all_noted = noted_inside p.node p.node.children (noting p.path p.node first.notes)
+
   -- the walk stands between two children of the place, and goes over those that are left to where it is walked over
   pub record Rests (w : Walker) (turn : Turn) (f : Forest) : Type 0 where
     pub scope : Option OpenScope
@@ -96,6 +102,7 @@ module _ (ds : List Declaration) (first : Walker) (p : Place) (own : Option Open
     pub namesakes : w.namesakes ≡ first.namesakes
     pub kept : IfSome w.nodes (IsAmong p f)
     pub lists : option_map (all_listed (steps_below p scope next cursor f)) w.nodes ≡ all_kept
+    pub notes : noted_inside p.node f w.notes ≡ all_noted
 
   own_first : (turn : Turn) (current : ℕ) → turn.own ≡ cond (same_kind p.node.kind kind.Program) (Some current) None → current ≡ at p → IsOpenAtRoot p own → turn.own ≡ option_map (λ s. s.number) own
   own_first turn current e at_p h = e ∙ by own h
@@ -110,7 +117,7 @@ module _ (ds : List Declaration) (first : Walker) (p : Place) (own : Option Open
 
   -- it does so once the node is entered
   pub rests_first : (w : Walker) (turn : Turn) (k : AstType) (f : Forest) → IsComing ds first p own n → k ≡ p.node.kind → f ≡ p.node.children
-      → w ≡ record first { made = entered ds first p; path = first.path ++ p.node ∷ []; cursor = on_entering p.node.kind p.cursor; nodes = kept_at first p }
+      → w ≡ record first { made = entered ds first p; path = first.path ++ p.node ∷ []; cursor = on_entering p.node.kind p.cursor; nodes = kept_at first p; notes = noting p.path p.node first.notes }
       → turn ≡ record { outer = w.current; is_ambient = w.is_ambient; own = cond (same_kind k kind.Program) (Some w.current) None; header_start = length w.made.waiting }
       → Rests w turn f
   rests_first w turn k f h kind_same is e t =
@@ -151,20 +158,21 @@ module _ (ds : List Declaration) (first : Walker) (p : Place) (own : Option Open
         kept = subst (λ (o : Option Entered). IfSome o (IsAmong p f)) (sym nodes)
             (subst (λ (g : Forest). IfSome (kept_at first p) (IsAmong p g)) (sym is) (first_kept p first.nodes h.kept));
         lists = λ i. option_map (all_listed (steps_below p own n cursor (is i))) (nodes i);
+        notes = λ i. noted_inside p.node (is i) (ap (λ (v : Walker). v.notes) e i);
       }
 
   -- behind all children the scope may still open, and then the node is left
   pub walked : (w last left : Walker) (turn : Turn) → IsComing ds first p own n → (h : Rests w turn nothing)
       → last ≡ record w { made = after_all ds w.made (opening_last p h.scope h.next) }
-      → left ≡ record last { path = take (length last.path - 1) last.path; cursor = on_leaving p.node.kind last.cursor; nodes = option_map leaving_node last.nodes }
+      → left ≡ record last { path = take (length last.path - 1) last.path; cursor = on_leaving p.node.kind last.cursor; nodes = option_map leaving_node last.nodes; notes = leaving_notes p.node last.notes }
       → left ≡ walked_over ds first p own n
   walked w last left turn c h e l =
       let comes : ComesTo first p = c.comes in
       let within : IsWithin w p p.chain = h.between.within in
-      let is : left ≡ record w { made = after_all ds w.made (opening_last p h.scope h.next); path = take (length w.path - 1) w.path; cursor = on_leaving p.node.kind w.cursor; nodes = option_map leaving_node w.nodes } =
-      l ∙ ap (λ (v : Walker). record v { path = take (length v.path - 1) v.path; cursor = on_leaving p.node.kind v.cursor; nodes = option_map leaving_node v.nodes }) e in
+      let is : left ≡ record w { made = after_all ds w.made (opening_last p h.scope h.next); path = take (length w.path - 1) w.path; cursor = on_leaving p.node.kind w.cursor; nodes = option_map leaving_node w.nodes; notes = leaving_notes p.node w.notes } =
+      l ∙ ap (λ (v : Walker). record v { path = take (length v.path - 1) v.path; cursor = on_leaving p.node.kind v.cursor; nodes = option_map leaving_node v.nodes; notes = leaving_notes p.node v.notes }) e in
       is
-      ∙ same_walker (record w { made = after_all ds w.made (opening_last p h.scope h.next); path = take (length w.path - 1) w.path; cursor = on_leaving p.node.kind w.cursor; nodes = option_map leaving_node w.nodes }) (walked_over ds first p own n)
+      ∙ same_walker (record w { made = after_all ds w.made (opening_last p h.scope h.next); path = take (length w.path - 1) w.path; cursor = on_leaving p.node.kind w.cursor; nodes = option_map leaving_node w.nodes; notes = leaving_notes p.node w.notes }) (walked_over ds first p own n)
       h.made
       (within.source_type ∙ sym comes.source_type)
       (within.count ∙ sym comes.count)
@@ -174,6 +182,7 @@ module _ (ds : List Declaration) (first : Walker) (p : Place) (own : Option Open
       (ap (on_leaving p.node.kind) (h.between.flags ∙ h.moves))
       (h.between.is_ambient ∙ sym comes.is_ambient)
       (left_kept p (steps_below p own n (on_entering p.node.kind p.cursor) p.node.children) (opening_last p h.scope h.next) (last_without p h.scope h.next) w.nodes first.nodes h.kept c.kept h.lists)
+      (ap (leaving_notes p.node) h.notes)
 
 -- a child where it begins, and how many scopes there are behind it
 abbrev pub place_of : Place → Option OpenScope → (n cursor : ℕ) → Role × Node → Place
@@ -265,6 +274,7 @@ module _ (ds : List Declaration) (p : Place) (own : Option OpenScope) (n cursor 
       (λ i. cursor_before p.node (ambient_inside p.node (t.is_ambient i)) child.0 child.1 ((ap (λ (v : Walker). v.cursor) o ∙ h.flags) i))
       (ap (λ (b : Bool). ambient_round p.node b child.0) t.is_ambient)
       (ap (λ (v : Walker). v.nodes) o)
+      (ap (λ (v : Walker). v.notes) o)
 
   -- so it comes to the child with all that the recursion knows
   pub comes_to_child : (w v : Walker) (turn : Turn) → IsBetweenAt ds w turn p own n cursor start (forest_of (child ∷ rest))
@@ -366,6 +376,7 @@ rests_past ds first p own n child rest w v past ended before turn h e t k b =
       kept = subst (λ (o : Option Entered). IfSome o (IsAmong p (forest_of rest))) (sym nodes) (rest_kept p h.scope h.next h.cursor child rest w.nodes h.kept);
       lists = ap (option_map (all_listed (steps_below p scope next (cursor_past p child.0 h.cursor place) (forest_of rest)))) nodes
           ∙ rest_lists p h.scope h.next h.cursor child rest w.nodes ∙ h.lists;
+      notes = ap (noted_inside p.node (forest_of rest)) (ap (λ (u : Walker). u.notes) b ∙ ap (λ (u : Walker). u.notes) k ∙ ap (λ (u : Walker). noted_over (p.node ∷ p.path) child.1 u.notes) e) ∙ h.notes;
     }
 
 module _ (p : Place) (own : Option OpenScope) (start : ℕ) (k : AstType) (r : Role) (turn : Turn) (before : ℕ) (past back turned : Walker) where

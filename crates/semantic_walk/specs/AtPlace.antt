@@ -13,6 +13,7 @@ use Rattle.walk_model.specs.Shown.{ShowsChain, IsGrounded}
 use Rattle.walk_model.specs.NamedScopes.{IsStepNamed, AllNamed}
 use Rattle.walk_model.specs.Recursion.{IsBetween}
 use Rattle.node_store.specs.Entered.{Entered}
+use Rattle.walk_notes.specs.NoteLists.{noted_over}
 use Rattle.semantic_walk.specs.Listed.{IsNext, all_listed, entered_at}
 use Rattle.semantic_walk.specs.Walker.{Walker}
 use Rattle.semantic_walk.specs.declared.visit.Turn.{Turn}
@@ -85,4 +86,5 @@ walked_over ds w p own n = record w {
   made = after_all ds (entered ds w p) (steps_below p own n (on_entering p.node.kind p.cursor) p.node.children);
   cursor = on_leaving p.node.kind (cursor_after p.node p.is_ambient (on_entering p.node.kind p.cursor) p.node.children);
   nodes = option_map (all_listed (entering p ∷ steps_below p own n (on_entering p.node.kind p.cursor) p.node.children)) w.nodes;
+  notes = noted_over p.path p.node w.notes;
 }

@@ -20,13 +20,14 @@ use Rattle.walk_model.specs.Standing.{nothing_made}
 use Rattle.walk_model.specs.Opens.{open_scope}
 use Rattle.walk_model.specs.Noted.{pairs_of}
 use Rattle.walk_model.specs.WrittenNames.{Written, is_written, is_sloppy, names_written}
+use Rattle.walk_notes.specs.NoteLists.{nothing_noted}
 use Rattle.table_building.specs.Conflicting.{told}
 use Rattle.semantic_walk.specs.Listed.{kept_from}
 use Rattle.semantic_walk.specs.Walker.{Walker}
 
--- the walk stands at the root, whose scope is open
-abbrev pub begun : Tree → List Written → (keeps : Bool) → Walker
-begun program ws keeps =
+-- the walk stands at the root, whose scope is open; it keeps nodes and notes classes, or doesn't
+abbrev pub begun : Tree → List Written → (keeps notes : Bool) → Walker
+begun program ws keeps notes =
     let p : Place = root_place program in
     record {
       made = open_scope nothing_made p (opened_scope p 0);
@@ -38,6 +39,7 @@ begun program ws keeps =
       cursor = 0;
       is_ambient = is_typescript_definition program.source_type;
       nodes = kept_from keeps;
+      notes = nothing_noted notes;
     }
 
 -- the names are those that the program writes, if functions move in it

@@ -14,6 +14,7 @@ use Rattle.semantic_model.specs.ScopeKind.{flags_of_kind, strict_if}
 use Rattle.walk_model.specs.Standing.{Standing}
 use Rattle.walk_model.specs.Opens.{refer_to, open_in}
 use Rattle.walk_model.specs.WrittenNames.{Written}
+use Rattle.walk_notes.specs.NoteLists.{NoteLists}
 use Rattle.semantic_walk.specs.Paths.{parent_in}
 use Rattle.semantic_walk.specs.declared.walk.Walk.TheInside.{Inside}
 
@@ -33,6 +34,8 @@ pub record Walker : Type 0 where
   pub is_ambient : Bool
   -- the nodes that it has entered, if they are kept
   pub nodes : Option Entered
+  -- the classes, if they are noted, and the labels
+  pub notes : NoteLists
 
 abbrev pub walker : Inside → Walker
 walker w = record {
@@ -45,6 +48,7 @@ walker w = record {
   cursor = w.cursor.bits;
   is_ambient = w.is_ambient;
   nodes = w.nodes;
+  notes = w.notes;
 }
 
 -- the node where the walk stands

@@ -359,7 +359,6 @@ impl<'a> Walk<'a> {
             left = rest;
         }
         self.open_last(kind, role, &turn)?;
-        self.leave(kind);
-        Ok(())
+        self.leave(kind)
     }
 }

@@ -4,7 +4,9 @@ ghost use Rattle.std.specs.Prelude.{◌≡◌, ◌==◌, ◌&&◌, ◌<◌, ◌�
 ghost use Rattle.std.specs.Str.{chars};
 ghost use Rattle.semantic_kinds.specs.declared.kind.AstType.TheVariants.{IdentifierReference as identifier_reference, CatchClause as catch_clause};
 ghost use Rattle.scoping.specs.Reading.{bindings_of, scope_of};
-ghost use Rattle.semantic_model.specs.Nodes.{is};
+ghost use Rattle.semantic_kinds.specs.declared.role.Role.TheVariants.{Callee as callee_role};
+ghost use Rattle.semantic_model.specs.Inner.{inner_expression};
+ghost use Rattle.semantic_model.specs.Nodes.{is, holds, child_of, reads as reads_word};
 ghost use Rattle.semantic_model.specs.Place.{Place, OpenScope, parent_holds};
 ghost use Rattle.semantic_model.specs.Cursor.{on_entering, on_leaving};
 ghost use Rattle.semantic_model.specs.Binder.{declared_on_entering, declared_on_opening};
@@ -22,6 +24,7 @@ ghost use Rattle.node_rules.specs.Seen.{path_of};
 ghost use Rattle.semantic_walk.specs.Paths.{parent_in};
 ghost use Rattle.semantic_walk.specs.Walker.{place_in, noting_node, referring, opening_in, taking_over};
 ghost use Rattle.semantic_walk.specs.Listed.{kept_from, list_kept};
+ghost use Rattle.walk_notes.specs.NoteLists.{noting, leaving as leaving_notes};
 ghost use Rattle.node_store.specs.Entered.{leaving};
 ghost use Rattle.semantic_walk.specs.Begun.{begun, AreNamesOf};
 ghost use Rattle.table_building.specs.Conflicting.{told};
@@ -42,11 +45,13 @@ use node_rules::scope_kind::{flags_of, root_flags};
 use node_store::{AstNodes, EnteredNodes};
 use semantic_diagnostics::Diagnostics;
 use semantic_syntax::{Ident, ReferenceFlags, ScopeFlags, ScopeId, SourceType, Steps};
-use semantic_tree::{AstKind, AstType, Program, Role};
+use semantic_tree::{AstKind, AstType, Mark, Program, Role};
 use std::alloc::{AllocError, Global};
 use std::marker::Model;
 use table_building::declared::Declared;
 use table_building::route::Route;
+use walk_notes::Notes;
+use walk_notes::notes::{is_noted, is_noted_behind};
 
 /// The walker's state: what the walk has made so far, and where it stands.
 #[derive(Drop)]
@@ -67,6 +72,8 @@ pub struct Walk<'a> {
     pub(crate) is_ambient: bool,
     /// The nodes that the walk has entered, if they are kept.
     pub(crate) nodes: Option<EnteredNodes<'a>>,
+    /// The classes, if they are noted, and the labels.
+    pub(crate) notes: Notes<'a>,
 }
 
 impl<'a> Model for Walk<'a> {
@@ -122,13 +129,15 @@ fn nodes_kept<'a>(alloc: Global, kept: Option<EnteredNodes<'a>>) -> AstNodes<'a>
 
 #[tactic(auto, using(crate::proofs::Going::going))]
 impl<'a> Walk<'a> {
-    /// The state at the root, whose scope is open. The nodes that are entered are kept, or not.
+    /// The state at the root, whose scope is open. The nodes that are entered are kept, or not, and classes are noted,
+    /// or not.
     pub(crate) fn new(
         alloc: Global,
         program: &'a Program,
         keeps: bool,
+        classes: bool,
     ) -> Result<Walk<'a>, AllocError>
-        ensures begins { IfOk result (λ w. w ≡ begun program.now w.namesakes keeps) }
+        ensures begins { IfOk result (λ w. w ≡ begun program.now w.namesakes keeps classes) }
         ensures names { IfOk result (λ w. AreNamesOf program.now w.namesakes) }
     {
         let source_type = program.source_type();
@@ -146,6 +155,7 @@ impl<'a> Walk<'a> {
             cursor: ReferenceFlags::empty(),
             is_ambient: source_type.is_typescript_definition(),
             nodes: keeping(alloc, keeps),
+            notes: Notes::new(alloc, classes),
         })
     }
 
@@ -182,6 +192,33 @@ impl<'a> Walk<'a> {
         match &mut self.nodes {
             Some(nodes) => nodes.leave(),
             None => {}
+        }
+    }
+
+    /// Notes what is entered of classes and labels.
+    #[tactic(auto, using(crate::proofs::Going::going, walk_notes::proofs::Unnoted::silent))]
+    fn note(&mut self, kind: AstKind<'a>) -> Result<(), AllocError>
+        ensures made { OnOk result (self.new ≡ record self.old { notes = noting (parent_in self.old.path) kind.entry.node.now self.old.notes }) }
+        ensures goes { OnOk result (Goes self.old.made self.new.made) }
+    {
+        if is_noted(kind.ty()) {
+            let parent = self.parent();
+            self.notes.enter(kind, parent)
+        } else {
+            Ok(())
+        }
+    }
+
+    /// Notes what is left of classes and labels.
+    #[tactic(auto, using(crate::proofs::Going::going, walk_notes::proofs::Unnoted::silent))]
+    fn note_behind(&mut self, kind: AstKind<'a>) -> Result<(), AllocError>
+        ensures made { OnOk result (self.new ≡ record self.old { notes = leaving_notes kind.entry.node.now self.old.notes }) }
+        ensures goes { OnOk result (Goes self.old.made self.new.made) }
+    {
+        if is_noted_behind(kind.ty()) {
+            self.notes.leave(kind)
+        } else {
+            Ok(())
         }
     }
 
@@ -233,16 +270,18 @@ impl<'a> Walk<'a> {
         }
     }
 
-    /// Enters a node: what it declares outside of its own scope is declared, and a reference is noted.
+    /// Enters a node: what it declares outside of its own scope is declared, and references, classes and labels are
+    /// noted.
     pub(crate) fn enter(&mut self, kind: AstKind<'a>) -> Result<(), AllocError>
         ensures walks { (ds : List Declaration) (p : Place) → p.node ≡ kind.entry.node.now → ComesTo self.old p → IsShown ds self.old p →
-            OnOk result (self.new ≡ record self.old { made = entered ds self.old p; path = self.old.path ++ p.node ∷ []; cursor = on_entering p.node.kind p.cursor; nodes = kept_at self.old p }) }
+            OnOk result (self.new ≡ record self.old { made = entered ds self.old p; path = self.old.path ++ p.node ∷ []; cursor = on_entering p.node.kind p.cursor; nodes = kept_at self.old p; notes = noting p.path p.node self.old.notes }) }
         ensures goes { OnOk result (Goes self.old.made self.new.made) }
     {
         self.step_to(kind)?;
         self.note_reference(kind)?;
         self.note_eval(kind);
-        self.declare(kind, false)
+        self.declare(kind, false)?;
+        self.note(kind)
     }
 
     /// Notes a reference, which waits in the current scope.
@@ -353,13 +392,14 @@ impl<'a> Walk<'a> {
     }
 
     /// Leaves the node that is visited.
-    pub(crate) fn leave(&mut self, kind: AstKind<'a>)
-        ensures made { self.new ≡ record self.old { path = take (length self.old.path - 1) self.old.path; cursor = on_leaving kind.entry.node.now.kind self.old.cursor; nodes = option_map leaving self.old.nodes } }
-        ensures goes { Goes self.old.made self.new.made }
+    pub(crate) fn leave(&mut self, kind: AstKind<'a>) -> Result<(), AllocError>
+        ensures made { OnOk result (self.new ≡ record self.old { path = take (length self.old.path - 1) self.old.path; cursor = on_leaving kind.entry.node.now.kind self.old.cursor; nodes = option_map leaving self.old.nodes; notes = leaving_notes kind.entry.node.now self.old.notes }) }
+        ensures goes { OnOk result (Goes self.old.made self.new.made) }
     {
         self.leave_node();
         self.cursor = cursor::on_leaving(kind.ty(), self.cursor);
         self.path.pop();
+        self.note_behind(kind)
     }
 
     /// At the end of a header the references that wait since its start are looked up as far as its scope.
@@ -405,12 +445,17 @@ impl<'a> Walk<'a> {
         ensures tables { result.tables ≡ self.entry.made.nodes }
         ensures diagnostics { result.diagnostics ≡ diagnostics }
         ensures node_list { result.nodes ≡ list_kept self.entry.nodes }
+        ensures classes { result.classes ≡ self.entry.notes.classes.classes }
+        ensures labels { result.unused_labels.items ≡ self.entry.notes.labels.unused }
     {
         let (scoping, tables) = self.declared.into_tables();
+        let (classes, unused_labels) = self.notes.into_parts();
         Analysis {
             scoping,
             tables,
             nodes: nodes_kept(self.alloc, self.nodes),
+            classes,
+            unused_labels,
             diagnostics,
         }
     }

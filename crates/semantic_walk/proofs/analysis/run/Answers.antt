@@ -1,4 +1,4 @@
-use Rattle.std.proofs.Common.{◌≡◌, Bool, Some, None, Result, Ok, Err, ap, sym, subst, map, refl, List, OnOk, ◌∙◌}
+use Rattle.std.proofs.Common.{◌≡◌, Bool, Some, None, Result, Ok, Err, ap, sym, subst, map, refl, List, IfOk, OnOk, ◌∙◌}
 use Rattle.semantic_syntax.specs.Tables.{Tables}
 use Rattle.semantic_tree.specs.Faults.{first_fault}
 use Rattle.semantic_tree.specs.Tree.{Tree}
@@ -17,7 +17,8 @@ use Rattle.walk_model.proofs.RootSteps.{root_scope}
 use Rattle.semantic_walk.specs.Begun.{begun, AreNamesOf, FitsProgram, IsAnalysis}
 use Rattle.semantic_walk.specs.AtPlace.{walked_over}
 use Rattle.table_building.specs.Conflicting.{told}
-use Rattle.semantic_walk.proofs.Beginning.{walk_comes, walk_ends, walk_lists, root_tables, root_conflicts, root_nodes, of_answer}
+use Rattle.semantic_walk.specs.Listed.{list_kept, kept_nodes}
+use Rattle.semantic_walk.proofs.Beginning.{walk_comes, walk_ends, walk_lists, walk_classes, walk_labels, root_tables, root_conflicts, root_nodes, of_answer}
 use Rattle.semantic_walk.proofs.analysis.run.Given as given
 use Rattle.semantic_walk.proofs.analysis.run.Goals as goal
 
@@ -25,7 +26,7 @@ to_ok : {X E : Type 0} (r : Result X E) (P : Type 0) → P → OnOk r P
 to_ok (Ok x) P h = h
 to_ok (Err e) P h = tt
 
-module _ (g : given.Over) (c : goal.After-diagnostics g) (keeps : Bool) (first : c.args.walk.now ≡ begun c.args.program.now c.args.walk.now.namesakes keeps) (names : AreNamesOf c.args.program.now c.args.walk.now.namesakes) where
+module _ (g : given.Over) (c : goal.After-diagnostics g) (keeps on : Bool) (first : c.args.walk.now ≡ begun c.args.program.now c.args.walk.now.namesakes keeps on) (names : AreNamesOf c.args.program.now c.args.walk.now.namesakes) where
   abbrev program : Tree
   program = c.args.program.now
 
@@ -36,11 +37,11 @@ module _ (g : given.Over) (c : goal.After-diagnostics g) (keeps : Bool) (first :
   over : c.visit.new.self ≡ walked_over (written_declarations (steps program)) c.args.walk.now (root_place program) (Some (root_scope (root_place program))) 1
   over =
       c.in_ok-visit.ensures.walks (written_declarations (steps program)) (root_place program) (Some (root_scope (root_place program))) 1 (sym c.root.ensures.root) refl
-      (walk_comes program fits c.root.ensures.numbered keeps c.args.walk.now first names)
+      (walk_comes program fits c.root.ensures.numbered keeps on c.args.walk.now first names)
 
   -- what the walk has made is what its definition says
   whole : c.end.new.self.made ≡ walked program
-  whole = walk_ends program fits keeps c.args.walk.now c.visit.new.self c.end.new.self first over c.in_ok-end.ensures
+  whole = walk_ends program fits keeps on c.args.walk.now c.visit.new.self c.end.new.self first over c.in_ok-end.ensures
 
   -- the program's tables are as the laws say, so these are
   analysed : (t : Tables) → t ≡ tables_of program → (diagnostics : List Diagnostic) → diagnostics ≡ map told c.end.new.self.made.conflicts → IsAnalysis program t diagnostics
@@ -55,14 +56,22 @@ module _ (g : given.Over) (c : goal.After-diagnostics g) (keeps : Bool) (first :
   }
 
 pub returns-clause-analysis : goal.returns-clause-analysis
-returns-clause-analysis g c = λ keeps first names.
+returns-clause-analysis g c = λ keeps on first names.
     of_answer c.diagnostics.result (λ ds. ds ≡ map told c.end.new.self.made.conflicts) (λ ds. IsAnalysis c.args.program.now c.end.new.self.made.tables ds)
-    (λ ds d. analysed g c keeps first names c.end.new.self.made.tables (root_tables c.args.program.now (fits g c keeps first names) c.end.new.self.made (whole g c keeps first names)) ds d) c.diagnostics.ensures
+    (λ ds d. analysed g c keeps on first names c.end.new.self.made.tables (root_tables c.args.program.now (fits g c keeps on first names) c.end.new.self.made (whole g c keeps on first names)) ds d) c.diagnostics.ensures
 
 pub returns-clause-nodes : goal.returns-clause-nodes
-returns-clause-nodes g c = λ keeps first names.
-    to_ok c.diagnostics.result _ (root_nodes c.args.program.now (fits g c keeps first names) c.root.ensures.numbered c.end.new.self.made (whole g c keeps first names))
+returns-clause-nodes g c = λ keeps on first names.
+    to_ok c.diagnostics.result _ (root_nodes c.args.program.now (fits g c keeps on first names) c.root.ensures.numbered c.end.new.self.made (whole g c keeps on first names))
 
 pub returns-clause-node_list : goal.returns-clause-node_list
-returns-clause-node_list g c = λ keeps first names.
-    to_ok c.diagnostics.result _ (walk_lists c.args.program.now (fits g c keeps first names) keeps c.args.walk.now c.visit.new.self c.end.new.self first (over g c keeps first names) c.in_ok-end.ensures)
+returns-clause-node_list g c = λ keeps on first names.
+    to_ok c.diagnostics.result _ (walk_lists c.args.program.now (fits g c keeps on first names) keeps on c.args.walk.now c.visit.new.self c.end.new.self first (over g c keeps on first names) c.in_ok-end.ensures)
+
+pub returns-clause-classes : goal.returns-clause-classes
+returns-clause-classes g c = λ keeps on first names.
+    to_ok c.diagnostics.result _ (walk_classes c.args.program.now (fits g c keeps on first names) keeps on c.args.walk.now c.visit.new.self c.end.new.self first (over g c keeps on first names) c.in_ok-end.ensures)
+
+pub returns-clause-labels : goal.returns-clause-labels
+returns-clause-labels g c = λ keeps on first names.
+    to_ok c.diagnostics.result _ (walk_labels c.args.program.now (fits g c keeps on first names) keeps on c.args.walk.now c.visit.new.self c.end.new.self first (over g c keeps on first names) c.in_ok-end.ensures)

@@ -1,5 +1,5 @@
-use Rattle.std.proofs.Common.{◌≡◌, ◌+◌, length, arith}
-use Rattle.semantic_walk.specs.Paths.{nodes_on}
+use Rattle.std.proofs.Common.{◌≡◌, ◌+◌, length, map, arith}
+use Rattle.semantic_walk.specs.Paths.{is_marked, nodes_on}
 use Rattle.semantic_walk.proofs.Parents.{mark_found}
 use Rattle.semantic_walk.proofs.path.Path.parent_mark.Goals as goal
 

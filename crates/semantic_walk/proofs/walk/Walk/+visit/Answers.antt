@@ -11,10 +11,12 @@ use Rattle.walk_model.specs.Standing.{Standing}
 use Rattle.walk_model.specs.Waits.{HoldsAt, start_at}
 use Rattle.walk_model.specs.Walks.{after_all}
 use Rattle.node_store.specs.Entered.{leaving}
+use Rattle.walk_notes.specs.NoteLists.{leaving as leaving_notes}
 use Rattle.semantic_walk.specs.Walker.{Walker}
 use Rattle.semantic_walk.specs.AtPlace.{IsComing, walked_over}
 use Rattle.semantic_walk.specs.declared.visit.Turn.{Turn}
 use Rattle.table_building.proofs.Growing.{goes-refl, grows-trans}
+use Rattle.semantic_walk.proofs.TurnEnds.{on_ok}
 use Rattle.semantic_walk.proofs.Visiting.{Rests, rests_first, rests_past, walked, place_of, comes_to_child, holds_past, behind_child}
 use Rattle.semantic_walk.proofs.walk.Walk.+visit.Goals as goal
 
@@ -71,6 +73,10 @@ loop-child_role-preserved g t c =
           rests_past ds c.args.self.now p own n child rest w v past c.finish_child.new.self c.loop-child_role.turn c.begin_child.new.turn h came.0 came.1 went ended;
     }
 
+-- the node is left
+abbrev left_at : Node → Walker → Walker
+left_at x last = record last { path = take (length last.path - 1) last.path; cursor = on_leaving x.kind last.cursor; nodes = option_map leaving last.nodes; notes = leaving_notes x last.notes }
+
 no_children : (items : List (Role × Node)) → length items ≡ 0 → forest_of items ≡ nothing
 no_children [] h = refl
 no_children (x ∷ xs) h = absurd (omega arith)
@@ -81,7 +87,7 @@ returns-clause-walks g t c = λ ds p own n node role coming.
     let last : Walker = c.open_last.new.self in
     let h : Rests ds c.args.self.now p own n w c.loop-child_role.turn nothing =
     subst (λ (f : Forest). Rests ds c.args.self.now p own n w c.loop-child_role.turn f) (no_children c.loop-child_role.left.now c.in_default.ensures.cases) (c.loop-child_role.invariant.rests ds p own n node role coming) in
-    let left : c.leave.new.self ≡ record last { path = take (length last.path - 1) last.path; cursor = on_leaving p.node.kind last.cursor; nodes = option_map leaving last.nodes } =
-    ◌∙◌ {b = record last { path = take (length last.path - 1) last.path; cursor = on_leaving c.args.kind.node.now.kind last.cursor; nodes = option_map leaving last.nodes }} c.leave.ensures.made
-    (ap (λ (x : Node). record last { path = take (length last.path - 1) last.path; cursor = on_leaving x.kind last.cursor; nodes = option_map leaving last.nodes }) (sym node)) in
-    walked ds c.args.self.now p own n w last c.leave.new.self c.loop-child_role.turn coming h (c.in_ok-open_last.ensures.ends ds p h.scope h.next h.cursor h.start node role h.between) left
+    on_ok c.leave.result c.leave.ensures.made
+    (λ made.
+    walked ds c.args.self.now p own n w last c.leave.new.self c.loop-child_role.turn coming h (c.in_ok-open_last.ensures.ends ds p h.scope h.next h.cursor h.start node role h.between)
+    (◌∙◌ {b = left_at c.args.kind.node.now last} made (ap (λ (x : Node). left_at x last) (sym node))))

@@ -1,0 +1,2 @@
+pub mod Unnoted
+pub mod WholeProgram
