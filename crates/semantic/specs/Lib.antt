@@ -3,4 +3,5 @@ pub mod FreeReference
 pub mod Lending
 pub use Rattle.semantic_walk.specs.Begun
 pub use Rattle.semantic_walk.specs.Listed
+pub use Rattle.walk_notes.specs.NoteLists
 pub use Rattle.namespace_states.specs.InstanceStates

@@ -14,6 +14,7 @@ ghost use Rattle.semantic.specs.Lending.{LendsScoping};
 
 use crate::global_reference::IsGlobalReference;
 use crate::stats::Stats;
+use class_table::ClassTable;
 use node_store::AstNodes;
 use scoping::{NodeTables, ReferencesIter, Scoping};
 use semantic_diagnostics::Diagnostics;
@@ -27,6 +28,8 @@ pub struct Semantic<'a> {
     pub(crate) scoping: Scoping,
     pub(crate) tables: NodeTables,
     pub(crate) nodes: AstNodes<'a>,
+    pub(crate) classes: ClassTable<'a>,
+    pub(crate) unused_labels: Vec<NodeId>,
     pub(crate) comments: &'a [Comment],
     pub(crate) irregular_whitespaces: Vec<Span>,
 }
@@ -66,6 +69,20 @@ impl<'a> Semantic<'a> {
         ensures { result.now ≡ self.now.tables }
     {
         &self.tables
+    }
+
+    /// The classes of the program, with their elements and the uses of private names; none where they weren't noted.
+    pub fn classes(&self) -> &ClassTable<'a>
+        ensures { result.now ≡ self.now.classes }
+    {
+        &self.classes
+    }
+
+    /// The labelled statements that no jump names, in the order in which they end.
+    pub fn unused_labels(&self) -> &[NodeId]
+        ensures { result.now ≡ self.now.unused_labels.items }
+    {
+        self.unused_labels.as_slice()
     }
 
     /// The source of the program.

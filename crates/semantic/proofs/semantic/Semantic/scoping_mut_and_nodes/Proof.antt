@@ -67,7 +67,7 @@ module _ (l : NamedLft) (h : Semantic) where
     field = one_at full_share parts zero (T.to h) b o
 
     abbrev after_nodes : Fml
-    after_nodes = fsep (field 4) (fsep (field 5) ftrue)
+    after_nodes = fsep (field 4) (fsep (field 5) (fsep (field 6) (fsep (field 7) ftrue)))
 
     abbrev Back : SProp 𝓤
     Back = PartsBack 𝓛 full_share T.name parts b o
