@@ -9,7 +9,7 @@ cd "$(dirname "$0")/.."
 [ $# -gt 0 ] || set -- 10000 100000 1000000
 . bench/scratch.sh
 new_program analysing 'semantic tree_json semantic_tree' semantic_syntax semantic_kinds semantic_tree semantic_model scoping \
-    resolver walk_model node_store semantic_diagnostics node_rules namespace_states namesakes table_building semantic_walk semantic tree_json
+    resolver walk_model node_store class_table unused_labels walk_notes semantic_diagnostics node_rules namespace_states namesakes table_building semantic_walk semantic tree_json
 
 cat >"$program/src/main.rt" <<'SOURCE'
 // Times the reading of the tree on standard input, and its analysis.
