@@ -29,8 +29,9 @@ fn leaves_unused(rt: &impl Abort, alloc: Global, tree: &str, nodes: &[NodeId]) -
 #[test]
 fn a_jump_uses_the_innermost_label_also_across_functions(rt: HostRuntime) -> Result<(), Fail> {
     let alloc = rt.alloc();
+    let none = Vec::new(alloc);
     leaves_unused(&rt, alloc, LOOP_AND_LABEL, [NodeId::new(7)].as_slice())?;
-    leaves_unused(&rt, alloc, JUMP_OUT_OF_FUNCTION, [].as_slice())?;
+    leaves_unused(&rt, alloc, JUMP_OUT_OF_FUNCTION, none.as_slice())?;
     leaves_unused(&rt, alloc, SAME_LABEL_TWICE, [NodeId::new(1)].as_slice())?;
     Ok(())
 }
