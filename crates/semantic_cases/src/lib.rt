@@ -2,8 +2,8 @@
 #![tactic(auto)]
 
 #[cfg(test)]
-mod classes;
+mod answers;
 #[cfg(test)]
-mod labels;
+mod cases;
 #[cfg(test)]
-mod tests;
+mod trees;
