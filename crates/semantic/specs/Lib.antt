@@ -1,4 +1,5 @@
 pub mod Tally
+pub mod Expected
 pub mod FreeReference
 pub mod Lending
 pub use Rattle.count_laws.specs.Counted
