@@ -6,4 +6,6 @@ mod classes;
 #[cfg(test)]
 mod labels;
 #[cfg(test)]
+mod sizes;
+#[cfg(test)]
 mod tests;
