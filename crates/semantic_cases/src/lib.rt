@@ -6,4 +6,6 @@ mod answers;
 #[cfg(test)]
 mod cases;
 #[cfg(test)]
+mod sizes;
+#[cfg(test)]
 mod trees;
