@@ -1,5 +1,5 @@
 -- What is handed to a check beside the node, and what the check sees by it.
-use Rattle.std.specs.Prelude.{◌≡◌, ◌<◌, ◌≤◌, [], drop, length, true}
+use Rattle.std.specs.Prelude.{◌≡◌, ◌<◌, ◌≤◌, ◌||◌, [], Bool, true, drop, length}
 use Rattle.semantic_syntax.specs.declared.spans.Span.{Span}
 use Rattle.semantic_kinds.specs.MarkSets.{no_marks}
 use Rattle.semantic_kinds.specs.declared.kind.AstType.TheVariants.{Program}
@@ -11,7 +11,7 @@ use Rattle.semantic_tree.specs.declared.node.Node.{Node}
 use Rattle.node_store.specs.PathOf.{path_of, IsInStore}
 use Rattle.class_table.specs.Building.{IsCurrent}
 use Rattle.check_model.specs.Context.{Context, sight_shown}
-use Rattle.check_model.specs.Sight.{Sight}
+use Rattle.check_model.specs.Sight.{Sight, SeenScope}
 use Rattle.checker.specs.declared.context.CheckContext.{CheckContext}
 
 -- what is handed in, as values
@@ -39,6 +39,10 @@ no_node = record { kind = Program; span = record { start = 0; end = 0 }; text = 
 -- what a check sees around the node, whatever the node is
 abbrev pub around : CheckContext → Sight
 around ctx = sight no_node ctx
+
+-- the scope is a static block's or a function's
+abbrev pub is_block_or_function : SeenScope → Bool
+is_block_or_function seen = seen.is_static_block || seen.is_function
 
 -- the current node is in its store, scope and class are in their tables, and the source keeps its limit
 pub record IsContext (ctx : CheckContext) : Type 0 where

@@ -1,12 +1,13 @@
 //! What is handed to a check beside the node.
-ghost use Rattle.std.specs.Prelude.{◌≡◌, option_map};
+ghost use Rattle.std.specs.Prelude.{◌≡◌, ◌<◌, true, length, option_map, IfSome};
 ghost use Rattle.semantic_tree.specs.ChildIter.{shown};
 ghost use Rattle.semantic_tree.specs.Sound.{is_sound};
 ghost use Rattle.node_store.specs.PathLeft.{path_left};
-ghost use Rattle.scoping.specs.Reading.{scope_of};
+ghost use Rattle.scoping.specs.Reading.{scope_of, parent_of};
+ghost use Rattle.check_model.specs.Context.{seen_row};
 ghost use Rattle.check_model.specs.Sight.{entries_of};
 ghost use Rattle.check_model.specs.Surroundings.{parent, is_under, is_in_class, scope_passes, is_strict, is_in_function, is_at_top, is_in_static_block, bytes_at};
-ghost use Rattle.checker.specs.Handed.{around, IsContext};
+ghost use Rattle.checker.specs.Handed.{around, is_block_or_function, IsContext};
 
 use class_table::ClassTableBuilder;
 use node_store::{AncestorKinds, Ancestry};
@@ -131,6 +132,33 @@ impl<'a, 'n> CheckContext<'a, 'n> {
         self.scoping.get_node_id(self.current_scope_id)
     }
 
+    /// The scope around a scope.
+    pub(crate) fn outer_scope(&self, scope: ScopeId) -> Option<ScopeId>
+        requires { scope < length self.now.scoping.now.scopes }
+        ensures value { result ≡ parent_of self.now.scoping.now.scopes scope }
+        ensures within { IfSome result (λ outer. outer < length self.now.scoping.now.scopes) }
+    {
+        self.scoping.attest();
+        self.scoping.scope_parent_id(scope)
+    }
+
+    /// Whether a scope is a static block's.
+    fn is_block_scope(&self, scope: ScopeId) -> bool
+        requires { scope < length self.now.scoping.now.scopes }
+        ensures { result ≡ (seen_row self.now.scoping.now scope).is_static_block }
+    {
+        self.scoping.scope_flags(scope).is_class_static_block()
+    }
+
+    /// Whether a scope is a static block's or a function's.
+    fn is_block_or_function_scope(&self, scope: ScopeId) -> bool
+        requires { scope < length self.now.scoping.now.scopes }
+        ensures { result ≡ is_block_or_function (seen_row self.now.scoping.now scope) }
+    {
+        let flags = self.scoping.scope_flags(scope);
+        flags.is_class_static_block() || flags.is_function()
+    }
+
     /// Whether the nearest scope outward that is a static block's or a function's is a static block's.
     pub(crate) fn is_in_static_block(&self) -> bool
         requires { IsContext self.now }
@@ -138,19 +166,13 @@ impl<'a, 'n> CheckContext<'a, 'n> {
     {
         self.scoping.attest();
         let mut scope = self.current_scope_id;
-        loop {
-            let flags = self.scoping.scope_flags(scope);
-            if flags.is_class_static_block() {
-                return true;
-            }
-            if flags.is_function() {
-                return false;
-            }
-            match self.scoping.scope_parent_id(scope) {
-                Some(parent) => scope = parent,
+        while !self.is_block_or_function_scope(scope) {
+            match self.outer_scope(scope) {
+                Some(outer) => scope = outer,
                 None => return false,
             }
         }
+        self.is_block_scope(scope)
     }
 
     /// The bytes of the source under a span.

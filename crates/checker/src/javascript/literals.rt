@@ -137,6 +137,7 @@ pub fn check_string_literal<'a>(
 }
 
 /// Whether the parameters of the function whose scope is the current one are not simple.
+#[tactic(auto, using(crate::proofs::Outward::here))]
 fn has_complex_parameters(kind: AstKind<'_>, ctx: &CheckContext<'_, '_>) -> bool
     requires { IsContext ctx.now }
     ensures { result ≡ rows.has_complex_parameters (sight kind.entry.node.now ctx.now) }

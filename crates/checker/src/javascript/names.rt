@@ -269,9 +269,8 @@ pub fn check_private_identifier_outside_class<'a>(
     requires { IsContext ctx.now }
     ensures { Tells result (rows.check_private_identifier_outside_class (sight kind.entry.node.now ctx.now)) out.old out.new }
 {
-    if ctx.classes.current_class_id.is_some() {
-        return Ok(());
+    match ctx.classes.current_class_id {
+        Some(_) => Ok(()),
+        None => out.push(private_not_in_class(alloc, kind.text().as_str(), kind.span())?),
     }
-    let name = kind.text();
-    out.push(private_not_in_class(alloc, name.as_str(), kind.span())?)
 }

@@ -5,7 +5,7 @@ ghost use Rattle.semantic_kinds.specs.declared.role.Role.TheVariants as roles;
 ghost use Rattle.semantic_tree.specs.ChildIter.{shown, left_of};
 ghost use Rattle.semantic_tree.specs.Views.{has_text, is_kind, whose};
 ghost use Rattle.semantic_tree.specs.BoundNames.{bound_names};
-ghost use Rattle.semantic_diagnostics.specs.Names as names;
+ghost use Rattle.semantic_diagnostics.specs.Names as tell_of;
 ghost use Rattle.semantic_diagnostics.specs.Statements as tell;
 ghost use Rattle.check_model.specs.Search.{only, row_if};
 ghost use Rattle.check_model.specs.Surroundings.{is_script, is_at_top, is_in_static_block, parent_passes};
@@ -161,7 +161,7 @@ fn tell_await_using(
     out: &mut Diagnostics,
 ) -> Result<(), AllocError>
     requires { IsContext ctx.now }
-    ensures { let s = sight kind.entry.node.now ctx.now in Tells result (row_if (has_text (codes "await using") s.node && is_in_static_block s) (names.class_static_block_await_using s.node.span)) out.old out.new }
+    ensures { let s = sight kind.entry.node.now ctx.now in Tells result (row_if (has_text (codes "await using") s.node && is_in_static_block s) (tell_of.class_static_block_await_using s.node.span)) out.old out.new }
 {
     if reads(kind, "await using") && ctx.is_in_static_block() {
         out.push(class_static_block_await_using(alloc, kind.span())?)
