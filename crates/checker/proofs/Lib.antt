@@ -5,3 +5,4 @@ pub mod FirstBad
 pub mod Skipped
 pub mod UnderLabels
 pub mod LoopNames
+pub mod CurrentClass

@@ -1,10 +1,11 @@
 //! What is handed to a check beside the node.
-ghost use Rattle.std.specs.Prelude.{◌≡◌, ◌<◌, true, length, option_map, IfSome};
+ghost use Rattle.std.specs.Prelude.{◌≡◌, ◌<◌, true, length, is_some, option_map, IfSome};
 ghost use Rattle.semantic_tree.specs.ChildIter.{shown};
 ghost use Rattle.semantic_tree.specs.Sound.{is_sound};
 ghost use Rattle.node_store.specs.PathLeft.{path_left};
 ghost use Rattle.scoping.specs.Reading.{scope_of, parent_of};
 ghost use Rattle.check_model.specs.Context.{seen_row};
+ghost use Rattle.check_model.specs.Search.{first};
 ghost use Rattle.check_model.specs.Sight.{entries_of};
 ghost use Rattle.check_model.specs.Surroundings.{parent, is_under, is_in_class, scope_passes, is_strict, is_in_function, is_at_top, is_in_static_block, bytes_at};
 ghost use Rattle.checker.specs.Handed.{around, is_block_or_function, IsContext};
@@ -173,6 +174,14 @@ impl<'a, 'n> CheckContext<'a, 'n> {
             }
         }
         self.is_block_scope(scope)
+    }
+
+    /// Whether a class is current.
+    #[tactic(auto, using(crate::proofs::CurrentClass::current))]
+    pub(crate) fn has_class(&self) -> bool
+        ensures { result ≡ is_some (first (around self.now).classes) }
+    {
+        self.classes.current_class_id.is_some()
     }
 
     /// The bytes of the source under a span.

@@ -130,6 +130,22 @@ fn tell_unmet(
     Ok(())
 }
 
+/// Tells of a `break` with a label that has no target.
+#[tactic(auto, using(crate::proofs::Telling::telling))]
+fn tell_labelled_break(
+    alloc: Global,
+    label: AstKind<'_>,
+    above: AncestorKinds<'_, '_>,
+    out: &mut Diagnostics,
+) -> Result<(), AllocError>
+    ensures { Tells result (rows.labelled_rows (λ target. []) label.entry.node.now (path_left above.entry)) out.old out.new }
+{
+    match met_by_label(label, above) {
+        Some(met) => tell_unmet(alloc, label, met, out),
+        None => Ok(()),
+    }
+}
+
 /// A `break` has a target in its function (ECMAScript 14.9.1, ContainsUndefinedBreakTarget).
 #[tactic(auto, using(crate::proofs::Telling::telling))]
 pub fn check_break_statement<'a>(
@@ -141,12 +157,9 @@ pub fn check_break_statement<'a>(
     requires { IsContext ctx.now }
     ensures { Tells result (rows.check_break_statement (sight kind.entry.node.now ctx.now)) out.old out.new }
 {
-    let Some(label) = kind.child(Role::Label) else {
-        return tell_plain_break(alloc, kind.span(), ctx.above(), out);
-    };
-    match met_by_label(label, ctx.above()) {
-        Some(met) => tell_unmet(alloc, label, met, out),
-        None => Ok(()),
+    match kind.child(Role::Label) {
+        Some(label) => tell_labelled_break(alloc, label, ctx.above(), out),
+        None => tell_plain_break(alloc, kind.span(), ctx.above(), out),
     }
 }
 
@@ -186,7 +199,7 @@ fn tell_no_loop(
 
 /// Tells of a `continue` to a label by what it meets.
 #[tactic(auto, using(crate::proofs::Telling::telling))]
-fn tell_labelled_continue(
+fn tell_met_by_continue(
     alloc: Global,
     label: AstKind<'_>,
     met: AstKind<'_>,
@@ -201,6 +214,22 @@ fn tell_labelled_continue(
     }
 }
 
+/// Tells of a `continue` with a label that has no target, or whose target is no loop.
+#[tactic(auto, using(crate::proofs::Telling::telling))]
+fn tell_labelled_continue(
+    alloc: Global,
+    label: AstKind<'_>,
+    above: AncestorKinds<'_, '_>,
+    out: &mut Diagnostics,
+) -> Result<(), AllocError>
+    ensures { Tells result (rows.labelled_rows (rows.continue_rows label.entry.node.now) label.entry.node.now (path_left above.entry)) out.old out.new }
+{
+    match met_by_label(label, above) {
+        Some(met) => tell_met_by_continue(alloc, label, met, out),
+        None => Ok(()),
+    }
+}
+
 /// A `continue` has a loop as its target in its function (ECMAScript 14.8.1, ContainsUndefinedContinueTarget).
 #[tactic(auto, using(crate::proofs::Telling::telling))]
 pub fn check_continue_statement<'a>(
@@ -212,11 +241,8 @@ pub fn check_continue_statement<'a>(
     requires { IsContext ctx.now }
     ensures { Tells result (rows.check_continue_statement (sight kind.entry.node.now ctx.now)) out.old out.new }
 {
-    let Some(label) = kind.child(Role::Label) else {
-        return tell_plain_continue(alloc, kind.span(), ctx.above(), out);
-    };
-    match met_by_label(label, ctx.above()) {
-        Some(met) => tell_labelled_continue(alloc, label, met, out),
-        None => Ok(()),
+    match kind.child(Role::Label) {
+        Some(label) => tell_labelled_continue(alloc, label, ctx.above(), out),
+        None => tell_plain_continue(alloc, kind.span(), ctx.above(), out),
     }
 }

@@ -2,7 +2,9 @@
 ghost use Rattle.std.specs.Prelude.{◌≡◌, ◌==◌, ◌||◌, not, length};
 ghost use Rattle.std.specs.Str.{encode_utf8_all};
 ghost use Rattle.semantic_kinds.specs.declared.mark.Mark.TheVariants as mark;
-ghost use Rattle.semantic_tree.specs.Views.{is_marked};
+ghost use Rattle.semantic_kinds.specs.declared.role.Role.TheVariants as roles;
+ghost use Rattle.semantic_tree.specs.Views.{is_marked, whose};
+ghost use Rattle.semantic_tree.specs.BoundNames.{is_simple_parameter_list};
 ghost use Rattle.semantic_diagnostics.specs.Names as tell;
 ghost use Rattle.check_model.specs.Literals as rows;
 ghost use Rattle.check_model.specs.Search.{row_if, rows_of_some};
@@ -73,6 +75,19 @@ fn tell_decimal(
     }
 }
 
+/// Tells of a number with a leading zero, by its base.
+#[tactic(auto, using(crate::proofs::Telling::telling))]
+fn tell_leading_zero(
+    alloc: Global,
+    kind: AstKind<'_>,
+    out: &mut Diagnostics,
+) -> Result<(), AllocError>
+    ensures { Tells result (rows.leading_zero_rows kind.entry.node.now) out.old out.new }
+{
+    tell_octal(alloc, kind, out)?;
+    tell_decimal(alloc, kind, out)
+}
+
 /// Strict code has no numbers with leading zeros (ECMAScript 12.9.3.1).
 #[tactic(auto, using(crate::proofs::Telling::telling))]
 pub fn check_number_literal<'a>(
@@ -84,11 +99,11 @@ pub fn check_number_literal<'a>(
     requires { IsContext ctx.now }
     ensures { Tells result (rows.check_number_literal (sight kind.entry.node.now ctx.now)) out.old out.new }
 {
-    if !ctx.is_strict() || !has_leading_zero(kind.node().text.as_str().as_bytes()) {
-        return Ok(());
+    if ctx.is_strict() && has_leading_zero(kind.node().text.as_str().as_bytes()) {
+        tell_leading_zero(alloc, kind, out)
+    } else {
+        Ok(())
     }
-    tell_octal(alloc, kind, out)?;
-    tell_decimal(alloc, kind, out)
 }
 
 /// Whether a string isn't written as it reads: its raw bytes, with the quotes, are as many as those that it means.
@@ -136,6 +151,16 @@ pub fn check_string_literal<'a>(
     tell_escapes(alloc, raw, kind.span(), out)
 }
 
+/// Whether the node has parameters that are not simple.
+fn is_complex(opener: AstKind<'_>) -> bool
+    ensures { result ≡ whose roles.Params (λ params. not (is_simple_parameter_list params)) opener.entry.node.now }
+{
+    match opener.child(Role::Params) {
+        Some(params) => !params.is_simple_parameter_list(),
+        None => false,
+    }
+}
+
 /// Whether the parameters of the function whose scope is the current one are not simple.
 #[tactic(auto, using(crate::proofs::Outward::here))]
 fn has_complex_parameters(kind: AstKind<'_>, ctx: &CheckContext<'_, '_>) -> bool
@@ -143,10 +168,7 @@ fn has_complex_parameters(kind: AstKind<'_>, ctx: &CheckContext<'_, '_>) -> bool
     ensures { result ≡ rows.has_complex_parameters (sight kind.entry.node.now ctx.now) }
 {
     match node_of(ctx.scope_node(), kind, ctx.above()) {
-        Some(opener) => match opener.child(Role::Params) {
-            Some(params) => !params.is_simple_parameter_list(),
-            None => false,
-        },
+        Some(opener) => is_complex(opener),
         None => false,
     }
 }

@@ -1,5 +1,5 @@
 //! Early errors of names.
-ghost use Rattle.std.specs.Prelude.{◌≡◌, ◌∷◌, [], option_map};
+ghost use Rattle.std.specs.Prelude.{◌≡◌, ◌∷◌, ◌++◌, [], option_map};
 ghost use Rattle.std.specs.Str.{chars};
 ghost use Rattle.semantic_kinds.specs.declared.kind.AstType.TheVariants as kinds;
 ghost use Rattle.semantic_tree.specs.ChildIter.{shown};
@@ -239,6 +239,21 @@ fn tell_let(
     out.push(invalid_let_declaration(alloc, keyword.as_str(), kind.span())?)
 }
 
+/// Tells of names that may not be bound, outside of definition files.
+#[tactic(auto, using(crate::proofs::Telling::telling))]
+fn tell_binding(
+    alloc: Global,
+    kind: AstKind<'_>,
+    ctx: &CheckContext<'_, '_>,
+    out: &mut Diagnostics,
+) -> Result<(), AllocError>
+    requires { IsContext ctx.now }
+    ensures { let s = sight kind.entry.node.now ctx.now in Tells result (rows.eval_binding_rows s ++ rows.let_rows s) out.old out.new }
+{
+    tell_eval_binding(alloc, kind, ctx, out)?;
+    tell_let(alloc, kind, ctx, out)
+}
+
 /// Strict code doesn't bind `eval` and `arguments` (ECMAScript 13.1.1), and a lexical declaration doesn't bind `let`
 /// (14.3.1.1), except in a definition file.
 #[tactic(auto, using(crate::proofs::Telling::telling))]
@@ -252,10 +267,10 @@ pub fn check_binding_identifier<'a>(
     ensures { Tells result (rows.check_binding_identifier (sight kind.entry.node.now ctx.now)) out.old out.new }
 {
     if ctx.source_type.is_typescript_definition() {
-        return Ok(());
+        Ok(())
+    } else {
+        tell_binding(alloc, kind, ctx, out)
     }
-    tell_eval_binding(alloc, kind, ctx, out)?;
-    tell_let(alloc, kind, ctx, out)
 }
 
 /// Private names stand in class bodies alone (ECMAScript 16.1.1, AllPrivateIdentifiersValid).
@@ -269,8 +284,9 @@ pub fn check_private_identifier_outside_class<'a>(
     requires { IsContext ctx.now }
     ensures { Tells result (rows.check_private_identifier_outside_class (sight kind.entry.node.now ctx.now)) out.old out.new }
 {
-    match ctx.classes.current_class_id {
-        Some(_) => Ok(()),
-        None => out.push(private_not_in_class(alloc, kind.text().as_str(), kind.span())?),
+    if ctx.has_class() {
+        return Ok(());
     }
+    let name = kind.text();
+    out.push(private_not_in_class(alloc, name.as_str(), kind.span())?)
 }

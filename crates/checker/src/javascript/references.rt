@@ -1,9 +1,11 @@
 //! Early errors of identifier references.
-ghost use Rattle.std.specs.Prelude.{◌≡◌, ◌||◌, ◌++◌, IsTrue, option_map, find, codes};
+ghost use Rattle.std.specs.Prelude.{◌≡◌, ◌&&◌, ◌||◌, ◌++◌, IsTrue, option_map, find, codes};
 ghost use Rattle.semantic_kinds.specs.Classes.{is_member};
 ghost use Rattle.semantic_kinds.specs.declared.kind.AstType.TheVariants as kinds;
 ghost use Rattle.semantic_tree.specs.ChildIter.{shown};
-ghost use Rattle.semantic_tree.specs.Views.{is_kind};
+ghost use Rattle.semantic_kinds.specs.declared.role.Role.TheVariants as roles;
+ghost use Rattle.semantic_tree.specs.Views.{has_text, is_kind, whose};
+ghost use Rattle.semantic_tree.specs.declared.node.Node.{Node};
 ghost use Rattle.semantic_diagnostics.specs.Ascii.{is_ascii};
 ghost use Rattle.semantic_diagnostics.specs.Names as tell;
 ghost use Rattle.node_store.specs.PathLeft.{path_left};
@@ -38,17 +40,21 @@ fn is_target(kind: AstType) -> bool
     )
 }
 
-/// Whether the node assigns to the name itself.
-fn assigns_to(name: AstKind<'_>, node: AstKind<'_>) -> bool
-    ensures { result ≡ rows.assigns_to name.entry.node.now.text node.entry.node.now }
+/// Whether the left of a node is a reference of the name.
+fn has_left(name: AstKind<'_>, node: AstKind<'_>) -> bool
+    ensures { result ≡ whose roles.Left (λ left. is_kind kinds.IdentifierReference left && has_text name.entry.node.now.text left) node.entry.node.now }
 {
-    if node.ty() != AstType::AssignmentExpression {
-        return false;
-    }
     match node.child(Role::Left) {
         Some(left) => left.ty() == AstType::IdentifierReference && is_same(left, name),
         None => false,
     }
+}
+
+/// Whether the node assigns to the name itself.
+fn assigns_to(name: AstKind<'_>, node: AstKind<'_>) -> bool
+    ensures { result ≡ rows.assigns_to name.entry.node.now.text node.entry.node.now }
+{
+    node.ty() == AstType::AssignmentExpression && has_left(name, node)
 }
 
 /// Whether what stands around a name writes to it.
@@ -92,14 +98,14 @@ fn is_bad_write(name: AstKind<'_>, ctx: &CheckContext<'_, '_>) -> bool
 
 /// Whether the child is the value of a property of a class.
 fn is_field_value(child: AstKind<'_>, parent: AstKind<'_>) -> bool
-    ensures { result ≡ rows.is_field_value (child.entry.node.now, parent.entry.node.now) }
+    ensures { let link : Node × Node = (child.entry.node.now, parent.entry.node.now) in result ≡ rows.is_field_value link }
 {
     parent.ty() == AstType::PropertyDefinition && is_child_in(Role::Value, parent, child)
 }
 
 /// Whether `arguments` belongs to the parent, as far as it is reached from the child.
 fn owns_arguments(child: AstKind<'_>, parent: AstKind<'_>) -> bool
-    ensures { let link = (child.entry.node.now, parent.entry.node.now) in result ≡ (is_kind kinds.Function link.1 || (rows.is_field_value link || rows.is_static_block link)) }
+    ensures { let link : Node × Node = (child.entry.node.now, parent.entry.node.now) in result ≡ (is_kind kinds.Function link.1 || (rows.is_field_value link || rows.is_static_block link)) }
 {
     parent.ty() == AstType::Function
         || is_field_value(child, parent)
@@ -147,7 +153,7 @@ fn tell_arguments(
     parent: AstKind<'_>,
     out: &mut Diagnostics,
 ) -> Result<(), AllocError>
-    ensures { let link = (child.entry.node.now, parent.entry.node.now) in Tells result (row_if (rows.is_field_value link) (tell.unexpected_arguments (codes "class field initializer") span) ++ row_if (rows.is_static_block link) (tell.unexpected_arguments (codes "static initialization block") span)) out.old out.new }
+    ensures { let link : Node × Node = (child.entry.node.now, parent.entry.node.now) in Tells result (row_if (rows.is_field_value link) (tell.unexpected_arguments (codes "class field initializer") span) ++ row_if (rows.is_static_block link) (tell.unexpected_arguments (codes "static initialization block") span)) out.old out.new }
 {
     let in_field = is_field_value(child, parent);
     let in_block = parent.ty() == AstType::StaticBlock;

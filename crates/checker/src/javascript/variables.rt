@@ -3,7 +3,7 @@ ghost use Rattle.std.specs.Prelude.{◌≡◌, ◌&&◌, ◌∷◌, [], option_m
 ghost use Rattle.semantic_kinds.specs.declared.kind.AstType.TheVariants as kinds;
 ghost use Rattle.semantic_kinds.specs.declared.role.Role.TheVariants as roles;
 ghost use Rattle.semantic_tree.specs.ChildIter.{shown, left_of};
-ghost use Rattle.semantic_tree.specs.Views.{has_text, is_kind, whose};
+ghost use Rattle.semantic_tree.specs.Views.{all_in, has_text, is_kind, whose};
 ghost use Rattle.semantic_tree.specs.BoundNames.{bound_names};
 ghost use Rattle.semantic_diagnostics.specs.Names as tell_of;
 ghost use Rattle.semantic_diagnostics.specs.Statements as tell;
@@ -102,6 +102,44 @@ fn tell_initializer(
     out.push(unexpected_initializer_in_for_loop_head(alloc, name, left.span())?)
 }
 
+/// Tells of the initializer of a declarator in the head of a loop, where it may not stand.
+#[tactic(auto, using(crate::proofs::Telling::telling))]
+fn tell_declarator(
+    alloc: Global,
+    left: AstKind<'_>,
+    for_in: bool,
+    declarator: AstKind<'_>,
+    ctx: &CheckContext<'_, '_>,
+    out: &mut Diagnostics,
+) -> Result<(), AllocError>
+    requires { IsContext ctx.now }
+    ensures { Tells result (row_if (rows.is_bad_initializer (around ctx.now) left.entry.node.now for_in declarator.entry.node.now) (tell.unexpected_initializer_in_for_loop_head (rows.loop_name for_in) left.entry.node.now.span)) out.old out.new }
+{
+    if is_bad_initializer(left, for_in, declarator, ctx) {
+        tell_initializer(alloc, left, for_in, out)
+    } else {
+        Ok(())
+    }
+}
+
+/// Tells of the initializer of the only declarator in the head of a loop.
+#[tactic(auto, using(crate::proofs::Telling::telling))]
+fn tell_head(
+    alloc: Global,
+    left: AstKind<'_>,
+    for_in: bool,
+    ctx: &CheckContext<'_, '_>,
+    out: &mut Diagnostics,
+) -> Result<(), AllocError>
+    requires { IsContext ctx.now }
+    ensures { Tells result (rows.head_rows (around ctx.now) left.entry.node.now for_in (all_in roles.Declarators left.entry.node.now)) out.old out.new }
+{
+    match only_child(left.children(Role::Declarators)) {
+        Some(declarator) => tell_declarator(alloc, left, for_in, declarator, ctx, out),
+        None => Ok(()),
+    }
+}
+
 /// The variable of a loop over something has no initializer (ECMAScript 14.7.5, Annex B.3.5). The node is the left of
 /// the loop, and the context that of the loop, which is `for-in` or else `for-of`.
 #[tactic(auto, using(crate::proofs::Telling::telling))]
@@ -115,16 +153,11 @@ pub fn check_for_statement_left<'a>(
     requires { IsContext ctx.now }
     ensures { Tells result (rows.check_for_statement_left kind.entry.node.now for_in (around ctx.now)) out.old out.new }
 {
-    if kind.ty() != AstType::VariableDeclaration {
-        return Ok(());
+    if kind.ty() == AstType::VariableDeclaration {
+        tell_head(alloc, kind, for_in, ctx, out)
+    } else {
+        Ok(())
     }
-    let Some(declarator) = only_child(kind.children(Role::Declarators)) else {
-        return Ok(());
-    };
-    if is_bad_initializer(kind, for_in, declarator, ctx) {
-        return tell_initializer(alloc, kind, for_in, out);
-    }
-    Ok(())
 }
 
 /// Whether a declaration is `using` or `await using`.
@@ -227,7 +260,7 @@ fn tell_name(
 }
 
 /// Tells of each name of a declarator whose last declaration but one is a function.
-#[tactic(auto, using(crate::proofs::Telling::telling))]
+#[tactic(auto, using(crate::proofs::Telling::loop_telling))]
 fn tell_names(
     alloc: Global,
     kind: AstKind<'_>,

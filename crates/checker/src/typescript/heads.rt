@@ -33,7 +33,7 @@ fn tell_type(
 }
 
 /// Tells of the types of all declarators.
-#[tactic(auto, using(crate::proofs::Telling::telling))]
+#[tactic(auto, using(crate::proofs::Telling::loop_telling))]
 fn tell_types(
     alloc: Global,
     for_in: bool,

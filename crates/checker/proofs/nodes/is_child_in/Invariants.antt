@@ -5,4 +5,4 @@ use Rattle.semantic_tree.specs.Views.{all_in}
 use Rattle.checker.proofs.nodes.is_child_in.Given as goal
 
 abbrev pub invariant-loop-child : goal.invariant-loop-child
-invariant-loop-child l = list_any (λ child. child.node_id == l.inner.node.now.node_id) (left_of l.child-iterator) ≡ list_any (λ child. child.node_id == l.inner.node.now.node_id) (all_in l.role l.outer.node.now)
+invariant-loop-child l = list_any (λ child. child.node_id == l.inner.node.now.node_id) (left_of l.child-iterator) ≡ list_any (λ child. child.node_id == l.inner.node.now.node_id) (all_in l.fn.role l.outer.node.now)
