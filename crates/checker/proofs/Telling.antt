@@ -1,8 +1,10 @@
 -- What is told by one check after another.
-use Rattle.std.proofs.Common.{◌≡◌, List, [], ◌++◌, refl, sym, ap, ◌∙◌}
+use Rattle.std.proofs.Common.{◌≡◌, List, [], ◌∷◌, ◌++◌, Result, Ok, Err, refl, sym, ap, subst, ◌∙◌}
+use Rattle.std.specs.Prelude.{flat_map, OnOk, OnErr}
+use Rattle.std.specs.Result.{IsErrAnd}
 use Rattle.std.proofs.lemmas.List.{append-nil, append_assoc}
 use Rattle.semantic_diagnostics.specs.declared.diagnostic.Diagnostic.{Diagnostic}
-use Rattle.checker.specs.Tells.{IsBegun, IsTelling}
+use Rattle.checker.specs.Tells.{IsBegun, IsTelling, Tells}
 
 -- nothing is told yet
 pub none_told : (rows before now : List Diagnostic) → now ≡ before → IsBegun rows before now
@@ -48,5 +50,27 @@ stops rows own more before mid now h k =
 
 pub ends : (rows before now : List Diagnostic) → IsTelling rows [] before now → now ≡ before ++ rows
 ends rows before now h = h.are_last ∙ ap (λ l. before ++ l) (sym (append-nil h.told) ∙ h.are_first)
+
+-- of two checks the first stops for want of memory
+pub first_stops : {A E : Type 0} (P : E → Type 0) (r : Result A E) (rows more before now : List Diagnostic) → IsErrAnd r P → IsBegun rows before now → Tells r (rows ++ more) before now
+first_stops P (Ok done) rows more before now h k = absurd h
+first_stops P (Err want) rows more before now h k = first_begun rows more before now k
+
+-- the first has told all, and the second goes on
+pub then_tells : {A E : Type 0} (r : Result A E) (rows more before mid now : List Diagnostic) → mid ≡ before ++ rows → Tells r more mid now → Tells r (rows ++ more) before now
+then_tells (Ok done) rows more before mid now h k = k ∙ ap (λ l. l ++ more) h ∙ append_assoc before rows more
+then_tells (Err want) rows more before mid now h k = then_begun rows more before mid now h k
+
+-- a loop stops at an element
+pub loop_stops : {A E X : Type 0} (P : E → Type 0) (f : X → List Diagnostic) (rows before mid now : List Diagnostic) (xs : List X) (x : X) (rest : List X) (r : Result A E)
+    → IsErrAnd r P → xs ≡ x ∷ rest → IsTelling rows (flat_map f xs) before mid → IsBegun (f x) mid now → Tells r rows before now
+loop_stops P f rows before mid now xs x rest (Ok done) h is t k = absurd h
+loop_stops P f rows before mid now xs x rest (Err want) h is t k =
+    stops rows (f x) (flat_map f rest) before mid now (subst (λ l. IsTelling rows (flat_map f l) before mid) is t) k
+
+-- one row is told, or for want of memory none
+pub pushed : {A E : Type 0} (r : Result A E) (made row : Diagnostic) (before now : List Diagnostic) → OnOk r (now ≡ before ++ made ∷ []) → OnErr r (now ≡ before) → made ≡ row → Tells r (row ∷ []) before now
+pushed (Ok done) made row before now h k is = h ∙ ap (λ d. before ++ d ∷ []) is
+pushed (Err want) made row before now h k is = none_told (row ∷ []) before now k
 
 pub ruleset loop_telling = (none_told, first_begun, then_begun, begins, goes_on, stops, ends)

@@ -273,6 +273,19 @@ pub fn check_binding_identifier<'a>(
     }
 }
 
+/// Tells of a private name outside of every class.
+#[tactic(auto, using(crate::proofs::Telling::telling))]
+fn tell_private_name(
+    alloc: Global,
+    kind: AstKind<'_>,
+    out: &mut Diagnostics,
+) -> Result<(), AllocError>
+    ensures { let node = kind.entry.node.now in Tells result (tell.private_not_in_class node.text node.span ∷ []) out.old out.new }
+{
+    let name = kind.text();
+    out.push(private_not_in_class(alloc, name.as_str(), kind.span())?)
+}
+
 /// Private names stand in class bodies alone (ECMAScript 16.1.1, AllPrivateIdentifiersValid).
 #[tactic(auto, using(crate::proofs::Telling::telling))]
 pub fn check_private_identifier_outside_class<'a>(
@@ -285,8 +298,8 @@ pub fn check_private_identifier_outside_class<'a>(
     ensures { Tells result (rows.check_private_identifier_outside_class (sight kind.entry.node.now ctx.now)) out.old out.new }
 {
     if ctx.has_class() {
-        return Ok(());
+        Ok(())
+    } else {
+        tell_private_name(alloc, kind, out)
     }
-    let name = kind.text();
-    out.push(private_not_in_class(alloc, name.as_str(), kind.span())?)
 }

@@ -1,5 +1,6 @@
 //! Early errors of identifier references.
 ghost use Rattle.std.specs.Prelude.{◌≡◌, ◌&&◌, ◌||◌, ◌++◌, IsTrue, option_map, find, codes};
+ghost use Rattle.std.specs.Str.{bytes_eq};
 ghost use Rattle.semantic_kinds.specs.Classes.{is_member};
 ghost use Rattle.semantic_kinds.specs.declared.kind.AstType.TheVariants as kinds;
 ghost use Rattle.semantic_tree.specs.ChildIter.{shown};
@@ -10,7 +11,7 @@ ghost use Rattle.semantic_diagnostics.specs.Ascii.{is_ascii};
 ghost use Rattle.semantic_diagnostics.specs.Names as tell;
 ghost use Rattle.node_store.specs.PathLeft.{path_left};
 ghost use Rattle.check_model.specs.Names as rows;
-ghost use Rattle.check_model.specs.Search.{row_if};
+ghost use Rattle.check_model.specs.Search.{row_if, rows_if};
 ghost use Rattle.checker.specs.Handed.{sight, IsContext};
 ghost use Rattle.checker.specs.Shown.{link_shown, links_left};
 ghost use Rattle.checker.specs.Tells.{Tells};
@@ -113,7 +114,7 @@ fn owns_arguments(child: AstKind<'_>, parent: AstKind<'_>) -> bool
 }
 
 /// The innermost owner of `arguments` on a way outward, with the child that it is reached from.
-fn owner_of_arguments<'a>(links: Links<'_, 'a>) -> Option<(AstKind<'a>, AstKind<'a>)>
+fn owner_on<'a>(links: Links<'_, 'a>) -> Option<(AstKind<'a>, AstKind<'a>)>
     ensures { option_map link_shown result ≡ find (λ link. is_kind kinds.Function link.1 || (rows.is_field_value link || rows.is_static_block link)) (links_left links.entry) }
 {
     let mut left = links;
@@ -123,6 +124,17 @@ fn owner_of_arguments<'a>(links: Links<'_, 'a>) -> Option<(AstKind<'a>, AstKind<
         }
     }
     None
+}
+
+/// The innermost owner of `arguments` around a reference, with the child that it is reached from.
+fn owner_of_arguments<'a>(
+    kind: AstKind<'a>,
+    ctx: &CheckContext<'a, '_>,
+) -> Option<(AstKind<'a>, AstKind<'a>)>
+    requires { IsContext ctx.now }
+    ensures { option_map link_shown result ≡ rows.owner_of_arguments (sight kind.entry.node.now ctx.now) }
+{
+    owner_on(Links::new(kind, ctx.above()))
 }
 
 /// Tells of `arguments` in a place that has none.
@@ -144,6 +156,37 @@ fn tell_arguments_if(
     }
 }
 
+/// Tells of `arguments` in the value of a field.
+#[tactic(auto, using(crate::proofs::Telling::telling))]
+fn tell_in_field(
+    alloc: Global,
+    span: Span,
+    child: AstKind<'_>,
+    parent: AstKind<'_>,
+    out: &mut Diagnostics,
+) -> Result<(), AllocError>
+    ensures { let link : Node × Node = (child.entry.node.now, parent.entry.node.now) in Tells result (row_if (rows.is_field_value link) (tell.unexpected_arguments (codes "class field initializer") span)) out.old out.new }
+{
+    let is_there = is_field_value(child, parent);
+    tell_arguments_if(alloc, is_there, "class field initializer", span, out)
+}
+
+/// Tells of `arguments` in a static block.
+#[tactic(auto, using(crate::proofs::Telling::telling))]
+fn tell_in_block(
+    alloc: Global,
+    span: Span,
+    child: AstKind<'_>,
+    parent: AstKind<'_>,
+    out: &mut Diagnostics,
+) -> Result<(), AllocError>
+    ensures { let link : Node × Node = (child.entry.node.now, parent.entry.node.now) in Tells result (row_if (rows.is_static_block link) (tell.unexpected_arguments (codes "static initialization block") span)) out.old out.new }
+{
+    let _child = child;
+    let is_there = parent.ty() == AstType::StaticBlock;
+    tell_arguments_if(alloc, is_there, "static initialization block", span, out)
+}
+
 /// Tells of `arguments` in the value of a field or in a static block.
 #[tactic(auto, using(crate::proofs::Telling::telling))]
 fn tell_arguments(
@@ -155,10 +198,43 @@ fn tell_arguments(
 ) -> Result<(), AllocError>
     ensures { let link : Node × Node = (child.entry.node.now, parent.entry.node.now) in Tells result (row_if (rows.is_field_value link) (tell.unexpected_arguments (codes "class field initializer") span) ++ row_if (rows.is_static_block link) (tell.unexpected_arguments (codes "static initialization block") span)) out.old out.new }
 {
-    let in_field = is_field_value(child, parent);
-    let in_block = parent.ty() == AstType::StaticBlock;
-    tell_arguments_if(alloc, in_field, "class field initializer", span, out)?;
-    tell_arguments_if(alloc, in_block, "static initialization block", span, out)
+    tell_in_field(alloc, span, child, parent, out)?;
+    tell_in_block(alloc, span, child, parent, out)
+}
+
+/// Tells of `arguments` in a place that has none, going outward.
+#[tactic(auto, using(crate::proofs::Telling::telling))]
+fn tell_owner<'a>(
+    alloc: Global,
+    kind: AstKind<'a>,
+    ctx: &CheckContext<'a, '_>,
+    out: &mut Diagnostics,
+) -> Result<(), AllocError>
+    requires { IsContext ctx.now }
+    ensures { Tells result (rows.arguments_rows (sight kind.entry.node.now ctx.now)) out.old out.new }
+{
+    match owner_of_arguments(kind, ctx) {
+        Some((child, parent)) => tell_arguments(alloc, kind.span(), child, parent, out),
+        None => Ok(()),
+    }
+}
+
+/// Tells of a reference that is called `arguments`.
+#[tactic(auto, using(crate::proofs::Telling::telling))]
+fn tell_if_arguments<'a>(
+    alloc: Global,
+    kind: AstKind<'a>,
+    ctx: &CheckContext<'a, '_>,
+    out: &mut Diagnostics,
+) -> Result<(), AllocError>
+    requires { IsContext ctx.now }
+    ensures { let s = sight kind.entry.node.now ctx.now in Tells result (rows_if (bytes_eq s.node.text (codes "arguments")) (rows.arguments_rows s)) out.old out.new }
+{
+    if reads(kind, "arguments") {
+        tell_owner(alloc, kind, ctx, out)
+    } else {
+        Ok(())
+    }
 }
 
 /// Strict code doesn't write to `eval` and `arguments` (ECMAScript 13.1.3, 13.15.1), and fields and static blocks have
@@ -174,16 +250,10 @@ pub fn check_identifier_reference<'a>(
     ensures { Tells result (rows.check_identifier_reference (sight kind.entry.node.now ctx.now)) out.old out.new }
 {
     if ctx.source_type.is_typescript_definition() {
-        return Ok(());
-    }
-    if is_bad_write(kind, ctx) {
-        return tell_assignment(alloc, kind, ctx, out);
-    }
-    if !reads(kind, "arguments") {
-        return Ok(());
-    }
-    match owner_of_arguments(Links::new(kind, ctx.above())) {
-        Some((child, parent)) => tell_arguments(alloc, kind.span(), child, parent, out),
-        None => Ok(()),
+        Ok(())
+    } else if is_bad_write(kind, ctx) {
+        tell_assignment(alloc, kind, ctx, out)
+    } else {
+        tell_if_arguments(alloc, kind, ctx, out)
     }
 }
