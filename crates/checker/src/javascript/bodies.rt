@@ -126,10 +126,7 @@ pub fn check_with_statement<'a>(
 }
 
 /// Whether the node is a function that is declared as a branch of an `if` in sloppy code (ECMAScript, Annex B.3.3).
-pub fn is_function_decl_part_of_if_statement(
-    kind: AstKind<'_>,
-    ctx: &CheckContext<'_, '_>,
-) -> bool
+pub fn is_function_decl_part_of_if_statement(kind: AstKind<'_>, ctx: &CheckContext<'_, '_>) -> bool
     requires { IsContext ctx.now }
     ensures { result ≡ rows.is_function_decl_part_of_if_statement (sight kind.entry.node.now ctx.now) }
 {

@@ -45,11 +45,7 @@ fn has_leading_zero(spelling: &[u8]) -> bool
 
 /// Tells of a number with a leading zero in the octal base.
 #[tactic(auto, using(crate::proofs::Telling::telling))]
-fn tell_octal(
-    alloc: Global,
-    kind: AstKind<'_>,
-    out: &mut Diagnostics,
-) -> Result<(), AllocError>
+fn tell_octal(alloc: Global, kind: AstKind<'_>, out: &mut Diagnostics) -> Result<(), AllocError>
     ensures { Tells result (row_if (is_marked mark.Octal kind.entry.node.now) (tell.legacy_octal kind.entry.node.now.span)) out.old out.new }
 {
     if kind.has_mark(Mark::Octal) {
@@ -61,11 +57,7 @@ fn tell_octal(
 
 /// Tells of a number with a leading zero in base ten.
 #[tactic(auto, using(crate::proofs::Telling::telling))]
-fn tell_decimal(
-    alloc: Global,
-    kind: AstKind<'_>,
-    out: &mut Diagnostics,
-) -> Result<(), AllocError>
+fn tell_decimal(alloc: Global, kind: AstKind<'_>, out: &mut Diagnostics) -> Result<(), AllocError>
     ensures { Tells result (row_if (is_marked mark.Decimal kind.entry.node.now || is_marked mark.Float kind.entry.node.now) (tell.leading_zero_decimal kind.entry.node.now.span)) out.old out.new }
 {
     if kind.has_mark(Mark::Decimal) || kind.has_mark(Mark::Float) {

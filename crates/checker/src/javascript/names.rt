@@ -18,7 +18,9 @@ use semantic_diagnostics::makers::{
     class_static_block_await, invalid_let_declaration, private_not_in_class, reserved_keyword,
     unexpected_identifier_assign,
 };
-use semantic_diagnostics::{Diagnostics, ReservedKeywordContext, UnexpectedIdentifierAssignContext};
+use semantic_diagnostics::{
+    Diagnostics, ReservedKeywordContext, UnexpectedIdentifierAssignContext,
+};
 use semantic_kinds::class::is_word;
 use semantic_syntax::{Ident, Span};
 use semantic_tree::{AstKind, AstType};
