@@ -1,9 +1,9 @@
 -- The scopes outward from one: the first of them, and searches along them.
-use Rattle.std.proofs.Common.{◌≡◌, ℕ, zero, suc, ◌<◌, List, [], ◌∷◌, Bool, true, false, Option, Some, None, refl, sym, ap, subst, ◌∙◌, length, inl, inr, arith}
+use Rattle.std.proofs.Common.{◌≡◌, ℕ, zero, suc, ◌<◌, [], ◌∷◌, Bool, true, false, Option, Some, refl, sym, ap, subst, ◌∙◌, length, inl, inr, arith}
 use Rattle.std.specs.Prelude.{IfSome, find, map}
 use Rattle.std.specs.Option.{option_map_or}
 use Rattle.std.proofs.lemmas.Option.{slice_get_cases}
-use Rattle.semantic_syntax.specs.Tables.{Scope, Tables}
+use Rattle.semantic_syntax.specs.Tables.{Tables}
 use Rattle.scoping.specs.Source.{IsSource, chain_within}
 use Rattle.scoping.specs.Told.{source_of}
 use Rattle.scoping.specs.Reading.{parent_of, chain, IsForest}

@@ -1,6 +1,5 @@
 -- What is handed to a check beside the node, and what the check sees by it.
 use Rattle.std.specs.Prelude.{◌≡◌, ◌<◌, ◌≤◌, ◌||◌, [], Bool, true, drop, length}
-use Rattle.semantic_syntax.specs.declared.spans.Span.{Span}
 use Rattle.semantic_kinds.specs.MarkSets.{no_marks}
 use Rattle.semantic_kinds.specs.declared.kind.AstType.TheVariants.{Program}
 use Rattle.semantic_tree.specs.Forest.{nothing}

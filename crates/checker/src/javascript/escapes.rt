@@ -69,13 +69,13 @@ fn first_bad_by_search(raw: &[u8]) -> Option<BadEscape>
 {
     let mut left = raw;
     while let Some(rest) = past_backslash(left) {
-        let Some((escaped, after)) = rest.split_first() else {
+        let Some((escaped, beyond)) = rest.split_first() else {
             return None;
         };
-        if let Some(bad) = bad_escape(*escaped, after) {
+        if let Some(bad) = bad_escape(*escaped, beyond) {
             return Some(bad);
         }
-        left = after;
+        left = beyond;
     }
     None
 }

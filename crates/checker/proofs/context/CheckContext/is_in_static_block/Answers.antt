@@ -1,4 +1,4 @@
-use Rattle.std.proofs.Common.{◌≡◌, true, false, Some, None, not, sym, ap, ◌∙◌}
+use Rattle.std.proofs.Common.{◌≡◌, true, false, Some, None, sym, ap, ◌∙◌}
 use Rattle.check_model.specs.Context.{seen_row}
 use Rattle.check_model.specs.Search.{passes}
 use Rattle.check_model.specs.Sight.{SeenScope}

@@ -1,4 +1,3 @@
-use Rattle.std.proofs.Common.{List}
 use Rattle.std.specs.Prelude.{flat_map}
 use Rattle.semantic_tree.specs.NameIter.{names_left}
 use Rattle.semantic_tree.specs.BoundNames.{bound_names}
