@@ -1,0 +1,4 @@
+pub mod Handed
+pub mod Tells
+pub mod Shown
+pub mod BadEscapes

@@ -1,0 +1,21 @@
+-- How a check adds what it tells to what was told before.
+use Rattle.std.specs.Prelude.{◌≡◌, List, ◌++◌, Result, Ok, Err}
+use Rattle.semantic_diagnostics.specs.declared.diagnostic.Diagnostic.{Diagnostic}
+
+-- the first of the rows are told, behind all that was told before
+pub record IsBegun (rows before now : List Diagnostic) : Type 0 where
+  pub told : List Diagnostic
+  pub left : List Diagnostic
+  pub are_first : told ++ left ≡ rows
+  pub are_last : now ≡ before ++ told
+
+-- the rows are told, behind all that was told before; for want of memory the first of them
+abbrev pub Tells : {A E : Type 0} → Result A E → List Diagnostic → List Diagnostic → List Diagnostic → Type 0
+Tells (Ok done) rows before now = now ≡ before ++ rows
+Tells (Err want) rows before now = IsBegun rows before now
+
+-- all but these of the rows are told, behind all that was told before
+pub record IsTelling (rows left before now : List Diagnostic) : Type 0 where
+  pub told : List Diagnostic
+  pub are_first : told ++ left ≡ rows
+  pub are_last : now ≡ before ++ told

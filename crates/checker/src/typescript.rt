@@ -1,0 +1,5 @@
+//! Early errors of TypeScript alone.
+
+mod heads;
+
+pub use heads::check_for_statement_left;
