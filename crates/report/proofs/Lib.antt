@@ -1,8 +1,2 @@
-pub mod NamesLeft
-pub mod Items
-pub mod Quoting
-pub mod Utf8
-pub mod NamesOnce
+pub mod Texts
 pub mod Meanings
-pub mod NamesFound
-pub mod Decimals

@@ -1,161 +1,169 @@
 -- What the program has done at its end.
-use Rattle.std.proofs.Common.{◌≡◌, ◌≢◌, ◌⊎◌, inl, inr, ℕ, ◌<◌, List, [], ◌∷◌, Option, Some, None, Result, Ok, Err, String, length, subst, sym, ap, ◌∙◌, arith, append-nil}
-use Rattle.std.specs.declared.alloc.Global.{Global}
+use Rattle.std.proofs.Common.{◌≡◌, ◌⊎◌, inl, inr, ℕ, List, [], ◌∷◌, Option, Some, None, Result, Ok, Err, subst, sym, ap, ◌∙◌, refl}
 use Rattle.std.specs.Result.{IsErrAnd, IfErr}
-use Rattle.semantic_syntax.specs.Tables.{Tables}
+use Rattle.semantic_tree.specs.Tree.{Tree}
+use Rattle.generated_tree.specs.Generated.{generated}
 use Rattle.semantic_diagnostics.specs.declared.diagnostic.Diagnostic.{Diagnostic}
-use Rattle.std.specs.Str.{IsUtf8}
-use Rattle.serde_json.specs.Data.{Data}
-use Rattle.serde_json.specs.Read.{read}
-use Rattle.semantic_tree.specs.Tree.{Tree, IsNumbered}
-use Rattle.semantic_tree.specs.Shaped.{IsShaped}
-use Rattle.semantic_tree.specs.declared.error.TreeError.{TreeError}
-use Rattle.semantic_tree.specs.declared.error.TreeError.TheVariants as tree
-use Rattle.tree_json.specs.Outcome.{IsWantOfMemory}
-use Rattle.tree_json.specs.Reading.{reading, Refuses}
-use Rattle.tree_json.specs.WrittenForm.{IsWrittenForm, IsReadAs}
-use Rattle.report_ends.specs.Errors.{error_of_tree}
-use Rattle.report_ends.specs.Streams.{IsReadWhole, HadMoreThan, HadAtMost, AppendsPrefix, WriteCause, Writes}
+use Rattle.report_ends.specs.Streams.{WriteCause, Writes}
 use Rattle.report_ends.specs.declared.error.ReportError.{ReportError}
 use Rattle.report_ends.specs.declared.error.ReportError.TheVariants as error
+use Rattle.program_ends.specs.Calls.{SourceCall, SinkCall, sink_call, Unread, Untouched}
+use Rattle.program_ends.specs.Completeness.{IsNotRefused, IsDoneOrMemory, IsUsageOrMemory}
+use Rattle.program_ends.specs.Lines.{tree_line, line_of}
+use Rattle.program_ends.specs.Reads.{Stands, RefusedFor}
+use Rattle.program_ends.specs.Meaning.{End, Finds, NotFound, Answered, Stopped, MeansOf, end_of_stop}
+use Rattle.program_ends.specs.Telling.{stop_of}
+use Rattle.program_ends.specs.declared.stops.Stop.{Stop}
+use Rattle.program_ends.specs.declared.stops.Stop.TheVariants as stop
+use Rattle.program_ends.proofs.Meanings.{stopped_reading, stopped_writing, means_usage, means_told, clear_reading, clear_making, memory_stops}
+use Rattle.report.specs.Codes.{end_of, status_of, status_for}
+use Rattle.report.specs.Meaning.{IsAbout, Answers, WritesAll, GivesAnswer, Ends, IsAsked, IsRead, IsAskedAbout, AnswersTo, RefusesNone, MeansBy, IsClearBy, IsClearFor}
+use Rattle.report.specs.Telling.{Tells, usage_line}
+use Rattle.report.specs.declared.request.Request.{Request}
 use Rattle.report.specs.declared.status.ReportStatus.{ReportStatus}
 use Rattle.report.specs.declared.status.ReportStatus.TheVariants as status
-use Rattle.report.specs.declared.request.Request.{Request}
-use Rattle.report.specs.Calls.{SourceCall, SinkCall, sink_call, Untouched}
-use Rattle.report.specs.Reads.{Stands, InputCause}
-use Rattle.report.specs.Report.{report_text}
-use Rattle.report.specs.Requests.{request_of}
-use Rattle.report.specs.Telling.{Told, Tells, line_of, status_of}
-use Rattle.report.specs.Meaning.{Finds, Reported, ReportedPart, Ends, IsNotRefused, AsksReport, Means, IsClear, IsDoneOrMemory, status_for}
 
--- ---- the input is refused
+-- the end of a program that is stopped
+pub stopped_end : (s : Stop) → end_of (status_of s) ≡ end_of_stop s
+stopped_end stop.Usage = refl
+stopped_end stop.Tree = refl
+stopped_end stop.TooLong = refl
+stopped_end stop.Read = refl
+stopped_end stop.Write = refl
+stopped_end stop.Memory = refl
 
-refused_cause : (input : List ℕ) (cause : TreeError) → (¬ (IsWantOfMemory cause) → Refuses (reading input) cause) → InputCause input (error_of_tree cause)
-refused_cause input tree.NotJson why = record { other = λ h. h; why = why (λ h. h) }
-refused_cause input (tree.Shape place) why = record { other = λ h. h; why = why (λ h. h) }
-refused_cause input tree.TooMany why = record { other = λ h. h; why = why (λ h. h) }
-refused_cause input (tree.TooDeep node) why = record { other = λ h. h; why = why (λ h. h) }
-refused_cause input (tree.Span fault) why = record { other = λ h. h; why = why (λ h. h) }
-refused_cause input (tree.Memory wanting) why = tt
+-- ---- the answer
 
--- the reader's refusal is the input's
-pub refused_input : {T : Type 0} (input : List ℕ) (cause : TreeError) (result : Result T ReportError) → (¬ (IsWantOfMemory cause) → Refuses (reading input) cause) → IsErrAnd result (λ told. told ≡ error_of_tree cause) → IfErr result (InputCause input)
-refused_input input cause (Err told) why same = subst (InputCause input) (sym same) (refused_cause input cause why)
-refused_input input cause (Ok x) why same = tt
+-- the answer isn't written to its end
+pub writes_not_all : {K : Type 0} (held : K → Option (List ℕ)) (faults : K → ℕ) (old new : K) (text : List ℕ) (status : ReportStatus) (cause : ReportError) (result : Result ReportStatus ReportError) → Writes held faults old new text (Err cause) → IsErrAnd result (λ told. told ≡ cause) → WritesAll held faults old new text status result
+writes_not_all held faults old new text status cause (Err told) writes same = subst (λ e. Writes held faults old new text (Err e)) (sym same) writes
+writes_not_all held faults old new text status cause (Ok given) writes same = absurd same
 
--- the reader's want of memory is told as such
-pub memory_told : {T : Type 0} (cause : TreeError) (result : Result T ReportError) → IsWantOfMemory cause → IsErrAnd result (λ told. told ≡ error_of_tree cause) → IfErr result (λ told. told ≡ error.Memory)
-memory_told (tree.Memory wanting) (Err told) memory same = same
-memory_told (tree.Memory wanting) (Ok x) memory same = tt
-memory_told tree.NotJson result memory same = absurd memory
-memory_told (tree.Shape place) result memory same = absurd memory
-memory_told tree.TooMany result memory same = absurd memory
-memory_told (tree.TooDeep node) result memory same = absurd memory
-memory_told (tree.Span fault) result memory same = absurd memory
+module _ {K : Type 0} (held : K → Option (List ℕ)) (faults : K → ℕ) (request : Request) (p : Tree) where
+  -- memory was wanting before there was an answer
+  pub gives_none : (old : K) (result : Result ReportStatus ReportError) → IsErrAnd result (λ told. told ≡ error.Memory) → GivesAnswer held faults old old request p result
+  gives_none old (Err told) same = inl (same, refl)
+  gives_none old (Ok status) same = absurd same
 
--- what the source had is refused
-pub ends_refused : (source : SourceCall) (out : SinkCall) (input : List ℕ) (cause : ReportError) (result : Result ReportStatus ReportError) → IsReadWhole source.left source.left_then input → HadAtMost 67108864 source.left → Untouched out → InputCause input cause → IsErrAnd result (λ told. told ≡ cause) → Ends source out result
-ends_refused source out input cause (Ok end) whole fits untouched why same = absurd same
-ends_refused source out input (error.Tree refusal) (Err told) whole fits untouched why same = subst (λ x. Ends source out (Err x)) (sym same) (record { input = input; whole = whole; fits = fits; why = why }, untouched)
-ends_refused source out input error.TooLong (Err told) whole fits untouched why same = absurd why
-ends_refused source out input error.Read (Err told) whole fits untouched why same = absurd why
-ends_refused source out input error.Write (Err told) whole fits untouched why same = absurd why
-ends_refused source out input error.Memory (Err told) whole fits untouched why same = subst (λ x. Ends source out (Err x)) (sym same) (inr untouched)
+  -- the answer was written, or a prefix of it
+  pub gives : (old new : K) (text : List ℕ) (status : ReportStatus) (result : Result ReportStatus ReportError) → Answers request (end_of status) p text → WritesAll held faults old new text status result → GivesAnswer held faults old new request p result
+  gives old new text status (Ok given) answers writes = (text, subst (λ s. Answers request (end_of s) p text) (sym writes.0) answers, writes.1)
+  gives old new text status (Err cause) answers writes = inr (end_of status, text, answers, writes)
 
--- ---- the report isn't written to its end
+  no_refusal : (rose : Type 0) (cause : ReportError) → WriteCause rose cause → IsNotRefused cause
+  no_refusal rose (error.Tree refusal) why = absurd why
+  no_refusal rose error.TooLong why = tt
+  no_refusal rose error.Read why = tt
+  no_refusal rose error.Write why = tt
+  no_refusal rose error.Memory why = tt
 
-module _ {K : Type 0} (held : K → Option (List ℕ)) (faults : K → ℕ) (source : SourceCall) (old new : K) (tables : Tables) (diagnostics : List Diagnostic) (found : Finds source tables diagnostics) where
-  ends_unwritten : (cause : ReportError) → Writes held faults old new (report_text tables diagnostics) (Err cause) → Ends source (sink_call held faults old new) (Err cause)
-  ends_unwritten (error.Tree refusal) writes = absurd writes.cause
-  ends_unwritten error.TooLong writes = absurd writes.cause
-  ends_unwritten error.Read writes = absurd writes.cause
-  ends_unwritten error.Write writes = (writes.cause, record { tables = tables; diagnostics = diagnostics; found = found; told = writes.part })
-  ends_unwritten error.Memory writes = inl (record { tables = tables; diagnostics = diagnostics; found = found; told = writes.part })
+  -- what was given is no refusal of the input
+  pub gives_no_refusal : (old new : K) (result : Result ReportStatus ReportError) → GivesAnswer held faults old new request p result → IfErr result IsNotRefused
+  gives_no_refusal old new (Ok status) given = tt
+  gives_no_refusal old new (Err cause) (inl memory) = subst IsNotRefused (sym memory.0) tt
+  gives_no_refusal old new (Err cause) (inr part) = no_refusal _ cause part.3.cause
 
-  pub ends_by_writing : (cause : ReportError) (result : Result ReportStatus ReportError) → Writes held faults old new (report_text tables diagnostics) (Err cause) → IsErrAnd result (λ told. told ≡ cause) → Ends source (sink_call held faults old new) result
-  ends_by_writing cause (Err told) writes same = subst (λ x. Ends source (sink_call held faults old new) (Err x)) (sym same) (ends_unwritten cause writes)
-  ends_by_writing cause (Ok end) writes same = absurd same
+  -- what was given is what becomes of the request
+  pub gives_ends : (source : SourceCall) (old new : K) (result : Result ReportStatus ReportError) → IsAbout request.make source p → (request.make ≡ None) ⊎ Unread source → GivesAnswer held faults old new request p result → Ends request source (sink_call held faults old new) result
+  gives_ends source old new (Ok status) about read given = record { what = p; gives = about; text = given.0; answers = given.1; told = given.2.whole }
+  gives_ends source old new (Err cause) about read (inl memory) =
+      subst (Stopped (request.make ≡ None) (IsAbout request.make) (Answers request) source (sink_call held faults old new)) (sym memory.0) (read, inl memory.1)
+  gives_ends source old new (Err cause) about read (inr part) =
+      stopped_writing (request.make ≡ None) (IsAbout request.make) (Answers request) source held faults old new p part.0 part.1 cause read about part.2 part.3
+
+-- the same program
+pub gives_about : {K : Type 0} (held : K → Option (List ℕ)) (faults : K → ℕ) (old new : K) (request : Request) (p q : Tree) (result : Result ReportStatus ReportError) → p ≡ q → GivesAnswer held faults old new request p result → GivesAnswer held faults old new request q result
+gives_about held faults old new request p q result same given = subst (λ r. GivesAnswer held faults old new request r result) same given
+
+-- what is read or made is what the request is about
+pub read_about : (make : Option ℕ) (source : SourceCall) (p : Tree) → make ≡ None → Finds Stands source p → IsAbout make source p
+read_about make source p read finds = subst (λ m. IsAbout m source p) (sym read) finds
+
+pub made_about : (make : Option ℕ) (functions : ℕ) (source : SourceCall) → make ≡ Some functions → Unread source → IsAbout make source (generated functions)
+made_about make functions source made unread = subst (λ m. IsAbout m source (generated functions)) (sym made) (unread, refl)
+
+-- no program is found
+pub ends_unfound : (request : Request) (source : SourceCall) (out : SinkCall) (cause : ReportError) (result : Result ReportStatus ReportError) → request.make ≡ None → Untouched out → NotFound source cause → IsErrAnd result (λ told. told ≡ cause) → Ends request source out result
+ends_unfound request source out cause (Err told) read untouched why same =
+    subst (Stopped (request.make ≡ None) (IsAbout request.make) (Answers request) source out) (sym same) (stopped_reading (request.make ≡ None) (IsAbout request.make) (Answers request) source out cause read untouched why)
+ends_unfound request source out cause (Ok status) read untouched why same = absurd same
+
+pub unfound_no_refusal : (cause : ReportError) (result : Result ReportStatus ReportError) → IsNotRefused cause → IsErrAnd result (λ told. told ≡ cause) → IfErr result IsNotRefused
+unfound_no_refusal cause (Err told) kept same = subst IsNotRefused (sym same) kept
+unfound_no_refusal cause (Ok status) kept same = tt
 
 -- ---- the meaning of the status
 
--- as long as no word is taken, no script is made
-pub asks_report : (words : List (String Global)) (request : Request) → request_of words ≡ Some request → AsksReport words
-asks_report [] request asked = (request, asked, sym (ap (λ r. elim r as (λ _. Option ℕ) [ None ↦ None | Some x ↦ x.make ]) asked))
-asks_report (word ∷ words) request asked = absurd (cc)
+module _ (source : SourceCall) (out errs : SinkCall) where
+  -- what the program has done at an end, by what the words ask for
+  abbrev MeansAt : Option Request → End → Type 0
+  MeansAt asked end = MeansOf (IsAsked asked) (IsRead asked) usage_line (IsAskedAbout asked) RefusedFor tree_line (AnswersTo asked) RefusesNone source out errs end
 
--- a line that was told, or a prefix of it, is a prefix of it
-part_told : (errs : SinkCall) (line : List ℕ) → Told errs line → AppendsPrefix errs.held errs.held_then line
-part_told errs line (inl whole) = ([], record { part = line; appended = whole; whole = append-nil line })
-part_told errs line (inr part) = part.0
+  at_stop : (asked : Option Request) (told : Stop) (result : ReportStatus) → result ≡ status_of told → MeansAt asked (end_of_stop told) → MeansBy asked source out errs result
+  at_stop asked told result is means = subst (MeansAt asked) (sym (ap end_of is ∙ stopped_end told)) means
 
-module _ (source : SourceCall) (out errs : SinkCall) (words : List (String Global)) (asks : AsksReport words) where
-  for_none : (end : ReportStatus) (diagnostics : List Diagnostic) → end ≡ status_for diagnostics → end ≢ status.Clean → end ≢ status.Diagnosed → ⊥
-  for_none end [] is clean diagnosed = clean is
-  for_none end (first ∷ others) is clean diagnosed = diagnosed is
+  -- the words are refused
+  pub means_refused : (asked : Option Request) (result : ReportStatus) → asked ≡ None → Unread source → Untouched out → Tells errs usage_line stop.Usage result → MeansBy asked source out errs result
+  means_refused None result none unread untouched (told, is, tells) =
+      at_stop None told result is (means_usage (IsAsked None) (IsRead None) usage_line (IsAskedAbout None) (AnswersTo None) RefusesNone source out errs told (λ asked. asked) unread untouched tells)
+  means_refused (Some request) result none unread untouched tells = absurd (cc)
 
-  pub means_reported : (end : ReportStatus) → Reported source out end → Untouched errs → Means source out errs words end
-  means_reported status.Clean reported untouched = (asks, reported, untouched)
-  means_reported status.Diagnosed reported untouched = (asks, reported, untouched)
-  means_reported status.Usage reported untouched = absurd (for_none status.Usage reported.diagnostics reported.status (λ h. cc) (λ h. cc))
-  means_reported status.Tree reported untouched = absurd (for_none status.Tree reported.diagnostics reported.status (λ h. cc) (λ h. cc))
-  means_reported status.TooLong reported untouched = absurd (for_none status.TooLong reported.diagnostics reported.status (λ h. cc) (λ h. cc))
-  means_reported status.Read reported untouched = absurd (for_none status.Read reported.diagnostics reported.status (λ h. cc) (λ h. cc))
-  means_reported status.Write reported untouched = absurd (for_none status.Write reported.diagnostics reported.status (λ h. cc) (λ h. cc))
-  means_reported status.Memory reported untouched = absurd (for_none status.Memory reported.diagnostics reported.status (λ h. cc) (λ h. cc))
+  not_for : (diagnostics : List Diagnostic) (end : End) → end ≡ end_of (status_for diagnostics) → (end ≡ end_of status.Clean) ⊎ (end ≡ end_of status.Diagnosed)
+  not_for [] end is = inl is
+  not_for (first ∷ others) end is = inr is
 
-  part_or_not : ReportedPart source out ⊎ Untouched out → Untouched out ⊎ (AsksReport words × ReportedPart source out)
-  part_or_not (inl part) = inr (asks, part)
-  part_or_not (inr untouched) = inl untouched
+  answered : (request : Request) (end : End) → Answered (IsAbout request.make) (Answers request) source out end → (end ≡ end_of status.Clean) ⊎ (end ≡ end_of status.Diagnosed) → Untouched errs → MeansAt (Some request) end
+  answered request end whole (inl clean) untouched =
+      subst (MeansAt (Some request)) (sym clean) (tt, subst (Answered (IsAbout request.make) (Answers request) source out) clean whole, untouched)
+  answered request end whole (inr diagnosed) untouched =
+      subst (MeansAt (Some request)) (sym diagnosed) (tt, subst (Answered (IsAbout request.make) (Answers request) source out) diagnosed whole, untouched)
 
-  stopped : (end result : ReportStatus) → result ≡ end → Means source out errs words end → Means source out errs words result
-  stopped end result is means = subst (Means source out errs words) (sym is) means
+  -- the answer is written
+  pub means_answered : (asked : Option Request) (request : Request) (result : ReportStatus) → asked ≡ Some request → Ends request source out (Ok result) → Untouched errs → MeansBy asked source out errs result
+  means_answered asked request result is whole untouched =
+      subst (λ a. MeansBy a source out errs result) (sym is)
+      (answered request (end_of result) whole (not_for whole.answers.diagnostics (end_of result) whole.answers.ends) untouched)
 
-  pub means_told : (cause : ReportError) (result : ReportStatus) → Ends source out (Err cause) → Tells errs (line_of cause) (status_of cause) result → Means source out errs words result
-  means_told (error.Tree refusal) result ends (inl told) = stopped status.Tree result told.0 (asks, ends.1, (refusal, ends.0, told.1))
-  means_told (error.Tree refusal) result ends (inr told) = stopped status.Memory result told.0 (inl ends.1, inr (error.Tree refusal, told.1))
-  means_told error.TooLong result ends (inl told) = stopped status.TooLong result told.0 (asks, ends.0, ends.1, told.1)
-  means_told error.TooLong result ends (inr told) = stopped status.Memory result told.0 (inl ends.1, inr (error.TooLong, told.1))
-  means_told error.Read result ends (inl told) = stopped status.Read result told.0 (asks, ends.0, ends.1, told.1)
-  means_told error.Read result ends (inr told) = stopped status.Memory result told.0 (inl ends.1, inr (error.Read, told.1))
-  means_told error.Write result ends (inl told) = stopped status.Write result told.0 (asks, ends.0, ends.1, told.1)
-  means_told error.Write result ends (inr told) = stopped status.Memory result told.0 (inr (asks, ends.1), inr (error.Write, told.1))
-  means_told error.Memory result ends (inl told) = stopped status.Memory result told.0 (part_or_not ends, inr (error.Memory, part_told errs (line_of error.Memory) told.1))
-  means_told error.Memory result ends (inr told) = stopped status.Memory result told.0 (part_or_not ends, inr (error.Memory, told.1))
+  -- why it isn't is told
+  pub means_stopped : (asked : Option Request) (request : Request) (cause : ReportError) (result : ReportStatus) → asked ≡ Some request → Ends request source out (Err cause) → Tells errs (line_of cause) (stop_of cause) result → MeansBy asked source out errs result
+  means_stopped asked request cause result is why (told, stops, tells) =
+      subst (λ a. MeansBy a source out errs result) (sym is)
+      (at_stop (Some request) told result stops
+      (means_told (IsAsked (Some request)) (IsRead (Some request)) usage_line (IsAskedAbout (Some request)) (AnswersTo (Some request)) RefusesNone source out errs cause told tt why tells))
 
 -- ---- completeness
 
--- want of memory isn't a refusal
-pub memory_is_no_refusal : (cause : ReportError) (result : Result ReportStatus ReportError) → cause ≡ error.Memory → IsErrAnd result (λ told. told ≡ cause) → IsNotRefused result
-memory_is_no_refusal cause (Err told) memory same = subst (λ x. IsNotRefused (Err x)) (sym (same ∙ memory)) tt
-memory_is_no_refusal cause (Ok end) memory same = tt
+-- the words are refused
+pub usage_told : (errs : SinkCall) (result : ReportStatus) → Tells errs usage_line stop.Usage result → IsUsageOrMemory (end_of result)
+usage_told errs result (told, is, inl line) = subst (λ s. IsUsageOrMemory (end_of s)) (sym (is ∙ ap status_of line.0)) tt
+usage_told errs result (told, is, inr part) = subst (λ s. IsUsageOrMemory (end_of s)) (sym (is ∙ ap status_of part.0)) tt
 
--- neither is a fault in writing
-pub unwritten_is_no_refusal : (rose : Type 0) (cause : ReportError) (result : Result ReportStatus ReportError) → WriteCause rose cause → IsErrAnd result (λ told. told ≡ cause) → IsNotRefused result
-unwritten_is_no_refusal rose cause (Ok end) writes same = tt
-unwritten_is_no_refusal rose (error.Tree refusal) (Err told) writes same = absurd writes
-unwritten_is_no_refusal rose error.TooLong (Err told) writes same = absurd writes
-unwritten_is_no_refusal rose error.Read (Err told) writes same = absurd writes
-unwritten_is_no_refusal rose error.Write (Err told) writes same = subst (λ x. IsNotRefused (Err x)) (sym same) tt
-unwritten_is_no_refusal rose error.Memory (Err told) writes same = subst (λ x. IsNotRefused (Err x)) (sym same) tt
+done_for : (diagnostics : List Diagnostic) → IsDoneOrMemory (end_of (status_for diagnostics))
+done_for [] = tt
+done_for (first ∷ others) = tt
 
--- an input that is read whole is what the source had
-pub input_is : (left new : Option (List ℕ)) (items input : List ℕ) → left ≡ Some input → IsReadWhole left new items → items ≡ input
-input_is left new items input told whole =
-    let known : IsReadWhole (Some input) new items = subst (λ l. IsReadWhole l new items) told whole in known.0
+pub answered_done : (request : Request) (source : SourceCall) (out : SinkCall) (result : ReportStatus) → Ends request source out (Ok result) → IsDoneOrMemory (end_of result)
+answered_done request source out result whole = subst IsDoneOrMemory (sym whole.answers.ends) (done_for whole.answers.diagnostics)
 
--- where the reader is complete, it reads a program from an input that stands for it
-pub reads_form : (bytes input : List ℕ) (p : Tree) (result : Result Tree TreeError) → ((d : Data) (q : Tree) → IsUtf8 bytes → read bytes ≡ Some d → IsWrittenForm d q → IsNumbered q.root → IsShaped q → IsReadAs q result)
-    → bytes ≡ input → Stands input p → IsReadAs p result
-reads_form bytes input p result complete same form =
-    let told : Stands bytes p = subst (λ b. Stands b p) (sym same) form in
-    complete told.value p told.utf8 told.read told.written told.numbered told.shaped
+only_memory : (errs : SinkCall) (cause : ReportError) (result : ReportStatus) → cause ≡ error.Memory → Tells errs (line_of cause) (stop_of cause) result → IsDoneOrMemory (end_of result)
+only_memory errs cause result memory (told, is, tells) = subst (λ s. IsDoneOrMemory (end_of s)) (sym (is ∙ ap status_of (memory_stops errs cause told memory tells))) tt
 
-pub clear_told : (source : SourceCall) (out errs : SinkCall) (words : List (String Global)) (cause : ReportError) (result : ReportStatus) → IsClear source out words → IsNotRefused (Err cause) → Ends source out (Err cause) → Tells errs (line_of cause) (status_of cause) result → IsDoneOrMemory result
-clear_told source out errs words (error.Tree refusal) result clear open_way ends tells = absurd open_way
-clear_told source out errs words error.TooLong result clear open_way ends tells =
-    let longer : 67108864 < length clear.input = subst (HadMoreThan 67108864) clear.told ends.0 in
-    absurd (omega (arith, longer, clear.fits))
-clear_told source out errs words error.Read result clear open_way ends tells = absurd (clear.source_holds ends.0)
-clear_told source out errs words error.Write result clear open_way ends tells = absurd (clear.out_holds ends.0)
-clear_told source out errs words error.Memory result clear open_way ends (inl told) = subst IsDoneOrMemory (sym told.0) tt
-clear_told source out errs words error.Memory result clear open_way ends (inr told) = subst IsDoneOrMemory (sym told.0) tt
+made_not_read : (functions : ℕ) → Some functions ≡ None → ⊥
+made_not_read functions same = absurd (cc)
+
+pub clear_stopped : (asked : Option Request) (request : Request) (source : SourceCall) (out errs : SinkCall) (cause : ReportError) (result : ReportStatus) → asked ≡ Some request → IsClearFor asked source out
+    → (request.make ≡ None → (input : List ℕ) (program : Tree) → source.left ≡ Some input → Stands input program → IsNotRefused cause) → Ends request source out (Err cause) → Tells errs (line_of cause) (stop_of cause) result → IsDoneOrMemory (end_of result)
+clear_stopped asked request source out errs cause result is clear kept why tells =
+    only_memory errs cause result (by request.make refl (subst (λ a. IsClearFor a source out) is clear)) tells
+  where
+    by : (make : Option ℕ) → request.make ≡ make → IsClearBy make source out → cause ≡ error.Memory
+    by None e c = clear_reading (request.make ≡ None) (IsAbout request.make) (Answers request) source out cause c (kept e c.input c.program c.told c.stands) why
+    by (Some functions) e c = clear_making (request.make ≡ None) (IsAbout request.make) (Answers request) source out cause (λ none. made_not_read functions (sym e ∙ none)) c why
+
+-- nothing is asked for where the words are refused
+pub none_clear : (asked : Option Request) (source : SourceCall) (out : SinkCall) → asked ≡ None → IsClearFor asked source out → ⊥
+none_clear None source out none clear = clear
+none_clear (Some request) source out none clear = absurd (cc)
+
+pub asked_not_none : (asked : Option Request) (request : Request) → asked ≡ Some request → asked ≡ None → ⊥
+asked_not_none asked request is none = absurd (cc)

@@ -1,14 +1,6 @@
-pub mod Pieces
-pub mod TableLines
-pub mod ClassLines
-pub mod CountLines
-pub mod FreeNames
-pub mod DiagnosticLine
+pub mod Found
 pub mod Report
 pub mod Requests
 pub mod Codes
-pub mod Calls
 pub mod Telling
-pub mod Reads
-pub mod Found
 pub mod Meaning

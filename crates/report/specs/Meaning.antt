@@ -1,114 +1,101 @@
 -- What each status of the program means.
-use Rattle.std.specs.Prelude.{◌≡◌, ◌⊎◌, ℕ, ◌≤◌, List, [], ◌∷◌, Some, None, Result, Ok, Err, length, String}
+use Rattle.std.specs.Prelude.{◌≡◌, ◌⊎◌, ℕ, List, Option, Some, None, Result, Ok, Err, String}
 use Rattle.std.specs.declared.alloc.Global.{Global}
-use Rattle.std.specs.Io.KnownBytes.{Appends}
 use Rattle.semantic_syntax.specs.Tables.{Tables}
 use Rattle.semantic_tree.specs.Tree.{Tree}
-use Rattle.semantic_tree.specs.declared.error.TreeError.{TreeError}
 use Rattle.semantic_diagnostics.specs.declared.diagnostic.Diagnostic.{Diagnostic}
+use Rattle.generated_tree.specs.Generated.{generated}
 use Rattle.report_ends.specs.Causes.{Rose}
-use Rattle.report_ends.specs.Streams.{IsReadWhole, HadMoreThan, HadAtMost, AppendsPrefix}
+use Rattle.report_ends.specs.Streams.{Writes}
 use Rattle.report_ends.specs.declared.error.ReportError.{ReportError}
 use Rattle.report_ends.specs.declared.error.ReportError.TheVariants as error
-use Rattle.report.specs.declared.status.ReportStatus.{ReportStatus}
-use Rattle.report.specs.declared.status.ReportStatus.TheVariants as status
-use Rattle.report.specs.declared.request.Request.{Request}
-use Rattle.report.specs.Calls.{SourceCall, SinkCall, Untouched}
-use Rattle.report.specs.Found.{IsBuilt}
-use Rattle.report.specs.Reads.{Stands, RefusedFor}
-use Rattle.report.specs.Report.{report_text}
+use Rattle.program_ends.specs.Calls.{SourceCall, SinkCall, Unread}
+use Rattle.program_ends.specs.Completeness.{IsClear}
+use Rattle.program_ends.specs.Lines.{tree_line}
+use Rattle.program_ends.specs.Meaning.{End, Finds, Answered, Stopped, MeansOf}
+use Rattle.program_ends.specs.Reads.{Stands, RefusedFor}
+use Rattle.report.specs.Codes.{end_of, status_for}
+use Rattle.report.specs.Found.{IsBuilt, found_of}
+use Rattle.report.specs.Report.{answer_text}
 use Rattle.report.specs.Requests.{request_of}
-use Rattle.report.specs.Telling.{Told, ToldPart, usage_line, tree_line, line_of}
+use Rattle.report.specs.Telling.{usage_line}
+use Rattle.report.specs.declared.request.Request.{Request}
+use Rattle.report.specs.declared.status.ReportStatus.{ReportStatus}
 
--- ---- what was found
+-- ---- what is answered
 
--- the whole input, which isn't too long, stands for a program, and this is what its analysis gives
-pub record Finds (source : SourceCall) (tables : Tables) (diagnostics : List Diagnostic) : Type 0 where
-  pub input : List ℕ
-  pub program : Tree
-  pub whole : IsReadWhole source.left source.left_then input
-  pub fits : HadAtMost 67108864 source.left
-  pub stands : Stands input program
-  pub built : IsBuilt program tables diagnostics
+-- the program that is answered about: what the input stands for, or the script of so many functions, for which nothing is read
+abbrev pub IsAbout : Option ℕ → SourceCall → Tree → Type 0
+IsAbout None source p = Finds Stands source p
+IsAbout (Some functions) source p = Unread source × (p ≡ generated functions)
 
--- whether there are diagnostics
-abbrev pub status_for : List Diagnostic → ReportStatus
-status_for [] = status.Clean
-status_for (first ∷ others) = status.Diagnosed
-
--- the sink has taken the whole report of what was found, and this is the status for it
-pub record Reported (source : SourceCall) (out : SinkCall) (end : ReportStatus) : Type 0 where
+-- the text is the answer to the request about the program, whose tables fit it, and this is the end for it
+pub record Answers (request : Request) (end : End) (p : Tree) (text : List ℕ) : Type 0 where
   pub tables : Tables
   pub diagnostics : List Diagnostic
-  pub found : Finds source tables diagnostics
-  pub told : Appends out.held out.held_then (report_text tables diagnostics)
-  pub status : end ≡ status_for diagnostics
+  pub built : IsBuilt p tables diagnostics
+  pub told : text ≡ answer_text request (found_of p tables diagnostics)
+  pub ends : end ≡ end_of (status_for diagnostics)
 
--- the sink has taken a prefix of the report of what was found
-pub record ReportedPart (source : SourceCall) (out : SinkCall) : Type 0 where
-  pub tables : Tables
-  pub diagnostics : List Diagnostic
-  pub found : Finds source tables diagnostics
-  pub told : AppendsPrefix out.held out.held_then (report_text tables diagnostics)
+-- the sink has taken the text, and this is the status for it; or it has taken a prefix
+abbrev pub WritesAll : {K : Type 0} → (K → Option (List ℕ)) → (K → ℕ) → K → K → List ℕ → ReportStatus → Result ReportStatus ReportError → Type 0
+WritesAll held faults old new text status (Ok given) = (given ≡ status) × Writes held faults old new text (Ok tt)
+WritesAll held faults old new text status (Err cause) = Writes held faults old new text (Err cause)
 
--- the whole input, which isn't too long, is refused for this cause
-pub record Refused (source : SourceCall) (cause : TreeError) : Type 0 where
-  pub input : List ℕ
-  pub whole : IsReadWhole source.left source.left_then input
-  pub fits : HadAtMost 67108864 source.left
-  pub why : RefusedFor input cause
+-- the sink has taken the answer about the program, or a prefix of it; or memory was wanting before there was one
+abbrev pub GivesAnswer : {K : Type 0} → (K → Option (List ℕ)) → (K → ℕ) → K → K → Request → Tree → Result ReportStatus ReportError → Type 0
+GivesAnswer held faults old new request p (Ok status) = (text : List ℕ) × Answers request (end_of status) p text × Writes held faults old new text (Ok tt)
+GivesAnswer held faults old new request p (Err cause) =
+    ((cause ≡ error.Memory) × (held new ≡ held old)) ⊎ ((end : End) × (text : List ℕ) × Answers request end p text × Writes held faults old new text (Err cause))
 
--- ---- what it comes to
+-- what becomes of a request, before it is told
+abbrev pub Ends : Request → SourceCall → SinkCall → Result ReportStatus ReportError → Type 0
+Ends request source out (Ok status) = Answered (IsAbout request.make) (Answers request) source out (end_of status)
+Ends request source out (Err cause) = Stopped (request.make ≡ None) (IsAbout request.make) (Answers request) source out cause
 
--- what the input and the report come to
-abbrev pub Ends : SourceCall → SinkCall → Result ReportStatus ReportError → Type 0
-Ends source out (Ok end) = Reported source out end
-Ends source out (Err (error.Tree cause)) = Refused source cause × Untouched out
-Ends source out (Err error.TooLong) = HadMoreThan 67108864 source.left × Untouched out
-Ends source out (Err error.Read) = Rose source.faults source.faults_then × Untouched out
-Ends source out (Err error.Write) = Rose out.faults out.faults_then × ReportedPart source out
-Ends source out (Err error.Memory) = ReportedPart source out ⊎ Untouched out
+-- ---- the whole program
 
--- the input isn't refused
-abbrev pub IsNotRefused : Result ReportStatus ReportError → Type 0
-IsNotRefused (Err (error.Tree cause)) = ⊥
-IsNotRefused other = Unit {0}
+-- the words ask for something
+abbrev pub IsAsked : Option Request → Type 0
+IsAsked None = ⊥
+IsAsked (Some request) = Unit {0}
 
 -- the words ask for the report of the input
-abbrev pub AsksReport : List (String Global) → Type 0
-AsksReport words = (request : Request) × (request_of words ≡ Some request) × (request.make ≡ None)
+abbrev pub IsRead : Option Request → Type 0
+IsRead None = ⊥
+IsRead (Some request) = request.make ≡ None
+
+-- what they ask about
+abbrev pub IsAskedAbout : Option Request → SourceCall → Tree → Type 0
+IsAskedAbout None source p = ⊥
+IsAskedAbout (Some request) source p = IsAbout request.make source p
+
+-- what is answered
+abbrev pub AnswersTo : Option Request → End → Tree → List ℕ → Type 0
+AnswersTo None end p text = ⊥
+AnswersTo (Some request) end p text = Answers request end p text
+
+-- no request is refused about a good input
+abbrev pub RefusesNone : Tree → List ℕ → Type 0
+RefusesNone p line = ⊥
+
+-- what the program has done at a status, by what the words ask for
+abbrev pub MeansBy : Option Request → SourceCall → SinkCall → SinkCall → ReportStatus → Type 0
+MeansBy asked source out errs status =
+    MeansOf (IsAsked asked) (IsRead asked) usage_line (IsAskedAbout asked) RefusedFor tree_line (AnswersTo asked) RefusesNone source out errs (end_of status)
 
 -- What the program has done at each status.
 abbrev pub Means : SourceCall → SinkCall → SinkCall → List (String Global) → ReportStatus → Type 0
-Means source out errs words status.Clean = AsksReport words × Reported source out status.Clean × Untouched errs
-Means source out errs words status.Diagnosed = AsksReport words × Reported source out status.Diagnosed × Untouched errs
-Means source out errs words status.Usage = (request_of words ≡ None) × Untouched out × Told errs usage_line
-Means source out errs words status.Tree = AsksReport words × Untouched out × ((cause : TreeError) × Refused source cause × Told errs (tree_line cause))
-Means source out errs words status.TooLong = AsksReport words × HadMoreThan 67108864 source.left × Untouched out × Told errs (line_of error.TooLong)
-Means source out errs words status.Read = AsksReport words × Rose source.faults source.faults_then × Untouched out × Told errs (line_of error.Read)
-Means source out errs words status.Write = AsksReport words × Rose out.faults out.faults_then × ReportedPart source out × Told errs (line_of error.Write)
-Means source out errs words status.Memory = (Untouched out ⊎ (AsksReport words × ReportedPart source out)) × ToldPart errs
+Means source out errs words status = MeansBy (request_of words) source out errs status
 
--- nothing is in the way of a report: it is asked for, the input stands for a program, and no end fails
-pub record IsClear (source : SourceCall) (out : SinkCall) (words : List (String Global)) : Type 0 where
-  pub input : List ℕ
-  pub program : Tree
-  pub asked : AsksReport words
-  pub told : source.left ≡ Some input
-  pub fits : length input ≤ 67108864
-  pub stands : Stands input program
-  pub source_holds : ¬ (Rose source.faults source.faults_then)
-  pub out_holds : ¬ (Rose out.faults out.faults_then)
+-- ---- completeness
 
--- the report was written, or memory was wanting
-abbrev pub IsDoneOrMemory : ReportStatus → Type 0
-IsDoneOrMemory status.Clean = Unit {0}
-IsDoneOrMemory status.Diagnosed = Unit {0}
-IsDoneOrMemory status.Memory = Unit {0}
-IsDoneOrMemory other = ⊥
+-- nothing is in the way of an answer: of a report the input stands for a program and no end fails, of a summary the sink doesn't fail
+abbrev pub IsClearBy : Option ℕ → SourceCall → SinkCall → Type 0
+IsClearBy None source out = IsClear source out
+IsClearBy (Some functions) source out = ¬ (Rose out.faults out.faults_then)
 
--- the words were refused, or memory was wanting
-abbrev pub IsUsageOrMemory : ReportStatus → Type 0
-IsUsageOrMemory status.Usage = Unit {0}
-IsUsageOrMemory status.Memory = Unit {0}
-IsUsageOrMemory other = ⊥
+-- the words ask for something, and nothing is in the way of the answer
+abbrev pub IsClearFor : Option Request → SourceCall → SinkCall → Type 0
+IsClearFor None source out = ⊥
+IsClearFor (Some request) source out = IsClearBy request.make source out

@@ -23,10 +23,7 @@ word_text Make = codes "--make"
 -- whether a word is taken yet
 abbrev pub is_on : Word → Bool
 is_on Check = false
-is_on Nodes = false
-is_on Classes = false
-is_on Stats = false
-is_on Make = false
+is_on other = true
 
 -- whether a number follows the word
 abbrev pub takes_number : Word → Bool

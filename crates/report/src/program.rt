@@ -1,23 +1,30 @@
-// The program, over any source and any sinks.
-ghost use Rattle.std.specs.Prelude.{◌≡◌, ℕ, List, Some, None};
+//! The program, over any source and any sinks.
+ghost use Rattle.std.specs.Prelude.{◌≡◌, ◌≤◌, ℕ, List, Some, None, IfSome, IfErr};
 ghost use Rattle.semantic_tree.specs.Tree.{Tree};
-ghost use Rattle.report.specs.Calls.{source_call, sink_call};
-ghost use Rattle.report.specs.Reads.{Stands};
-ghost use Rattle.report.specs.Meaning.{status_for, Ends, IsNotRefused, Means, IsClear, IsDoneOrMemory, IsUsageOrMemory};
+ghost use Rattle.generated_tree.specs.Generated.{generated, most_functions};
+ghost use Rattle.report_ends.specs.Streams.{Writes};
+ghost use Rattle.program_ends.specs.Calls.{source_call, sink_call};
+ghost use Rattle.program_ends.specs.Completeness.{IsNotRefused, IsDoneOrMemory, IsUsageOrMemory};
+ghost use Rattle.program_ends.specs.Reads.{Stands};
+ghost use Rattle.report.specs.Codes.{status_for, end_of};
+ghost use Rattle.report.specs.Found.{found_in};
+ghost use Rattle.report.specs.Meaning.{WritesAll, GivesAnswer, Ends, Means, IsClearFor};
+ghost use Rattle.report.specs.Report.{answer_text};
 ghost use Rattle.report.specs.Requests.{request_of};
 
-use crate::input::program_in;
-use crate::options::Options;
 use crate::request::{Request, read_words};
 use crate::status::ReportStatus;
 use crate::stops::{refuse_words, tell};
-use crate::write::write_report;
-use report_ends::{ReportError, Sink, Source, read_input};
-use semantic::SemanticBuilder;
+use crate::write::{write_report, write_summary};
+use generated_tree::generated;
+use program_ends::read_program_from;
+use report_ends::{ReportError, Sink, Source};
+use semantic::{SemanticBuilder, SemanticBuilderReturn};
 use semantic_diagnostics::Diagnostics;
+use semantic_tree::Program;
 use std::alloc::Global;
 
-// The status for a report that is written.
+/// The status for an answer that is written.
 fn status_for(diagnostics: &Diagnostics) -> ReportStatus
     ensures { result ≡ status_for diagnostics.now }
 {
@@ -28,25 +35,106 @@ fn status_for(diagnostics: &Diagnostics) -> ReportStatus
     }
 }
 
-// Reads the input, analyses it, and writes its report.
-fn report<S: Source, K: Sink>(
+/// The settings of the analysis that is asked for.
+fn settings(request: Request) -> SemanticBuilder
+    ensures nodes { result.build_nodes ≡ request.nodes }
+    ensures classes { result.class_table ≡ request.classes }
+{
+    SemanticBuilder::new()
+        .with_build_nodes(request.nodes)
+        .with_class_table(request.classes)
+}
+
+/// Writes the answer to a request.
+fn write_answer<K: Sink>(
     alloc: Global,
-    options: Options,
-    source: &mut S,
+    request: Request,
+    ret: &SemanticBuilderReturn<'_>,
+    out: &mut K,
+) -> Result<(), ReportError>
+    ensures { Writes K.held K.faults out.old out.new (answer_text request (found_in ret.now)) result }
+{
+    match request.make {
+        None => write_report(alloc, ret, request.options(), out),
+        Some(_) => write_summary(alloc, ret, out),
+    }
+}
+
+/// Writes the answer to a request, and gives the status for it.
+fn finish_answer<K: Sink>(
+    alloc: Global,
+    request: Request,
+    ret: &SemanticBuilderReturn<'_>,
     out: &mut K,
 ) -> Result<ReportStatus, ReportError>
-    ensures ends { Ends (source_call S.left S.faults source.old source.new) (sink_call K.held K.faults out.old out.new) result }
-    ensures complete { (input : List ℕ) (program : Tree) → S.left source.old ≡ Some input → Stands input program → IsNotRefused result }
+    ensures { WritesAll K.held K.faults out.old out.new (answer_text request (found_in ret.now)) (status_for ret.now.diagnostics) result }
 {
-    let input = read_input(alloc, source)?;
-    let program = program_in(alloc, &input)?;
-    let ret = SemanticBuilder::new().build(alloc, &program)?;
-    write_report(alloc, &ret, options, out)?;
+    write_answer(alloc, request, ret, out)?;
     Ok(status_for(&ret.diagnostics))
 }
 
+/// Analyses a program, and writes the answer to a request about it.
+fn answer<K: Sink>(
+    alloc: Global,
+    request: Request,
+    program: &Program,
+    out: &mut K,
+) -> Result<ReportStatus, ReportError>
+    ensures { GivesAnswer K.held K.faults out.old out.new request program.now result }
+{
+    let ret = settings(request).build(alloc, program)?;
+    finish_answer(alloc, request, &ret, out)
+}
+
+/// Reads a program, and writes the answer to a request about it.
+fn answer_read<S: Source, K: Sink>(
+    alloc: Global,
+    request: Request,
+    source: &mut S,
+    out: &mut K,
+) -> Result<ReportStatus, ReportError>
+    requires { request.make ≡ None }
+    ensures ends { Ends request (source_call S.left S.faults source.old source.new) (sink_call K.held K.faults out.old out.new) result }
+    ensures complete { (input : List ℕ) (program : Tree) → S.left source.old ≡ Some input → Stands input program → IfErr result IsNotRefused }
+{
+    let program = read_program_from(alloc, source)?;
+    answer(alloc, request, &program, out)
+}
+
+/// Makes a script of so many functions, and writes the answer to a request about it.
+fn answer_made<K: Sink>(
+    alloc: Global,
+    request: Request,
+    functions: u32,
+    out: &mut K,
+) -> Result<ReportStatus, ReportError>
+    requires { functions ≤ most_functions }
+    ensures { GivesAnswer K.held K.faults out.old out.new request (generated functions) result }
+{
+    let program = generated(alloc, functions)?;
+    answer(alloc, request, &program, out)
+}
+
+/// Reads or makes a program, and writes the answer to a request about it. Where one is made nothing is read.
+fn answer_request<S: Source, K: Sink>(
+    alloc: Global,
+    request: Request,
+    source: &mut S,
+    out: &mut K,
+) -> Result<ReportStatus, ReportError>
+    requires { IfSome request.make (λ functions. functions ≤ most_functions) }
+    ensures ends { Ends request (source_call S.left S.faults source.old source.new) (sink_call K.held K.faults out.old out.new) result }
+    ensures complete { request.make ≡ None → (input : List ℕ) (program : Tree) → S.left source.old ≡ Some input → Stands input program → IfErr result IsNotRefused }
+{
+    match request.make {
+        None => answer_read(alloc, request, source, out),
+        Some(functions) => answer_made(alloc, request, functions, out),
+    }
+}
+
 /// Does all that the program does: it reads the whole input, which is a program's tree as JSON, and writes its report
-/// on `out`. Where it can't it tells why on `errs`, in one line.
+/// on `out`; or it makes a script, and writes the summary of its analysis. Where it can't it tells why on `errs`, in
+/// one line. Where the words are refused, or ask for a script that is made, nothing is read.
 pub fn run<S: Source, K: Sink, E: Sink>(
     alloc: Global,
     words: &[String],
@@ -56,14 +144,14 @@ pub fn run<S: Source, K: Sink, E: Sink>(
 ) -> ReportStatus
     ensures means { Means (source_call S.left S.faults source.old source.new) (sink_call K.held K.faults out.old out.new)
         (sink_call E.held E.faults errs.old errs.new) words.now result }
-    ensures complete { IsClear (source_call S.left S.faults source.old source.new)
-        (sink_call K.held K.faults out.old out.new) words.now → IsDoneOrMemory result }
-    ensures usage { request_of words.now ≡ None → IsUsageOrMemory result }
+    ensures complete { IsClearFor (request_of words.now) (source_call S.left S.faults source.old source.new)
+        (sink_call K.held K.faults out.old out.new) → IsDoneOrMemory (end_of result) }
+    ensures usage { request_of words.now ≡ None → IsUsageOrMemory (end_of result) }
 {
     let Some(request) = read_words(words) else {
         return refuse_words(errs);
     };
-    match report(alloc, request.options(), source, out) {
+    match answer_request(alloc, request, source, out) {
         Ok(status) => status,
         Err(error) => tell(alloc, &error, errs),
     }

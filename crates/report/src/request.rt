@@ -1,6 +1,7 @@
-// What the words of the command line ask for.
-ghost use Rattle.std.specs.Prelude.{◌≡◌, ◌≤◌, length};
+//! What the words of the command line ask for.
+ghost use Rattle.std.specs.Prelude.{◌≡◌, ◌≤◌, length, IfSome};
 ghost use Rattle.report.specs.Requests.{asking, request_of, count_of, digits_from};
+ghost use Rattle.report.specs.Report.{options_of};
 
 use crate::options::Options;
 use crate::word::Word;
@@ -18,7 +19,9 @@ pub struct Request {
 
 impl Request {
     /// What the report tells besides.
-    pub fn options(self) -> Options {
+    pub fn options(self) -> Options
+        ensures { result ≡ options_of self }
+    {
         Options {
             nodes: self.nodes,
             classes: self.classes,
@@ -59,7 +62,8 @@ fn read_digits(digits: &[u8]) -> Option<u32>
 
 // A count from 1 to 100,000, in one to six digits without a leading zero.
 fn read_count(word: &str) -> Option<u32>
-    ensures { result ≡ count_of word.now }
+    ensures count { result ≡ count_of word.now }
+    ensures most { IfSome result (λ count. count ≤ 100000) }
 {
     let digits = word.as_bytes();
     if digits.is_empty() || digits.len() > 6 || digits[0] == b'0' {
@@ -71,7 +75,8 @@ fn read_count(word: &str) -> Option<u32>
 /// What the words ask for, or none where one isn't known, or a number is missing or not so written. The last number
 /// counts.
 pub fn read_words(words: &[String]) -> Option<Request>
-    ensures { result ≡ request_of words.now }
+    ensures request { result ≡ request_of words.now }
+    ensures most { IfSome result (λ request. IfSome request.make (λ count. count ≤ 100000)) }
 {
     let mut request = Request {
         check: false,

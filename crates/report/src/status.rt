@@ -1,6 +1,8 @@
-// How the program ends.
+//! How the program ends.
 ghost use Rattle.std.specs.Prelude.{◌≡◌};
 ghost use Rattle.report.specs.Codes.{code_of};
+
+use program_ends::Stop;
 
 /// How the program ends.
 #[derive(Clone, Copy, Debug, PartialEq, Eq)]
@@ -29,5 +31,22 @@ impl ReportStatus {
         ensures { result ≡ code_of self }
     {
         self as u8
+    }
+}
+
+impl From<Stop> for ReportStatus {
+    ghost use Rattle.report.specs.Codes.{status_of};
+
+    ghost from_gives = { λ stop status. status ≡ status_of stop };
+
+    fn from(stop: Stop) -> Self {
+        match stop {
+            Stop::Usage => ReportStatus::Usage,
+            Stop::Tree => ReportStatus::Tree,
+            Stop::TooLong => ReportStatus::TooLong,
+            Stop::Read => ReportStatus::Read,
+            Stop::Write => ReportStatus::Write,
+            Stop::Memory => ReportStatus::Memory,
+        }
     }
 }

@@ -1,4 +1,4 @@
-// The words of the command line.
+//! The words of the command line.
 ghost use Rattle.std.specs.Prelude.{◌≡◌};
 ghost use Rattle.report.specs.Requests.{word_text, is_on, takes_number, word_of};
 
@@ -38,13 +38,7 @@ impl Word {
     pub fn is_on(self) -> bool
         ensures { result ≡ is_on self }
     {
-        match self {
-            Word::Check => false,
-            Word::Nodes => false,
-            Word::Classes => false,
-            Word::Stats => false,
-            Word::Make => false,
-        }
+        !matches!(self, Word::Check)
     }
 
     /// Whether a number follows it.

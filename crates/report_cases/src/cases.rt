@@ -126,19 +126,90 @@ pub const CASES: &[Case] = &[
         errs: "tree: span at comment 0\n",
     },
     Case {
-        name: "an unknown word",
-        words: &["--what"],
+        name: "nodes and counts of an empty program",
+        words: &["--nodes", "--stats"],
         input: r#"{"format":1,"source":"","goal":"script","lang":"js","comments":[],"rows":[[0,"root","Program",0,0,"",[]]]}"#,
-        status: ReportStatus::Usage,
-        out: "",
-        errs: "usage: report [--check] [--nodes] [--classes] [--stats] [--make N]\n",
+        status: ReportStatus::Clean,
+        out: "node 0 Program parent 0 scope 0\nscope 0 parent - node 0 flags Top\nstats nodes 1 scopes 1 symbols 0 references 0\n",
+        errs: "",
     },
-    Case {
-        name: "a word that isn't taken yet",
-        words: &["--check"],
-        input: r#"{"format":1,"source":"","goal":"script","lang":"js","comments":[],"rows":[[0,"root","Program",0,0,"",[]]]}"#,
+];
+
+/// Words for which nothing is read, and what the program makes of them.
+#[derive(Clone, Copy)]
+pub struct Unread {
+    pub words: &'static [&'static str],
+    pub status: ReportStatus,
+    pub out: &'static str,
+}
+
+/// The line on words that are refused.
+pub const USAGE: &str = "usage: report [--check] [--nodes] [--classes] [--stats] [--make N]\n";
+
+pub const UNREAD: &[Unread] = &[
+    Unread {
+        words: &["--what"],
         status: ReportStatus::Usage,
         out: "",
-        errs: "usage: report [--check] [--nodes] [--classes] [--stats] [--make N]\n",
+    },
+    Unread {
+        words: &["--check"],
+        status: ReportStatus::Usage,
+        out: "",
+    },
+    Unread {
+        words: &["--stats", "--what"],
+        status: ReportStatus::Usage,
+        out: "",
+    },
+    Unread {
+        words: &["--make"],
+        status: ReportStatus::Usage,
+        out: "",
+    },
+    Unread {
+        words: &["--make", "0"],
+        status: ReportStatus::Usage,
+        out: "",
+    },
+    Unread {
+        words: &["--make", "07"],
+        status: ReportStatus::Usage,
+        out: "",
+    },
+    Unread {
+        words: &["--make", "100001"],
+        status: ReportStatus::Usage,
+        out: "",
+    },
+    Unread {
+        words: &["--make", "x"],
+        status: ReportStatus::Usage,
+        out: "",
+    },
+    Unread {
+        words: &["--make", "3"],
+        status: ReportStatus::Clean,
+        out: "made nodes 43 scopes 4 symbols 9 references 9 free 3\n",
+    },
+    Unread {
+        words: &["--make", "5"],
+        status: ReportStatus::Clean,
+        out: "made nodes 71 scopes 6 symbols 15 references 15 free 5\n",
+    },
+    Unread {
+        words: &["--make", "5", "--make", "3"],
+        status: ReportStatus::Clean,
+        out: "made nodes 43 scopes 4 symbols 9 references 9 free 3\n",
+    },
+    Unread {
+        words: &["--nodes", "--make", "3", "--classes", "--stats"],
+        status: ReportStatus::Clean,
+        out: "made nodes 43 scopes 4 symbols 9 references 9 free 3\n",
+    },
+    Unread {
+        words: &["--make", "10000"],
+        status: ReportStatus::Clean,
+        out: "made nodes 140001 scopes 10001 symbols 30000 references 30000 free 10000\n",
     },
 ];

@@ -1,12 +1,31 @@
 use Rattle.std.proofs.Common.{refl, sym, ◌∙◌}
-use Rattle.report.proofs.Meanings.{asks_report, means_reported, means_told, clear_told}
+use Rattle.report.proofs.Meanings.{means_refused, means_answered, means_stopped, usage_told, answered_done, clear_stopped, none_clear, asked_not_none}
 use Rattle.report.proofs.program.run.Goals as goal
 
+pub returns-in_default-clause-means : goal.returns-in_default-clause-means
+returns-in_default-clause-means g c = means_refused _ _ _ _ c.refuse_words.result (sym c.read_words.ensures.request ∙ c.in_default.is) (record { left = refl; faults = refl }) refl c.refuse_words.ensures
+
 pub returns-in-Ok-clause-means : goal.returns-in-Ok-clause-means
-returns-in-Ok-clause-means g c = means_reported _ _ _ c.args.words.now (asks_report c.args.words.now c.in-Some.request (sym c.read_words.ensures ∙ c.in-Some.is)) c.in-Ok.status c.in-Ok.ensures.ends refl
+returns-in-Ok-clause-means g c = means_answered _ _ _ _ c.in-Some.request c.in-Ok.status (sym c.read_words.ensures.request ∙ c.in-Some.is) c.in-Ok.ensures.ends refl
+
+pub returns-in-Ok-clause-complete : goal.returns-in-Ok-clause-complete
+returns-in-Ok-clause-complete g c = λ clear. answered_done c.in-Some.request _ _ c.in-Ok.status c.in-Ok.ensures.ends
 
 pub returns-in-Err-clause-means : goal.returns-in-Err-clause-means
-returns-in-Err-clause-means g c = means_told _ _ _ c.args.words.now (asks_report c.args.words.now c.in-Some.request (sym c.read_words.ensures ∙ c.in-Some.is)) c.in-Err.error c.tell.result c.in-Err.ensures.ends c.tell.ensures
+returns-in-Err-clause-means g c = means_stopped _ _ _ _ c.in-Some.request c.in-Err.error c.tell.result (sym c.read_words.ensures.request ∙ c.in-Some.is) c.in-Err.ensures.ends c.tell.ensures
 
 pub returns-in-Err-clause-complete : goal.returns-in-Err-clause-complete
-returns-in-Err-clause-complete g c = λ clear. clear_told _ _ _ c.args.words.now c.in-Err.error c.tell.result clear (c.in-Err.ensures.complete clear.input clear.program clear.told clear.stands) c.in-Err.ensures.ends c.tell.ensures
+returns-in-Err-clause-complete g c = λ clear.
+    clear_stopped _ c.in-Some.request _ _ _ c.in-Err.error c.tell.result (sym c.read_words.ensures.request ∙ c.in-Some.is) clear c.in-Err.ensures.complete c.in-Err.ensures.ends c.tell.ensures
+
+pub returns-in-Ok-clause-usage : goal.returns-in-Ok-clause-usage
+returns-in-Ok-clause-usage g c = λ none. absurd (asked_not_none _ c.in-Some.request (sym c.read_words.ensures.request ∙ c.in-Some.is) none)
+
+pub returns-in-Err-clause-usage : goal.returns-in-Err-clause-usage
+returns-in-Err-clause-usage g c = λ none. absurd (asked_not_none _ c.in-Some.request (sym c.read_words.ensures.request ∙ c.in-Some.is) none)
+
+pub returns-in_default-clause-usage : goal.returns-in_default-clause-usage
+returns-in_default-clause-usage g c = λ none. usage_told _ c.refuse_words.result c.refuse_words.ensures
+
+pub returns-in_default-clause-complete : goal.returns-in_default-clause-complete
+returns-in_default-clause-complete g c = λ clear. absurd (none_clear _ _ _ (sym c.read_words.ensures.request ∙ c.in_default.is) clear)

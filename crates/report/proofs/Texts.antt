@@ -1,0 +1,48 @@
+-- The text of what stands in an analysis is that of what is found in the program.
+use Rattle.std.proofs.Common.{◌≡◌, ℕ, List, ◌++◌, Bool, true, false, Option, Some, None, flat_map, ap, ◌∙◌, refl}
+use Rattle.semantic_syntax.specs.Tables.{Tables}
+use Rattle.semantic_tree.specs.Children.{node_count}
+use Rattle.semantic_tree.specs.Tree.{Tree}
+use Rattle.semantic_model.specs.Class.{classes}
+use Rattle.semantic_model.specs.Label.{unused_labels}
+use Rattle.semantic_diagnostics.specs.declared.diagnostic.Diagnostic.{Diagnostic}
+use Rattle.node_store.specs.NodeList.{NodeList}
+use Rattle.class_table.specs.Lists.{ClassLists}
+use Rattle.class_table.specs.Told.{lists_told}
+use Rattle.semantic.specs.Listed.{node_list, kept_nodes}
+use Rattle.semantic.specs.NoteLists.{classes_noted}
+use Rattle.report_lines.specs.ClassLines.{all_class_lines}
+use Rattle.report_lines.specs.CountLines.{node_lines, label_line, stats_line, made_line}
+use Rattle.report_lines.specs.DiagnosticLine.{diagnostic_line}
+use Rattle.report_lines.specs.TableLines.{table_lines}
+use Rattle.report.specs.Found.{Found, found_of}
+use Rattle.report.specs.Report.{where_asked, listed_text, noted_text, counted_text, report_text, text_by}
+use Rattle.report.specs.declared.options.Options.{Options}
+
+nodes_same : (asked : Bool) (list : NodeList) (p : Tree) → list ≡ kept_nodes asked p → where_asked asked (node_lines list) ≡ where_asked asked (node_lines (node_list p))
+nodes_same true list p same = ap node_lines same
+nodes_same false list p same = refl
+
+classes_same : (asked : Bool) (lists : ClassLists) (p : Tree) → lists ≡ classes_noted asked p → where_asked asked (all_class_lines lists) ≡ where_asked asked (all_class_lines (lists_told (classes p.root)))
+classes_same true lists p same = ap all_class_lines same
+classes_same false lists p same = refl
+
+parts_same : (options : Options) (x y : Found) → listed_text options x ≡ listed_text options y → noted_text options x ≡ noted_text options y → counted_text options x ≡ counted_text options y → report_text options x ≡ report_text options y
+parts_same options x y listed noted counted =
+    ap (λ text. text ++ (noted_text options x ++ counted_text options x)) listed
+    ∙ ap (λ text. listed_text options y ++ (text ++ counted_text options x)) noted
+    ∙ ap (λ text. listed_text options y ++ (noted_text options y ++ text)) counted
+
+module _ (options : Options) (nodes : NodeList) (tables : Tables) (lists : ClassLists) (labels : List ℕ) (count : ℕ) (diagnostics : List Diagnostic) (p : Tree) where
+  abbrev pub standing : Found
+  standing = record { nodes = nodes; tables = tables; classes = lists; labels = labels; count = count; diagnostics = diagnostics }
+
+  pub text_same : (make : Option ℕ) → nodes ≡ kept_nodes options.nodes p → lists ≡ classes_noted options.classes p → labels ≡ unused_labels p.root → count ≡ node_count p.root
+      → text_by make options standing ≡ text_by make options (found_of p tables diagnostics)
+  text_same None n c l k =
+      parts_same options standing (found_of p tables diagnostics)
+      (ap (λ text. text ++ table_lines tables) (nodes_same options.nodes nodes p n))
+      (ap (λ text. text ++ flat_map label_line labels) (classes_same options.classes lists p c)
+      ∙ ap (λ ls. where_asked options.classes (all_class_lines (lists_told (classes p.root))) ++ flat_map label_line ls) l)
+      (ap (λ n. where_asked options.stats (stats_line n tables) ++ flat_map diagnostic_line diagnostics) k)
+  text_same (Some functions) n c l k = ap (λ n. made_line n tables) k

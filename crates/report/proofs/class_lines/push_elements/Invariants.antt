@@ -1,6 +1,0 @@
-use Rattle.std.proofs.Common.{◌≡◌, ◌++◌, drop}
-use Rattle.report.specs.Pieces.{numbers}
-use Rattle.report.proofs.class_lines.push_elements.Given as goal
-
-abbrev pub invariant-loop-element : goal.invariant-loop-element
-invariant-loop-element l = l.line ++ numbers (drop l.element-index l.elements) ≡ l.fn.line ++ numbers l.elements

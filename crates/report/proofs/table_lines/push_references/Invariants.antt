@@ -1,6 +1,0 @@
-use Rattle.std.proofs.Common.{◌≡◌, ◌++◌, drop}
-use Rattle.report.specs.Pieces.{numbers}
-use Rattle.report.proofs.table_lines.push_references.Given as goal
-
-abbrev pub invariant-loop-reference : goal.invariant-loop-reference
-invariant-loop-reference l = l.line ++ numbers (drop l.reference-index l.references) ≡ l.fn.line ++ numbers l.references

@@ -1,0 +1,14 @@
+use Rattle.scoping.specs.Reading.{no_scope}
+use Rattle.report_lines.specs.TableLines.{scope_lines}
+use Rattle.report_lines.proofs.Items.{places_go_on, places_fail}
+use Rattle.report_lines.proofs.write_scopes.write_scopes.Goals as goal
+
+pub returns-in_err-write_scope : goal.returns-in_err-write_scope
+returns-in_err-write_scope g c =
+    places_fail g.K.Sink.held g.K.Sink.faults (scope_lines c.args.scoping.now) c.loop-number.number c.args.scoping.now.scopes no_scope _ _ _ _ _ c.from_residual.result c.loop-number.invariant
+    (rw c.scopes_len-count.ensures.count at c.loop-number-test.true) (rw c.new.ensures at c.in_err-write_scope.ensures) c.from_residual.ensures.1
+
+pub loop-number-preserved : goal.loop-number-preserved
+loop-number-preserved g c =
+    places_go_on g.K.Sink.held g.K.Sink.faults (scope_lines c.args.scoping.now) c.loop-number.number c.args.scoping.now.scopes no_scope _ _ _ _ _ c.loop-number.invariant
+    (rw c.scopes_len-count.ensures.count at c.loop-number-test.true) (rw c.new.ensures at c.in_ok-write_scope.ensures)

@@ -1,0 +1,10 @@
+use Rattle.std.proofs.Common.{refl}
+use Rattle.report_lines.specs.TableLines.{all_reference_lines}
+use Rattle.report_ends.proofs.Stages.{writes_not_then, writes_then}
+use Rattle.report_lines.proofs.write_tables.write_symbols_and_references.Goals as goal
+
+pub returns-in_err-write_all_symbols : goal.returns-in_err-write_all_symbols
+returns-in_err-write_all_symbols g c = writes_not_then g.K.Sink.held g.K.Sink.faults _ _ _ (all_reference_lines c.args.scoping.now) _ _ c.from_residual.result c.in_err-write_all_symbols.ensures c.from_residual.ensures.1 refl
+
+pub returns : goal.returns
+returns g c = writes_then g.K.Sink.held g.K.Sink.faults _ _ _ _ _ _ _ _ c.in_ok-write_all_symbols.ensures c.write_all_references.ensures refl

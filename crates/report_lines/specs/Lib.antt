@@ -1,0 +1,6 @@
+pub mod Pieces
+pub mod TableLines
+pub mod ClassLines
+pub mod CountLines
+pub mod FreeNames
+pub mod DiagnosticLine

@@ -1,0 +1,34 @@
+//! Writes the lines on diagnostics.
+ghost use Rattle.std.specs.List.{flat_map};
+ghost use Rattle.report_ends.specs.Streams.{Writes};
+ghost use Rattle.report_lines.specs.DiagnosticLine.{diagnostic_line};
+
+use crate::diagnostic_line::make_diagnostic_line;
+use crate::line::Line;
+use report_ends::{ReportError, Sink};
+use semantic_diagnostics::{Diagnostic, Diagnostics};
+
+fn write_diagnostic<K: Sink>(
+    line: &mut Line,
+    diagnostic: &Diagnostic,
+    out: &mut K,
+) -> Result<(), ReportError>
+    ensures { Writes K.held K.faults out.old out.new (diagnostic_line diagnostic.now) result }
+{
+    make_diagnostic_line(line, diagnostic)?;
+    line.offer(out)
+}
+
+/// Writes the lines of the diagnostics.
+pub fn write_diagnostics<K: Sink>(
+    line: &mut Line,
+    diagnostics: &Diagnostics,
+    out: &mut K,
+) -> Result<(), ReportError>
+    ensures { Writes K.held K.faults out.old out.new (flat_map diagnostic_line diagnostics.now) result }
+{
+    for diagnostic in diagnostics.iter() {
+        write_diagnostic(line, diagnostic, out)?;
+    }
+    Ok(())
+}
