@@ -1,0 +1,5 @@
+pub mod Reaches
+pub mod Targets
+pub mod Exports
+pub mod Ends
+pub mod Answers
