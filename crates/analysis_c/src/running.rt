@@ -17,8 +17,8 @@ pub fn run_over_bytes(
     out: &mut SureSink,
     errs: &mut SureSink,
 ) -> ReportStatus
-    requires { sure_held out.old ≡ [] }
-    requires { sure_held errs.old ≡ [] }
+    requires out_empty { sure_held out.old ≡ [] }
+    requires errs_empty { sure_held errs.old ≡ [] }
     ensures { Answers tree.now words.now (sure_held out.new) (sure_held errs.new) result }
 {
     let Ok(text) = str::from_utf8(words) else {

@@ -1,4 +1,4 @@
-use Rattle.std.proofs.lemmas.Iterator.{map_from_collect}
+use Rattle.std.proofs.lemmas.Iterator.Consumers.{map_from_collect}
 use Rattle.std.proofs.lemmas.Iterator.Splits.{YieldsList-from_lines}
 use Rattle.analysis_c.proofs.words.lines_of.Goals as goal
 
