@@ -1,6 +1,6 @@
 'use strict';
-// Dialects of ESTree: those of Babel and of typescript-eslint, where their parsers are installed, and spans as the latter gives
-// them. Their trees are those that the other ways give.
+// Dialects of ESTree: that of Babel, where its parser is installed, and spans as typescript-eslint gives them. Their trees are
+// those that the other ways give.
 
 const { load } = require('../source-to-tree/load');
 const { languageOf, goalOf } = require('../source-to-tree/languages');
@@ -66,48 +66,18 @@ function checkRanges(tally) {
 
 const commentNode = ({ block, start, end }) => ({ type: block ? 'Block' : 'Line', start, end });
 
-// What typescript-eslint makes of a source, or null where it refuses it.
-function estreeOfTypeScript(parser, source, filename) {
-  const options = { range: true, comment: true, jsx: /x$/.test(filename), filePath: filename, loggerFn: false };
+function checkDialects(tally) {
+  checkRanges(tally);
+  let babel;
   try {
-    return parser.parse(source, options);
+    babel = load('@babel/parser');
   } catch {
-    return null;
-  }
-}
-
-// It has no node for parentheses, so sources that have some are only taken.
-function checkWithTypeScriptEslint(tally, parser, [name, filename, source, rows]) {
-  const tree = estreeOfTypeScript(parser, source, filename);
-  if (tree === null) return false;
-  const { json } = convert(source, { filename });
-  const same = json === undefined || !JSON.parse(json).rows.some(([, , kind]) => kind === 'ParenthesizedExpression');
-  if (same) checkTree(tally, tree, [`${name} by typescript-eslint`, filename, source, rows]);
-  else tally.check(`${name} by typescript-eslint: taken`, convert(source, { filename, parser: 'estree', tree }).json !== undefined);
-  return true;
-}
-
-const DIALECTS = [
-  ['@babel/parser', 'Babel', checkWithBabel],
-  ['@typescript-eslint/typescript-estree', 'typescript-eslint', checkWithTypeScriptEslint],
-];
-
-function checkDialect(tally, [module, name, check]) {
-  let parser;
-  try {
-    parser = load(module);
-  } catch {
-    console.log(`not tried: the dialect of ${name}, whose parser isn't installed`);
+    console.log("not tried: the dialect of Babel, whose parser isn't installed");
     return;
   }
   const cases = [...JS, ...ONE_WAY, ...NEWER];
-  const taken = cases.filter((one) => check(tally, parser, one)).length;
-  console.log(`${taken} of ${cases.length} small sources by ${name}`);
-}
-
-function checkDialects(tally) {
-  checkRanges(tally);
-  for (const dialect of DIALECTS) checkDialect(tally, dialect);
+  const taken = cases.filter((one) => checkWithBabel(tally, babel, one)).length;
+  console.log(`${taken} of ${cases.length} small sources by Babel`);
 }
 
 module.exports = { checkDialects };
