@@ -21,7 +21,7 @@ pub ran_from_empty : (tree left before report before_errs message : List ℕ) (w
     → (request_of words ≡ None → IsUsageOrMemory result) → Ran tree report message words result
 ran_from_empty tree left before report before_errs message words result empty empty_errs means complete usage =
     let told : Means (source_of tree left) (sink_of report) (sink_from before_errs message) words result =
-          subst (λ start. Means (source_of tree left) (sink_from start report) (sink_from before_errs message) words result) empty means in record {
+    subst (λ start. Means (source_of tree left) (sink_from start report) (sink_from before_errs message) words result) empty means in record {
       left = left;
       means = subst (λ start. Means (source_of tree left) (sink_of report) (sink_from start message) words result) empty_errs told;
       complete = subst (λ start. IsClear (source_of tree left) (sink_from start report) words → IsDoneOrMemory result) empty complete;
