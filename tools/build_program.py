@@ -1,7 +1,7 @@
-"""Proves and builds the program of a crate with `rt`, and says how far it is.
+"""Proves and builds the program or the static library of a crate with `rt`, and says how far it is.
 usage: build_program.py CRATE
 
-The crates that the program stands on are proved side by side, lowest first. If nothing of them changed since the last
+The crates that it stands on are proved side by side, lowest first. If nothing of them changed since the last
 build, nothing is done. A build that fails ends with its log, and with status 1."""
 
 import hashlib
@@ -18,15 +18,17 @@ TOP = os.path.dirname(os.path.dirname(os.path.abspath(__file__)))
 SAYS_EVERY = 60
 
 
-def libraries():
-    """The libraries of the repository that each crate names."""
-    named = {}
+def crates_listed():
+    """The libraries of the repository that each crate names, and the crates that are static libraries."""
+    named, static = {}, set()
     with open(f"{TOP}/crates.txt", encoding="utf-8") as file:
         for line in file:
-            name, colon, words = line.partition("#")[0].partition(":")
+            head, colon, words = line.partition("#")[0].partition(":")
             if colon:
-                named[name.split()[0]] = words.split()
-    return {name: [it for it in words if it in named] for name, words in named.items()}
+                name, *kind = head.split()
+                named[name] = words.split()
+                static.update([name] if kind[:1] == ["staticlib"] else [])
+    return {name: [it for it in words if it in named] for name, words in named.items()}, static
 
 
 def in_order(named, crate, order):
@@ -53,10 +55,11 @@ def checksum(named, crates):
 
 
 class Build:
-    """The crates on the way to a program, each of which waits, is being proved or is done."""
+    """The crates on the way to a program or a static library, each of which waits, is being proved or is done."""
 
-    def __init__(self, named, crates):
+    def __init__(self, named, crates, is_program):
         self.named = named
+        self.is_program = is_program
         self.waiting = list(crates)
         self.running = {}
         self.done = []
@@ -74,8 +77,8 @@ class Build:
         return [it for it in self.waiting if all(below in self.done for below in self.named[it])]
 
     def start(self, crate, jobs):
-        """Starts the proof of a crate, and of the program also its build."""
-        words = ["rt", "run" if crate == self.crate else "lib", "--jobs", str(jobs)]
+        """Starts the proof of a crate, and of the last one also its build."""
+        words = ["rt", "run" if self.is_program and crate == self.crate else "lib", "--jobs", str(jobs)]
         log = tempfile.TemporaryFile("w+", errors="replace")
         how = {"cwd": f"{TOP}/crates/{crate}", "stdin": subprocess.DEVNULL, "start_new_session": True}
         self.running[crate] = subprocess.Popen(words, stdout=log, stderr=subprocess.STDOUT, **how), log
@@ -125,29 +128,30 @@ class Build:
 
 
 def main(crate):
-    named = libraries()
+    named, static = crates_listed()
     crates = in_order(named, crate, [])
-    program = f"{TOP}/crates/{crate}/out/{crate}"
-    stamp = f"{TOP}/crates/{crate}/out/built-from"
+    out = f"{TOP}/crates/{crate}/out"
+    made = f"{out}/lib{crate}.a" if crate in static else f"{out}/{crate}"
+    stamp = f"{out}/built-from"
     wanted = checksum(named, crates)
-    if os.path.isfile(program) and os.path.isfile(stamp):
+    if os.path.isfile(made) and os.path.isfile(stamp):
         with open(stamp, encoding="utf-8") as file:
             if file.read() == wanted:
-                os.utime(program)
+                os.utime(made)
                 return 0
-    if os.path.isfile(program):
-        os.remove(program)
-    build = Build(named, crates)
+    if os.path.isfile(made):
+        os.remove(made)
+    build = Build(named, crates, crate not in static)
 
     # The build of a program also runs it, here on no input, so its status says nothing of the build.
     def is_built(name, status):
-        return os.path.isfile(program) if name == crate else status == 0
+        return os.path.isfile(made) if name == crate else status == 0
 
     try:
         if not build.run(is_built):
             return 1
     except FileNotFoundError:
-        print("rt is not on the path: it proves and builds the program", flush=True)
+        print("rt is not on the path: it proves and builds the crates", flush=True)
         return 1
     finally:
         build.end()

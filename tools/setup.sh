@@ -1,10 +1,11 @@
 #!/bin/sh
 # Installs what the tools round the analyser need and isn't there: Node, the parsers (node-acorn has acorn-jsx too), GNU
-# parallel and a browser for tests. Debian's packages by apt-get alone, as root or with sudo. It can be run again at any time.
+# parallel, rsync for runs on other machines, a C compiler, Python, and a browser for tests. Debian's packages by apt-get
+# alone, as root or with sudo. It can be run again at any time.
 # usage: tools/setup.sh [--without-browser]
 set -eu
 
-packages="node-acorn node-typescript node-eslint-scope parallel"
+packages="node-acorn node-typescript node-eslint-scope parallel rsync"
 [ "${1:-}" = --without-browser ] || packages="$packages chromium"
 
 # A Node from elsewhere serves as well as Debian's.

@@ -53,12 +53,12 @@ function analyseFile(file, settings) {
     conversion: clock.conversion,
     analysis: performance.now() - converted,
   };
-  return { file, tree, bytes: answer.bytes, diagnosed: answer.diagnosed, times };
+  return { file, tree, words: settings.words, bytes: answer.bytes, diagnosed: answer.diagnosed, times };
 }
 
 // The same with the report read, and the places of its nodes.
 function readAnalysis(analysis) {
-  const { file, tree } = analysis;
+  const { file, tree, words } = analysis;
   const report = parseReport(analysis.bytes.toString('utf8'));
   const { source, goal, lang, comments } = tree.value;
   return {
@@ -66,6 +66,7 @@ function readAnalysis(analysis) {
     goal,
     lang,
     comments,
+    words,
     report,
     positions: new Positions(source),
     kindOf: (node) => tree.row(node).kind,

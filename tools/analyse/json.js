@@ -44,11 +44,11 @@ function classObject(analysis, entry) {
 
 // What only a word of the report brings is there only with that word.
 function askedFor(analysis) {
-  const { report } = analysis;
+  const { report, words } = analysis;
   return {
-    ...(report.nodes.length > 0 && { nodes: report.nodes }),
-    ...(report.classes.length > 0 && { classes: report.classes.map((entry) => classObject(analysis, entry)) }),
-    ...(report.stats !== null && { stats: report.stats }),
+    ...(words.includes('--nodes') && { nodes: report.nodes }),
+    ...(words.includes('--classes') && { classes: report.classes.map((entry) => classObject(analysis, entry)) }),
+    ...(words.includes('--stats') && { stats: report.stats }),
   };
 }
 

@@ -21,6 +21,7 @@ function emptyReport() {
     classes: [],
     unusedLabels: [],
     stats: null,
+    made: null,
     diagnostics: [],
   };
 }
@@ -159,6 +160,16 @@ function readStats(cursor, report) {
   report.stats = { nodes, scopes, symbols, references: cursor.labelled(' references ') };
 }
 
+// The summary of a script that the program made itself, which has the counts of its report in place of the lines.
+function readMade(cursor, report) {
+  cursor.expect('nodes ');
+  const nodes = cursor.number();
+  const scopes = cursor.labelled(' scopes ');
+  const symbols = cursor.labelled(' symbols ');
+  const references = cursor.labelled(' references ');
+  report.made = { nodes, scopes, symbols, references, free: cursor.labelled(' free ') };
+}
+
 function readDiagnostic(cursor, report) {
   const code = cursor.word();
   cursor.expect(' ');
@@ -192,6 +203,7 @@ const READERS = new Map([
   ['use', readPrivateUse],
   ['label', readUnusedLabel],
   ['stats', readStats],
+  ['made', readMade],
   ['diag', readDiagnostic],
 ]);
 

@@ -34,7 +34,9 @@ assert.deepStrictEqual(report.references.map((entry) => entry.symbol), [0, null]
 assert.deepStrictEqual(report.classes[0].uses.map((use) => use.elements), [[0], []]);
 assert.deepStrictEqual(report.classes[0].elements[0], { id: 0, name: 'x', span: { start: 5, end: 6 }, isPrivate: true, isStatic: true, kind: ['Method', 'Getter'] });
 assert.deepStrictEqual(report.diagnostics[1], { code: 'TS(1228)', message: 'said', labels: [{ span: { start: 1, end: 2 }, text: null }, { span: { start: 3, end: 4 }, text: 'here' }], help: 'do', note: 'see' });
+assert.deepStrictEqual(report.unusedLabels, [{ node: 0 }]);
 assert.deepStrictEqual(report.stats, { nodes: 1, scopes: 1, symbols: 1, references: 2 });
+assert.deepStrictEqual(parseReport('made nodes 5 scopes 4 symbols 3 references 2 free 1\n').made, { nodes: 5, scopes: 4, symbols: 3, references: 2, free: 1 });
 console.log('ok: lines of each kind are read');
 
 const UNKNOWN = [
@@ -47,6 +49,7 @@ const UNKNOWN = [
   'bind 0 "a" 0\n',
   'free "a\n',
   'label 1 2\n',
+  'made nodes 1 scopes 1 symbols 1 references 1\n',
   '\n',
 ];
 for (const text of UNKNOWN) {
