@@ -17,12 +17,20 @@ fn words_of(alloc: Global, words: &[&str]) -> Result<Vec<String>, AllocError> {
 
 fn are_symbols(found: &SymbolIdList, numbers: &[u32]) -> bool {
     let ids = found.as_slice();
-    ids.len() == numbers.len() && ids.iter().zip(numbers).all(|(id, number)| id.index() == *number as usize)
+    ids.len() == numbers.len()
+        && ids
+            .iter()
+            .zip(numbers)
+            .all(|(id, number)| id.index() == *number as usize)
 }
 
 fn are_references(found: &ReferenceIdList, numbers: &[u32]) -> bool {
     let ids = found.as_slice();
-    ids.len() == numbers.len() && ids.iter().zip(numbers).all(|(id, number)| id.index() == *number as usize)
+    ids.len() == numbers.len()
+        && ids
+            .iter()
+            .zip(numbers)
+            .all(|(id, number)| id.index() == *number as usize)
 }
 
 fn check(rt: &impl Abort, alloc: Global, case: &Case) -> Result<(), Fail> {
@@ -31,7 +39,10 @@ fn check(rt: &impl Abort, alloc: Global, case: &Case) -> Result<(), Fail> {
     let found = find_names(alloc, &program, &known)?;
     let name = case.name;
     assert!(rt; are_symbols(&found.unused, case.unused), "unused: {name}");
-    assert!(rt; are_references(&found.undeclared, case.undeclared), "undeclared: {name}");
+    assert!(rt;
+        are_references(&found.undeclared, case.undeclared),
+        "undeclared: {name}"
+    );
     Ok(())
 }
 
