@@ -13,7 +13,10 @@ EVERY = 0.5
 TICKS = os.sysconf("SC_CLK_TCK")
 DEAREST = 12
 
-# What a process works for: a crate, and its proof, its tests or its edits, and of an edit also which.
+# What is done for a crate. The seed is its proof anew, with which the checks of its edits begin.
+PARTS = "proof", "tests", "seed", "edits"
+
+# What a process works for: a crate and a part, and of an edit also which.
 Work = collections.namedtuple("Work", "crate part edit")
 
 # A process as it was seen: its parent, when it started, and the seconds of it and of its children that ended.
@@ -67,7 +70,9 @@ def work_of_check(number, words):
     names = names_of_edits(crate)
     if over and over[1].isdigit() and int(over[1]) < len(names):
         return Work(crate, "edits", names[int(over[1])])
-    if over or is_in_scratch(number):
+    if over:
+        return Work(crate, "seed", "")
+    if is_in_scratch(number):
         return Work(crate, "edits", names[0] if len(names) == 1 else "")
     return Work(crate, "tests" if "--test" in words else "proof", "")
 
@@ -128,21 +133,28 @@ def taken(found, below, number):
     return seconds
 
 
+def print_row(name, seconds, edits=""):
+    """A line: the seconds of each part, how many edits there are, and the seconds of all."""
+    columns = "".join(f"{seconds[part]:8.0f}" for part in PARTS)
+    print(f"{name:24}{columns}{edits:>6}{sum(seconds.values()):8.0f}")
+
+
 def print_table(costs):
-    """A line for each crate: its proof, its tests, its edits and how many they are, and all of them."""
-    parts = costs.by(lambda work: (work.crate, work.part))
-    crates = costs.by(lambda work: work.crate)
-    print(f"{'crate':24}{'proof':>8}{'tests':>8}{'edits':>8}{'':>6}{'all':>8}")
-    for crate, seconds in crates.most_common():
-        proof, tests, edits = (parts[crate, part] for part in ("proof", "tests", "edits"))
-        number = f"({len(names_of_edits(crate))})" if edits else ""
-        print(f"{crate:24}{proof:8.0f}{tests:8.0f}{edits:8.0f}{number:>6}{seconds:8.0f}")
-    proof, tests, edits = (sum(parts[crate, part] for crate in crates) for part in ("proof", "tests", "edits"))
-    print(f"{'all':24}{proof:8.0f}{tests:8.0f}{edits:8.0f}{'':>6}{sum(crates.values()):8.0f}")
+    """A line for each crate, the dearest first, and one for all of them."""
+    whole = collections.Counter()
+    crates = collections.defaultdict(collections.Counter)
+    for (crate, part), seconds in costs.by(lambda work: (work.crate, work.part)).items():
+        crates[crate][part] += seconds
+        whole[part] += seconds
+    print(f"{'crate':24}" + "".join(f"{part:>8}" for part in PARTS) + f"{'':>6}{'all':>8}")
+    for crate, seconds in sorted(crates.items(), key=lambda it: -sum(it[1].values())):
+        edits = len(names_of_edits(crate))
+        print_row(crate, seconds, f"({edits})" if edits else "")
+    print_row("all", whole)
 
 
 def print_edits(costs):
-    """A line for each of the dearest edits. What is checked before the first of a crate is none of theirs."""
+    """A line for each of the dearest edits."""
     edits = costs.by(lambda work: (work.crate, work.edit) if work.edit else None)
     dearest = [it for it in edits.most_common() if it[0]][:DEAREST]
     if dearest:

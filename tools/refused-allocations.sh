@@ -46,7 +46,7 @@ fn compare(rt: &HostRuntime, scoping: &Scoping, wanted: &str) -> io::Result<()> 
 fn take_twice(
     rt: &HostRuntime,
     scoping: &mut Scoping,
-    edit: Edit,
+    edit: &Edit,
     before: &str,
 ) -> io::Result<()> {
     if take(scoping, edit).is_ok() {
@@ -71,7 +71,7 @@ fn main(rt: HostRuntime) -> io::Result<()> {
     let mut scoping = Scoping::new(rt.alloc());
     let mut before = "p[]";
     for (edit, after) in LONG_ROW {
-        take_twice(&rt, &mut scoping, *edit, before)?;
+        take_twice(&rt, &mut scoping, edit, before)?;
         before = *after;
     }
     let copy = clone_twice(&rt, &scoping)?;

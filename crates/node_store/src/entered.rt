@@ -42,6 +42,13 @@ impl<'a> EnteredNodes<'a> {
         }
     }
 
+    /// Makes room for so many more nodes. What is entered stays, whatever the answer.
+    pub fn reserve(&mut self, n: usize) -> Result<(), AllocError>
+        ensures { self.new ≡ self.old }
+    {
+        self.nodes.reserve(n)
+    }
+
     /// The id of the next node. That the ids are used up is told as want of memory; a program has no more nodes than
     /// there are ids.
     fn next_id(&self) -> Result<NodeId, AllocError>

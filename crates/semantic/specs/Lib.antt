@@ -1,6 +1,8 @@
 pub mod Tally
+pub mod Expected
 pub mod FreeReference
 pub mod Lending
+pub use Rattle.count_laws.specs.Counted
 pub use Rattle.semantic_walk.specs.Begun
 pub use Rattle.semantic_walk.specs.Listed
 pub use Rattle.walk_notes.specs.NoteLists

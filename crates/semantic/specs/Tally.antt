@@ -1,24 +1,10 @@
--- How many nodes of a tree open scopes, declare symbols or are references.
-use Rattle.std.specs.Prelude.{◌≡◌, ℕ, ◌+◌, ◌*◌, ◌/◌, ◌≤◌, ◌^◌, ◌-◌, Bool, ◌||◌, cond, min}
-use Rattle.semantic_kinds.specs.Kinds.{same_kind}
-use Rattle.semantic_kinds.specs.declared.kind.AstType.{AstType}
-use Rattle.semantic_kinds.specs.declared.kind.AstType.TheVariants as kind
-use Rattle.semantic_tree.specs.Forest.{Forest, nothing, tree, count}
+-- How many nodes of a tree open scopes, may declare symbols or are references.
+use Rattle.std.specs.Prelude.{◌≡◌, ℕ, ◌+◌, ◌*◌, ◌/◌, ◌≤◌, ◌^◌, ◌-◌, length, min}
+use Rattle.semantic_syntax.specs.Tables.{Tables}
+use Rattle.semantic_tree.specs.Forest.{Forest, count}
 use Rattle.semantic_model.specs.Inside.{scopes_in}
+use Rattle.count_laws.specs.Counted.{how_many, is_symbol, is_reference}
 use Rattle.semantic.specs.declared.stats.Stats.{Stats}
-
--- how many nodes of the forest are of a kind that passes the test
-abbrev pub how_many : (AstType → Bool) → Forest → ℕ
-how_many test nothing = 0
-how_many test (tree role kind span text marks below id after) =
-    cond (test kind) 1 0 + how_many test below + how_many test after
-
--- a binding identifier or an enum member: each declares at most one symbol
-abbrev pub is_symbol : AstType → Bool
-is_symbol k = same_kind k kind.BindingIdentifier || same_kind k kind.TSEnumMember
-
-abbrev pub is_reference : AstType → Bool
-is_reference k = same_kind k kind.IdentifierReference
 
 -- the counts of a forest
 pub record IsCount (stats : Stats) (f : Forest) : Type 0 where
@@ -26,6 +12,12 @@ pub record IsCount (stats : Stats) (f : Forest) : Type 0 where
   pub scopes : stats.scopes ≡ scopes_in f
   pub symbols : stats.symbols ≡ how_many is_symbol f
   pub references : stats.references ≡ how_many is_reference f
+
+-- the tables have so many scopes and references, and no more symbols
+pub record IsSizeOf (stats : Stats) (t : Tables) : Type 0 where
+  pub scopes : stats.scopes ≡ length t.scopes
+  pub symbols : length t.symbols ≤ stats.symbols
+  pub references : stats.references ≡ length t.references
 
 -- the new counts are the old ones and those of a forest
 pub record AddsCount (old new : Stats) (f : Forest) : Type 0 where

@@ -1,15 +1,18 @@
 //! The builder, which analyses a program.
 
-ghost use Rattle.std.specs.Prelude.{◌≡◌, false, [], IfOk};
+ghost use Rattle.std.specs.Prelude.{◌≡◌, false, [], None, Some, IfOk};
+ghost use Rattle.semantic_tree.specs.Children.{node_count};
 ghost use Rattle.semantic_walk.specs.Begun.{BelongsToNodes, IsAnalysis};
 ghost use Rattle.semantic_walk.specs.Listed.{kept_nodes};
 ghost use Rattle.semantic_model.specs.Label.{unused_labels};
 ghost use Rattle.walk_notes.specs.NoteLists.{classes_noted};
+ghost use Rattle.semantic.specs.Expected.{expected, room_within};
 
 use crate::semantic::{Semantic, SemanticBuilderReturn};
+use crate::stats::Stats;
 use semantic_syntax::Steps;
 use semantic_tree::Program;
-use semantic_walk::analyse;
+use semantic_walk::{Room, Settings, analyse};
 use std::alloc::{AllocError, Global};
 
 /// The settings of an analysis. Early errors are not there yet.
@@ -19,16 +22,34 @@ pub struct SemanticBuilder {
     pub(crate) build_nodes: bool,
     /// Whether the classes of the program are noted.
     pub(crate) class_table: bool,
+    /// How large the tables will be, as it was told.
+    pub(crate) stats: Option<Stats>,
+    /// How many thousandths of what is counted are to be added to it, where nothing was told.
+    pub(crate) excess_capacity: u32,
+}
+
+/// Room for what is expected, each number cut to the limit.
+fn room_within(limit: u32, stats: Stats) -> Room
+    ensures { result ≡ room_within limit stats }
+{
+    Room {
+        nodes: stats.nodes.min(limit),
+        scopes: stats.scopes.min(limit),
+        symbols: stats.symbols.min(limit),
+        references: stats.references.min(limit),
+    }
 }
 
 impl SemanticBuilder {
     /// All settings off.
     pub fn new() -> SemanticBuilder
-        ensures { result ≡ record { build_nodes = false; class_table = false } }
+        ensures { result ≡ record { build_nodes = false; class_table = false; stats = None; excess_capacity = 0 } }
     {
         SemanticBuilder {
             build_nodes: false,
             class_table: false,
+            stats: None,
+            excess_capacity: 0,
         }
     }
 
@@ -49,6 +70,51 @@ impl SemanticBuilder {
         SemanticBuilder {
             class_table: yes,
             ..self
+        }
+    }
+
+    /// Tells how large the tables will be. Room for so much is made beforehand, but for no more of each than the
+    /// program has nodes; no answer changes. Without it the program is counted.
+    pub fn with_stats(self, stats: Stats) -> SemanticBuilder
+        ensures { result ≡ record self { stats = Some stats } }
+    {
+        SemanticBuilder {
+            stats: Some(stats),
+            ..self
+        }
+    }
+
+    /// Makes room for so many thousandths more than the program counts, for those who add to the tables afterwards. It
+    /// has no effect where `with_stats` tells how large the tables will be.
+    pub fn with_excess_capacity(self, thousandths: u32) -> SemanticBuilder
+        ensures { result ≡ record self { excess_capacity = thousandths } }
+    {
+        SemanticBuilder {
+            excess_capacity: thousandths,
+            ..self
+        }
+    }
+
+    /// How large the tables are expected to be.
+    fn expected(&self, program: &Program) -> Stats
+        ensures { result ≡ expected self.now program.now }
+    {
+        match self.stats {
+            Some(stats) => stats,
+            None => Stats::count(program).increase_by(self.excess_capacity),
+        }
+    }
+
+    /// What the walk over the program keeps and notes, and for how much it makes room.
+    fn settings(&self, program: &Program) -> Settings
+        ensures build_nodes { result.build_nodes ≡ self.now.build_nodes }
+        ensures class_table { result.class_table ≡ self.now.class_table }
+        ensures room { result.room ≡ room_within (node_count program.now.root) (expected self.now program.now) }
+    {
+        Settings {
+            build_nodes: self.build_nodes,
+            class_table: self.class_table,
+            room: room_within(program.node_count(), self.expected(program)),
         }
     }
 
@@ -88,7 +154,7 @@ impl SemanticBuilder {
         ensures comments { IfOk result (λ ret. ret.semantic.comments.now ≡ program.now.comments) }
         ensures whitespace { IfOk result (λ ret. ret.semantic.irregular_whitespaces.items ≡ []) }
     {
-        let made = analyse(alloc, program, self.build_nodes, self.class_table, steps)?;
+        let made = analyse(alloc, program, self.settings(program), steps)?;
         Ok(SemanticBuilderReturn {
             semantic: Semantic {
                 program,

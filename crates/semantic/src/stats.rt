@@ -4,10 +4,12 @@ ghost use Rattle.std.specs.Prelude.{◌≡◌, ◌+◌, ◌<◌, ◌^◌, cond};
 ghost use Rattle.semantic_kinds.specs.declared.role.Role.TheVariants as role;
 ghost use Rattle.semantic_tree.specs.Children.{single, node_count};
 ghost use Rattle.semantic_model.specs.Inside.{opens};
-ghost use Rattle.semantic.specs.Tally.{is_symbol, is_reference, increased, IsCount, AddsCount, IsWithin, IsAccurate};
+ghost use Rattle.semantic_model.specs.TablesOf.{tables_of};
+ghost use Rattle.count_laws.specs.Counted.{is_symbol, is_reference};
+ghost use Rattle.semantic.specs.Tally.{increased, IsCount, IsSizeOf, AddsCount, IsWithin, IsAccurate};
 
 use node_rules::inside::opens;
-use semantic_tree::{AstType, Node, Program};
+use semantic_tree::{AstKind, AstType, Node, Program};
 
 /// How many nodes, scopes, symbols and references there are.
 #[derive(Clone, Copy, PartialEq, Eq, Debug, Default)]
@@ -47,13 +49,23 @@ impl Stats {
     }
 
     /// The nodes of a program, the scopes that they open, the identifiers that may declare a symbol, enum members
-    /// among them, and the identifier references. The program has no more symbols than this.
+    /// among them, and the identifier references. The program's tables have so many scopes and references, and no more
+    /// symbols.
     pub fn count(p: &Program) -> Stats
-        ensures { IsCount result (single role.Root p.now.root) }
+        ensures nodes { IsCount result (single role.Root p.now.root) }
+        ensures tables { IsSizeOf result (tables_of p.now) }
+    {
+        let _count = p.node_count();
+        Stats::of_root(p.root())
+    }
+
+    /// Counts a root and all that is below it.
+    fn of_root(root: AstKind<'_>) -> Stats
+        requires { node_count root.node.now < 2 ^ 32 }
+        ensures { IsCount result (single role.Root root.entry.node.now) }
     {
         let mut stats = Stats::default();
-        let _count = p.node_count();
-        stats.add_tree(p.root().node());
+        stats.add_tree(root.node());
         stats
     }
 

@@ -2,8 +2,10 @@
 #![tactic(auto)]
 
 #[cfg(test)]
-mod classes;
+mod answers;
 #[cfg(test)]
-mod labels;
+mod cases;
 #[cfg(test)]
-mod tests;
+mod sizes;
+#[cfg(test)]
+mod trees;

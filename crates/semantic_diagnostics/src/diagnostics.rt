@@ -49,6 +49,13 @@ impl Diagnostics {
         }
     }
 
+    /// The diagnostics, in order.
+    pub fn as_slice(&self) -> &[Diagnostic]
+        ensures { result.now ≡ self.now }
+    {
+        self.entries.as_slice()
+    }
+
     /// Adds a diagnostic as the last one. After want of memory the list is as before.
     pub fn push(&mut self, diagnostic: Diagnostic) -> Result<(), AllocError>
         ensures ok { OnOk result (self.new ≡ self.old ++ diagnostic ∷ []) }

@@ -6,6 +6,7 @@ ghost use Rattle.semantic_walk.specs.Listed.{kept_nodes, list_kept};
 ghost use Rattle.semantic_model.specs.Label.{unused_labels};
 ghost use Rattle.walk_notes.specs.NoteLists.{classes_noted};
 
+use crate::settings::{Room, Settings};
 use crate::walk::Walk;
 use class_table::ClassTable;
 use node_store::AstNodes;
@@ -27,11 +28,12 @@ pub struct Analysis<'a> {
     pub diagnostics: Diagnostics,
 }
 
-/// Walks over a program from its root, and settles what waits in the end. What the walk, which begins at the root, has
-/// made then is the analysis of the program. Gives a diagnostic for each conflict.
+/// Walks over a program from its root, in tables with this room, and settles what waits in the end. What the walk, which
+/// begins at the root, has made then is the analysis of the program. Gives a diagnostic for each conflict.
 fn run<'a, L>(
     walk: &mut Walk<'a>,
     program: &'a Program,
+    room: Room,
     steps: &mut Steps<L>,
 ) -> Result<Diagnostics, AllocError>
     ensures analysis { (keeps classes : Bool) → walk.old ≡ begun program.now walk.old.namesakes keeps classes → AreNamesOf program.now walk.old.namesakes → IfOk result (λ told. IsAnalysis program.now walk.new.made.tables told) }
@@ -40,28 +42,28 @@ fn run<'a, L>(
     ensures classes { (keeps classes : Bool) → walk.old ≡ begun program.now walk.old.namesakes keeps classes → AreNamesOf program.now walk.old.namesakes → OnOk result (walk.new.notes.classes.classes ≡ classes_noted classes program.now) }
     ensures labels { (keeps classes : Bool) → walk.old ≡ begun program.now walk.old.namesakes keeps classes → AreNamesOf program.now walk.old.namesakes → OnOk result (walk.new.notes.labels.unused ≡ unused_labels program.now.root) }
 {
+    walk.reserve(room)?;
     walk.visit(program.root(), Role::Root, steps)?;
     walk.end(steps)?;
     walk.diagnostics()
 }
 
-/// Analyses a program, keeps its nodes and notes its classes, or doesn't, and counts how often a scope is asked for a
-/// name by a look-up. The only error is want of memory.
+/// Analyses a program, keeps its nodes and notes its classes by the settings, and counts how often a scope is asked for
+/// a name by a look-up. The only error is want of memory.
 pub fn analyse<'a, L>(
     alloc: Global,
     program: &'a Program,
-    keeps: bool,
-    classes: bool,
+    settings: Settings,
     steps: &mut Steps<L>,
 ) -> Result<Analysis<'a>, AllocError>
     ensures analysis { IfOk result (λ made. IsAnalysis program.now made.scoping made.diagnostics) }
     ensures nodes { IfOk result (λ made. BelongsToNodes program.now made.tables) }
-    ensures node_list { IfOk result (λ made. made.nodes ≡ kept_nodes keeps program.now) }
-    ensures classes { IfOk result (λ made. made.classes ≡ classes_noted classes program.now) }
+    ensures node_list { IfOk result (λ made. made.nodes ≡ kept_nodes settings.build_nodes program.now) }
+    ensures classes { IfOk result (λ made. made.classes ≡ classes_noted settings.class_table program.now) }
     ensures labels { IfOk result (λ made. made.unused_labels.items ≡ unused_labels program.now.root) }
 {
-    let mut walk = Walk::new(alloc, program, keeps, classes)?;
-    match run(&mut walk, program, steps) {
+    let mut walk = Walk::new(alloc, program, settings.build_nodes, settings.class_table)?;
+    match run(&mut walk, program, settings.room, steps) {
         Ok(diagnostics) => Ok(walk.finish(diagnostics)),
         Err(error) => {
             walk.give_up();

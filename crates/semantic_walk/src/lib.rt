@@ -5,9 +5,11 @@ pub mod analysis;
 pub mod binder;
 mod block_target;
 pub mod path;
+pub mod settings;
 pub mod visit;
 pub mod walk;
 
 pub use analysis::{Analysis, analyse};
 pub use binder::Binder;
+pub use settings::{Room, Settings};
 pub use walk::Walk;

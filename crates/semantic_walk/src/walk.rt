@@ -37,6 +37,7 @@ use crate::analysis::Analysis;
 use crate::binder::Binder;
 use crate::block_target::stand_on;
 use crate::path::Path;
+use crate::settings::Room;
 use namesakes::namesakes::Namesakes;
 use node_rules::cursor;
 use node_rules::direct_eval::is_direct_eval;
@@ -171,6 +172,28 @@ impl<'a> Walk<'a> {
         ensures { result ≡ (scope_of self.now.made.tables self.now.current).flags }
     {
         self.declared.scoping().scope_flags(self.current_scope)
+    }
+
+    /// Makes room for nodes, if they are kept. What the walk has made stays, whatever the answer.
+    fn reserve_nodes(&mut self, count: u32) -> Result<(), AllocError>
+        ensures { self.new ≡ self.old }
+    {
+        match &mut self.nodes {
+            Some(nodes) => nodes.reserve(count as usize),
+            None => Ok(()),
+        }
+    }
+
+    /// Makes room for what the walk will make. What it has made stays, whatever the answer.
+    pub(crate) fn reserve(&mut self, room: Room) -> Result<(), AllocError>
+        ensures { self.new ≡ self.old }
+    {
+        self.reserve_nodes(room.nodes)?;
+        self.declared.reserve(
+            room.symbols as usize,
+            room.references as usize,
+            room.scopes as usize,
+        )
     }
 
     /// Keeps the node, if nodes are kept.

@@ -84,6 +84,18 @@ impl<'a> Declared<'a> {
         }
     }
 
+    /// Makes room for more symbols, references and scopes. What is made stays, whatever the answer.
+    pub fn reserve(
+        &mut self,
+        symbols: usize,
+        references: usize,
+        scopes: usize,
+    ) -> Result<(), AllocError>
+        ensures { self.new ≡ self.old }
+    {
+        self.scoping.reserve(symbols, references, scopes)
+    }
+
     /// The tables.
     pub fn scoping(&self) -> &Scoping
         ensures { result.now ≡ self.now.tables }

@@ -1,165 +1,236 @@
-//! Classes, their elements and uses of private names.
-use crate::trees::{leaf, with};
+//! What tables and builders of classes tell, in numbers: classes, their elements and uses of private names.
+ghost use Rattle.std.specs.Prelude.{◌≡◌};
+ghost use Rattle.class_table.specs.Building.{IsCurrent};
+ghost use Rattle.class_table.specs.Lists.{no_classes};
+
 use class_table::{ClassTable, ClassTableBuilder, Element, ElementIds, PrivateIdentifierReference};
 use semantic_syntax::{ClassId, ElementId, ElementKind, Ident, NodeId, Span};
-use semantic_tree::{AstKind, AstType, Node, Role, StaticPropertyName};
+use semantic_tree::{AstKind, AstType, StaticPropertyName};
 use std::alloc::{AllocError, Global};
-use std::process::Abort;
-use std::test::Fail;
 
-/// The property or accessor `#x`.
-fn field(alloc: Global, kind: AstType) -> Result<Node, AllocError> {
-    let key = leaf(alloc, AstType::PrivateIdentifier, (10, 12), "x")?;
-    with(leaf(alloc, kind, (10, 12), "")?, Role::Key, key)
+const METHOD: ElementKind = ElementKind::Method;
+
+const FIELD: ElementKind = ElementKind::Property;
+
+const ACCESSOR: ElementKind = ElementKind::Accessor;
+
+/// Kinds of three private elements of one name.
+const THREE_KINDS: &[[ElementKind; 3]] = &[
+    [METHOD, METHOD, METHOD],
+    [METHOD, ACCESSOR, METHOD],
+    [FIELD, METHOD, METHOD],
+    [ACCESSOR, FIELD, METHOD],
+];
+
+/// Adds private elements of the name to a class.
+fn add_elements<'a>(
+    table: &mut ClassTable<'a>,
+    class: ClassId,
+    name: StaticPropertyName<'a>,
+    kinds: &[ElementKind],
+) -> Result<(), AllocError> {
+    for kind in kinds {
+        if class.index() < table.len() && table.elements_of(class).len() < 9 {
+            let element = Element::new(name, Span::new(10, 12), false, true, *kind);
+            table.add_element(class, element)?;
+        }
+    }
+    Ok(())
 }
 
-/// The method `m`, with a text and a body without statements.
-fn method(alloc: Global, text: &str) -> Result<Node, AllocError> {
-    let key = leaf(alloc, AstType::IdentifierName, (14, 15), "m")?;
-    let body = leaf(alloc, AstType::FunctionBody, (20, 30), "")?;
-    let function = leaf(alloc, AstType::Function, (15, 30), "expression")?;
-    let method = leaf(alloc, AstType::MethodDefinition, (14, 30), text)?;
-    with(
-        with(method, Role::Key, key)?,
-        Role::Value,
-        with(function, Role::Body, body)?,
-    )
+/// What the name means in a class with such elements, in an empty table.
+fn meant_in<'a>(
+    alloc: Global,
+    table: &mut ClassTable<'a>,
+    name: StaticPropertyName<'a>,
+    kinds: &[ElementKind],
+) -> Result<ElementIds, AllocError>
+    requires { table.old ≡ no_classes }
+{
+    let class = table.declare_class(None, NodeId::new(1))?;
+    add_elements(table, class, name, kinds)?;
+    if class.index() < table.len() {
+        table.get_element_ids(alloc, class, Ident::new(name.as_str()), true)
+    } else {
+        Ok(ElementIds::new(alloc))
+    }
 }
 
-/// The body of `class C { #x; m() {} }`.
-fn class_body(alloc: Global) -> Result<Node, AllocError> {
-    let body = leaf(alloc, AstType::ClassBody, (10, 30), "")?;
-    let body = with(body, Role::Body, field(alloc, AstType::PropertyDefinition)?)?;
-    with(body, Role::Body, method(alloc, "method")?)
-}
-
-/// What the name means in a class with three private elements of that name.
 fn meant(
     alloc: Global,
     name: StaticPropertyName<'_>,
-    kinds: [ElementKind; 3],
+    kinds: &[ElementKind],
 ) -> Result<ElementIds, AllocError> {
     let mut table = ClassTable::new(alloc);
-    let class = table.declare_class(None, NodeId::new(1))?;
-    let span = Span::new(10, 12);
-    table.add_element(class, Element::new(name, span, false, true, kinds[0]))?;
-    table.add_element(class, Element::new(name, span, false, true, kinds[1]))?;
-    table.add_element(class, Element::new(name, span, false, true, kinds[2]))?;
-    table.get_element_ids(alloc, class, Ident::new(name.as_str()), true)
+    let meant = meant_in(alloc, &mut table, name, kinds);
+    drop(table);
+    meant
 }
 
-#[test]
-fn a_name_means_two_halves_or_one_element(rt: HostRuntime) -> Result<(), Fail> {
-    let alloc = rt.alloc();
-    let key = leaf(alloc, AstType::PrivateIdentifier, (10, 12), "x")?;
-    let name = AstKind::new(&key).name().ok_or("no name")?;
-    let method = ElementKind::Method;
-    let field = ElementKind::Property;
-    let accessor = ElementKind::Accessor;
-    let one = [ElementId::new(0)];
-    let two = [ElementId::new(0), ElementId::new(1)];
-    for (kinds, ids) in [
-        ([method, method, method], two.as_slice()),
-        ([method, accessor, method], two.as_slice()),
-        ([field, method, method], one.as_slice()),
-        ([accessor, field, method], one.as_slice()),
-    ] {
-        assert_eq!(rt; meant(alloc, name, kinds)?.as_slice(), ids);
+fn push_ids(told: &mut Vec<usize>, ids: &[ElementId]) -> Result<(), AllocError> {
+    told.push(ids.len())?;
+    for id in ids {
+        told.push(id.index())?;
     }
     Ok(())
 }
 
-/// A class with an element of the name and a use of another, and a class inside it.
-fn two_classes(rt: &impl Abort, alloc: Global, name: StaticPropertyName<'_>) -> Result<(), Fail> {
-    let mut table = ClassTable::new(alloc);
+/// How many elements the name means among three, and which, for each of the three kinds.
+pub fn elements_meant(
+    alloc: Global,
+    name: StaticPropertyName<'_>,
+) -> Result<Vec<usize>, AllocError> {
+    let mut told = Vec::new(alloc);
+    for kinds in THREE_KINDS {
+        let ids = meant(alloc, name, kinds.as_slice())?;
+        push_ids(&mut told, ids.as_slice())?;
+    }
+    Ok(told)
+}
+
+/// Adds a class with an element of the name and a use of another to an empty table, and a class inside it. Tells how many
+/// elements the other name means.
+fn fill<'a>(
+    alloc: Global,
+    table: &mut ClassTable<'a>,
+    name: StaticPropertyName<'a>,
+) -> Result<usize, AllocError>
+    requires { table.old ≡ no_classes }
+{
     let class = table.declare_class(None, NodeId::new(1))?;
-    assert_eq!(rt; class.index(), 0);
-    let element = Element::new(name, Span::new(10, 12), false, true, ElementKind::Property);
+    let element = Element::new(name, Span::new(10, 12), false, true, FIELD);
     table.add_element(class, element)?;
-    let used = Ident::new("y");
-    let meant = table.get_element_ids(alloc, class, used, true)?;
-    assert_eq!(rt; meant.len(), 0);
-    let reference = PrivateIdentifierReference::new(
-        NodeId::new(13),
-        used,
-        Span::new(20, 22),
-        meant,
-    );
+    let used = Ident::new("z");
+    let ids = table.get_element_ids(alloc, class, used, true)?;
+    let count = ids.len();
+    let span = Span::new(20, 22);
+    let reference = PrivateIdentifierReference::new(NodeId::new(13), used, span, ids);
     table.add_private_identifier_reference(class, reference)?;
-    assert_eq!(rt; table.elements_of(class).len(), 1);
-    assert_eq!(rt; table.iter_private_identifiers(class).len(), 1);
-    assert!(rt; table.has_private_definition(class, Ident::new("x")));
-    let inner = table.declare_class(Some(class), NodeId::new(20))?;
-    assert_eq!(rt; table.ancestors(inner).count(), 2);
-    assert_eq!(rt; table.iter_enumerated().len(), 2);
-    Ok(())
+    table.declare_class(Some(class), NodeId::new(20))?;
+    Ok(count)
 }
 
-#[test]
-fn a_table_by_hand(rt: HostRuntime) -> Result<(), Fail> {
-    let alloc = rt.alloc();
-    let key = leaf(alloc, AstType::PrivateIdentifier, (10, 12), "x")?;
-    let name = AstKind::new(&key).name().ok_or("no name")?;
-    two_classes(&rt, alloc, name)
+/// Of a class and one inside it: how many classes are listed, how many the inner one stands in with itself, how many
+/// elements and uses the outer one has, and whether it has a private element of the name.
+fn told_by_table(table: &ClassTable<'_>, name: Ident<'_>) -> [usize; 5] {
+    let outer = ClassId::new(0);
+    if table.len() != 2 {
+        return [table.len(), 0, 0, 0, 0];
+    }
+    [
+        table.iter_enumerated().len(),
+        table.ancestors(ClassId::new(1)).count(),
+        table.elements_of(outer).len(),
+        table.iter_private_identifiers(outer).len(),
+        usize::from(table.has_private_definition(outer, name)),
+    ]
 }
 
-#[test]
-fn a_class_and_its_uses_are_built(rt: HostRuntime) -> Result<(), Fail> {
-    let alloc = rt.alloc();
-    let body = class_body(alloc)?;
-    let used = leaf(alloc, AstType::PrivateIdentifier, (20, 22), "y")?;
-    let tested = leaf(alloc, AstType::PrivateInExpression, (20, 30), "")?;
-    let (used, tested) = (AstKind::new(&used), AstKind::new(&tested));
-    let mut builder = ClassTableBuilder::new(alloc);
-    builder.add_private_identifier_reference(used, NodeId::new(13), tested)?;
+fn fill_and_tell<'a>(
+    alloc: Global,
+    table: &mut ClassTable<'a>,
+    name: StaticPropertyName<'a>,
+) -> Result<[usize; 6], AllocError>
+    requires { table.old ≡ no_classes }
+{
+    let meant = fill(alloc, table, name)?;
+    let [classes, outward, elements, uses, has] = told_by_table(table, Ident::new(name.as_str()));
+    Ok([classes, outward, elements, uses, has, meant])
+}
+
+pub fn table_by_hand(
+    alloc: Global,
+    name: StaticPropertyName<'_>,
+) -> Result<Vec<usize>, AllocError> {
+    let mut table = ClassTable::new(alloc);
+    let told = fill_and_tell(alloc, &mut table, name);
+    drop(table);
+    Vec::from_slice(alloc, told?.as_slice())
+}
+
+/// Meets the name before classes are noted, outside of classes, and in the class of the body, which it leaves then.
+fn note<'a>(
+    builder: &mut ClassTableBuilder<'a>,
+    body: AstKind<'a>,
+    used: AstKind<'a>,
+    tested: AstKind<'a>,
+) -> Result<(), AllocError>
+    requires { IsCurrent builder.old }
+{
+    let node = NodeId::new(13);
+    builder.add_private_identifier_reference(used, node, tested)?;
     builder.enabled = true;
-    builder.add_private_identifier_reference(used, NodeId::new(13), tested)?;
-    assert!(rt; builder.has_room(AstKind::new(&body)));
-    builder.declare_class_body(AstKind::new(&body), NodeId::new(1))?;
-    builder.add_private_identifier_reference(used, NodeId::new(13), tested)?;
+    builder.add_private_identifier_reference(used, node, tested)?;
+    if !builder.has_room(body) {
+        return Ok(());
+    }
+    builder.declare_class_body(body, NodeId::new(1))?;
+    builder.add_private_identifier_reference(used, node, tested)?;
     builder.pop_class();
-    assert!(rt; builder.current_class_id.is_none());
-    let table = builder.build();
-    assert_eq!(rt; table.len(), 1);
-    let class = ClassId::new(0);
-    assert_eq!(rt; table.get_node_id(class).index(), 1);
-    assert_eq!(rt; table.elements_of(class).len(), 2);
-    assert_eq!(rt; table.iter_private_identifiers(class).len(), 1);
     Ok(())
 }
 
-/// How many elements a member makes in a class that has none yet.
-fn made(alloc: Global, member: AstKind<'_>) -> Result<usize, AllocError> {
+/// How many classes there are, and of one its node and how many elements and uses it has.
+fn told_of_one(table: &ClassTable<'_>) -> [usize; 4] {
+    let class = ClassId::new(0);
+    if table.len() != 1 {
+        return [table.len(), 0, 0, 0];
+    }
+    [
+        table.len(),
+        table.get_node_id(class).index(),
+        table.elements_of(class).len(),
+        table.iter_private_identifiers(class).len(),
+    ]
+}
+
+/// What a builder notes of the class of a body and of a private name under a node, and whether it is in no class then.
+pub fn class_built(
+    alloc: Global,
+    body: AstKind<'_>,
+    used: AstKind<'_>,
+    tested: AstKind<'_>,
+) -> Result<Vec<usize>, AllocError> {
     let mut builder = ClassTableBuilder::new(alloc);
+    let noted = note(&mut builder, body, used, tested);
+    let is_outside = builder.current_class_id.is_none();
+    let table = builder.build();
+    let [classes, node, elements, uses] = told_of_one(&table);
+    drop(table);
+    noted?;
+    let told = [classes, node, elements, uses, usize::from(is_outside)];
+    Vec::from_slice(alloc, told.as_slice())
+}
+
+/// Declares the member in the first class of a builder.
+fn declare<'a>(builder: &mut ClassTableBuilder<'a>, member: AstKind<'a>) -> Result<(), AllocError>
+    requires { builder.old.classes ≡ no_classes }
+{
     let class = builder.classes.declare_class(None, NodeId::new(1))?;
     builder.current_class_id = Some(class);
     match member.ty() {
-        AstType::AccessorProperty => builder.declare_class_accessor(member)?,
-        AstType::PropertyDefinition => builder.declare_class_property(member)?,
-        AstType::MethodDefinition => builder.declare_class_method(member)?,
-        _ => {}
-    }
-    if class.index() < builder.classes.len() {
-        Ok(builder.classes.elements_of(class).len())
-    } else {
-        Ok(0)
+        AstType::AccessorProperty => builder.declare_class_accessor(member),
+        AstType::PropertyDefinition => builder.declare_class_property(member),
+        AstType::MethodDefinition => builder.declare_class_method(member),
+        _ => Ok(()),
     }
 }
 
-#[test]
-fn members_make_elements(rt: HostRuntime) -> Result<(), Fail> {
-    let alloc = rt.alloc();
-    let property = field(alloc, AstType::PropertyDefinition)?;
-    let accessor = field(alloc, AstType::AccessorProperty)?;
-    let plain = method(alloc, "method")?;
-    let constructor = method(alloc, "constructor")?;
-    for (member, elements) in [
-        (&property, 1),
-        (&accessor, 1),
-        (&plain, 1),
-        (&constructor, 0),
-    ] {
-        assert_eq!(rt; made(alloc, AstKind::new(member))?, elements);
+fn made_by(alloc: Global, member: AstKind<'_>) -> Result<usize, AllocError> {
+    let mut builder = ClassTableBuilder::new(alloc);
+    let declared = declare(&mut builder, member);
+    let table = builder.build();
+    let [_, _, elements, _] = told_of_one(&table);
+    drop(table);
+    declared?;
+    Ok(elements)
+}
+
+/// How many elements each member of a body makes in a class that has none yet.
+pub fn elements_made(alloc: Global, body: AstKind<'_>) -> Result<Vec<usize>, AllocError> {
+    let mut told = Vec::new(alloc);
+    for (_, member) in body.node().children.as_slice() {
+        told.push(made_by(alloc, AstKind::new(member))?)?;
     }
-    Ok(())
+    Ok(told)
 }

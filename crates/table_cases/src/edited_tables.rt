@@ -1,7 +1,7 @@
 //! Rows of edits with the tables that they leave.
 use crate::edit_rows::{DECLARED, FUNCTION, IDLE, RENAMED, UPROOTED};
 use crate::edits::{Step, take};
-use crate::long_row::{LONG_ROW, LONG_ROW_END};
+use crate::long_row::LONG_ROW;
 use crate::table_text::text_of;
 use scoping::Scoping;
 use std::alloc::Global;
@@ -18,11 +18,40 @@ fn shows(rt: &impl Abort, alloc: Global, scoping: &Scoping, wanted: &str) -> Res
 /// Makes the edits of the row, each of which leaves its tables.
 fn make(rt: &impl Abort, alloc: Global, scoping: &mut Scoping, row: &[Step]) -> Result<(), Fail> {
     for (edit, wanted) in row {
-        let taken = take(scoping, *edit)?;
+        let taken = take(scoping, edit)?;
         assert!(rt; taken);
         shows(rt, alloc, scoping, wanted)?;
     }
     Ok(())
+}
+
+/// A clone has the same tables.
+fn clone_shows(rt: &impl Abort, alloc: Global, scoping: &Scoping) -> Result<(), Fail> {
+    let wanted = text_of(alloc, scoping)?;
+    let copy = scoping.clone_in_with_semantic_ids_with_another_arena(alloc)?;
+    let shown = shows(rt, alloc, &copy, wanted.as_str());
+    drop(copy);
+    shown
+}
+
+/// Makes the edits of the rows, each of which leaves its tables, and clones these in the end.
+fn make_all(
+    rt: &impl Abort,
+    alloc: Global,
+    scoping: &mut Scoping,
+    rows: &[&[Step]],
+) -> Result<(), Fail> {
+    for row in rows {
+        make(rt, alloc, scoping, row)?;
+    }
+    clone_shows(rt, alloc, scoping)
+}
+
+fn edit_empty_tables(rt: &impl Abort, alloc: Global, rows: &[&[Step]]) -> Result<(), Fail> {
+    let mut scoping = Scoping::new(alloc);
+    let made = make_all(rt, alloc, &mut scoping, rows);
+    drop(scoping);
+    made
 }
 
 #[test]
@@ -33,17 +62,7 @@ fn each_edit_leaves_its_tables(rt: HostRuntime) -> Result<(), Fail> {
         [FUNCTION, UPROOTED],
         [FUNCTION, RENAMED],
     ] {
-        let mut tables = Scoping::new(rt.alloc());
-        make(&rt, rt.alloc(), &mut tables, rows[0])?;
-        make(&rt, rt.alloc(), &mut tables, rows[1])?;
+        edit_empty_tables(&rt, rt.alloc(), rows.as_slice())?;
     }
     Ok(())
-}
-
-#[test]
-fn a_clone_has_the_same_tables(rt: HostRuntime) -> Result<(), Fail> {
-    let mut tables = Scoping::new(rt.alloc());
-    make(&rt, rt.alloc(), &mut tables, LONG_ROW)?;
-    let copy = tables.clone_in_with_semantic_ids_with_another_arena(rt.alloc())?;
-    shows(&rt, rt.alloc(), &copy, LONG_ROW_END)
 }

@@ -7,7 +7,6 @@ use semantic_syntax::{
 use std::alloc::AllocError;
 
 /// An edit. Where none is named it is one of scope 0, of scope 1 inside it, of symbol 0 or of reference 0.
-#[derive(Clone, Copy)]
 pub enum Edit {
     Reserve,
     /// A scope inside the scope, if any.
@@ -51,7 +50,7 @@ fn span_at(start: u8) -> Span {
 }
 
 /// Makes room, or makes a scope or a reference.
-fn make(scoping: &mut Scoping, edit: Edit) -> Result<bool, AllocError> {
+fn make(scoping: &mut Scoping, edit: &Edit) -> Result<bool, AllocError> {
     if scoping.scopes_len() > 9 || scoping.references_len() > 9 {
         return Ok(false);
     }
@@ -60,14 +59,14 @@ fn make(scoping: &mut Scoping, edit: Edit) -> Result<bool, AllocError> {
         Edit::Scope(None) => {
             scoping.add_scope(None, NodeId::ROOT, ScopeFlags::Top)?;
         }
-        Edit::Scope(Some(parent)) if usize::from(parent) < scoping.scopes_len() => {
-            let parent = ScopeId::new(u32::from(parent));
+        Edit::Scope(Some(parent)) if usize::from(*parent) < scoping.scopes_len() => {
+            let parent = ScopeId::new(u32::from(*parent));
             scoping.add_scope(Some(parent), NodeId::new(1), ScopeFlags::Function)?;
         }
         Edit::Refer(scope) => {
             scoping.create_reference(Reference::new(
                 NodeId::new(3),
-                ScopeId::new(u32::from(scope)),
+                ScopeId::new(u32::from(*scope)),
                 ReferenceFlags::write(),
             ))?;
         }
@@ -77,7 +76,7 @@ fn make(scoping: &mut Scoping, edit: Edit) -> Result<bool, AllocError> {
 }
 
 /// Makes a symbol.
-fn make_symbol(scoping: &mut Scoping, edit: Edit) -> Result<bool, AllocError> {
+fn make_symbol(scoping: &mut Scoping, edit: &Edit) -> Result<bool, AllocError> {
     if scoping.symbols_len() > 9 {
         return Ok(false);
     }
@@ -88,10 +87,10 @@ fn make_symbol(scoping: &mut Scoping, edit: Edit) -> Result<bool, AllocError> {
             let scope = ScopeId::new(0);
             scoping.create_symbol(span_at(4), Ident::new(name), flags, scope, node)?;
         }
-        Edit::BoundSymbol(name, scope, start) if usize::from(scope) < scoping.scopes_len() => {
+        Edit::BoundSymbol(name, scope, start) if usize::from(*scope) < scoping.scopes_len() => {
             let name = Ident::new(name);
-            let scope = ScopeId::new(u32::from(scope));
-            scoping.create_symbol_with_binding(span_at(start), name, flags, scope, scope, node)?;
+            let scope = ScopeId::new(u32::from(*scope));
+            scoping.create_symbol_with_binding(span_at(*start), name, flags, scope, scope, node)?;
         }
         _ => return Ok(false),
     }
@@ -99,13 +98,13 @@ fn make_symbol(scoping: &mut Scoping, edit: Edit) -> Result<bool, AllocError> {
 }
 
 /// Lists a reference as a use or as a free one.
-fn list(scoping: &mut Scoping, edit: Edit) -> Result<bool, AllocError> {
+fn list(scoping: &mut Scoping, edit: &Edit) -> Result<bool, AllocError> {
     match edit {
         Edit::Use(symbol, reference)
-            if usize::from(symbol) < scoping.symbols_len()
-                && usize::from(reference) < scoping.references_len() => {
-            let symbol = SymbolId::new(u32::from(symbol));
-            let reference = ReferenceId::new(u32::from(reference));
+            if usize::from(*symbol) < scoping.symbols_len()
+                && usize::from(*reference) < scoping.references_len() => {
+            let symbol = SymbolId::new(u32::from(*symbol));
+            let reference = ReferenceId::new(u32::from(*reference));
             scoping.add_resolved_reference(symbol, reference)?;
         }
         Edit::Free(name) if scoping.references_len() > 0 => {
@@ -117,7 +116,7 @@ fn list(scoping: &mut Scoping, edit: Edit) -> Result<bool, AllocError> {
 }
 
 /// Binds symbol 0, declares it again or marks it.
-fn declare(scoping: &mut Scoping, edit: Edit) -> Result<bool, AllocError> {
+fn declare(scoping: &mut Scoping, edit: &Edit) -> Result<bool, AllocError> {
     if scoping.scopes_len() == 0 || scoping.symbols_len() == 0 {
         return Ok(false);
     }
@@ -126,7 +125,7 @@ fn declare(scoping: &mut Scoping, edit: Edit) -> Result<bool, AllocError> {
         Edit::Bind(name) => scoping.add_binding(ScopeId::new(0), Ident::new(name), symbol)?,
         Edit::Redeclare(start) => {
             let flags = SymbolFlags::FunctionScopedVariable;
-            scoping.add_symbol_redeclaration(symbol, flags, NodeId::new(4), span_at(start))?
+            scoping.add_symbol_redeclaration(symbol, flags, NodeId::new(4), span_at(*start))?
         }
         Edit::Mark => scoping.mark_no_side_effects(symbol)?,
         _ => return Ok(false),
@@ -135,7 +134,7 @@ fn declare(scoping: &mut Scoping, edit: Edit) -> Result<bool, AllocError> {
 }
 
 /// Gives symbol 0 another name.
-fn rename(scoping: &mut Scoping, edit: Edit) -> Result<bool, AllocError> {
+fn rename(scoping: &mut Scoping, edit: &Edit) -> Result<bool, AllocError> {
     if scoping.scopes_len() == 0 || scoping.symbols_len() == 0 {
         return Ok(false);
     }
@@ -160,7 +159,7 @@ fn rename(scoping: &mut Scoping, edit: Edit) -> Result<bool, AllocError> {
 }
 
 /// Moves bindings between scopes 0 and 1.
-fn move_bindings(scoping: &mut Scoping, edit: Edit) -> Result<bool, AllocError> {
+fn move_bindings(scoping: &mut Scoping, edit: &Edit) -> Result<bool, AllocError> {
     if scoping.scopes_len() < 2 || scoping.symbols_len() == 0 {
         return Ok(false);
     }
@@ -180,7 +179,7 @@ fn move_bindings(scoping: &mut Scoping, edit: Edit) -> Result<bool, AllocError> 
 }
 
 /// Makes an edit that takes no memory.
-fn delete(scoping: &mut Scoping, edit: Edit) -> bool {
+fn delete(scoping: &mut Scoping, edit: &Edit) -> bool {
     if scoping.scopes_len() < 2 || scoping.symbols_len() == 0 || scoping.references_len() == 0 {
         return false;
     }
@@ -188,7 +187,7 @@ fn delete(scoping: &mut Scoping, edit: Edit) -> bool {
     let reference = ReferenceId::new(0);
     match edit {
         Edit::RemoveDeclaration(start) => {
-            scoping.remove_symbol_declaration(symbol, span_at(start))
+            scoping.remove_symbol_declaration(symbol, span_at(*start))
         }
         Edit::ClearRedeclarations => scoping.clear_symbol_redeclarations(symbol),
         Edit::Unlist(name) => {
@@ -207,7 +206,7 @@ fn delete(scoping: &mut Scoping, edit: Edit) -> bool {
 }
 
 /// Makes a scope, a symbol or a reference, or lists one.
-fn add(scoping: &mut Scoping, edit: Edit) -> Result<bool, AllocError> {
+fn add(scoping: &mut Scoping, edit: &Edit) -> Result<bool, AllocError> {
     let made = make(scoping, edit)?;
     let made_symbol = make_symbol(scoping, edit)?;
     let listed = list(scoping, edit)?;
@@ -215,7 +214,7 @@ fn add(scoping: &mut Scoping, edit: Edit) -> Result<bool, AllocError> {
 }
 
 /// Makes the edit, and tells whether it could be made: what it speaks of must be there.
-pub fn take(scoping: &mut Scoping, edit: Edit) -> Result<bool, AllocError> {
+pub fn take(scoping: &mut Scoping, edit: &Edit) -> Result<bool, AllocError> {
     let added = add(scoping, edit)?;
     let declared = declare(scoping, edit)?;
     let renamed = rename(scoping, edit)?;

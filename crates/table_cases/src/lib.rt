@@ -3,6 +3,8 @@
 #![tactic(auto)]
 
 #[cfg(test)]
+mod answers;
+#[cfg(test)]
 mod classes;
 #[cfg(test)]
 mod edit_rows;
@@ -10,6 +12,8 @@ mod edit_rows;
 mod edited_tables;
 #[cfg(test)]
 mod edits;
+#[cfg(test)]
+mod kinds;
 #[cfg(test)]
 mod long_row;
 #[cfg(test)]

@@ -5,12 +5,11 @@ use semantic_syntax::{
     Ident, NodeId, Reference, ReferenceFlags, ReferenceId, ScopeFlags, ScopeId, Span, Steps,
     SymbolFlags, SymbolId,
 };
-use std::alloc::Global;
+use std::alloc::{AllocError, Global};
 use std::process::Abort;
 use std::test::Fail;
 
 /// A reference to a name in the last of some scopes, and what becomes of it at the end of a header and in the end.
-#[derive(Clone, Copy)]
 struct Case {
     name: &'static str,
     scopes: u32,
@@ -22,6 +21,16 @@ struct Case {
     /// Whether it means symbol 0, or else none.
     is_tied: bool,
     asked_in_all: u64,
+}
+
+impl Case {
+    fn ends_as(&self) -> Outcome {
+        if self.is_tied {
+            Outcome::Tied(SymbolId::new(0))
+        } else {
+            Outcome::Free
+        }
+    }
 }
 
 /// A name that no scope binds, and one at the outer end of a long chain.
@@ -48,103 +57,166 @@ const CASES: &[Case] = &[
     },
 ];
 
+/// The scope of the number, which is none of the greatest.
+fn scope_of(number: u32) -> ScopeId {
+    ScopeId::new(number.min(200_000))
+}
+
+/// Adds so many scopes, each inside the one before.
+fn nest(scoping: &mut Scoping, count: u32) -> Result<(), AllocError> {
+    if count == 0 || scoping.scopes_len() > 0 {
+        return Ok(());
+    }
+    scoping.add_scope(None, NodeId::ROOT, ScopeFlags::Top)?;
+    for number in 0..count - 1 {
+        let parent = ScopeId::new(number);
+        if parent.index() < scoping.scopes_len() && scoping.scopes_len() < 200_000 {
+            scoping.add_scope(Some(parent), NodeId::ROOT, ScopeFlags::empty())?;
+        }
+    }
+    Ok(())
+}
+
 /// Binds the name in the scope.
-fn bind(rt: &impl Abort, scoping: &mut Scoping, name: &str, scope: u32) -> Result<(), Fail> {
-    assert!(rt; (scope as usize) < scoping.scopes_len() && scoping.symbols_len() < 9);
-    let scope = ScopeId::new(scope);
+fn bind(scoping: &mut Scoping, name: &str, scope: ScopeId) -> Result<(), AllocError> {
+    if scope.index() >= scoping.scopes_len() || scoping.symbols_len() > 9 {
+        return Ok(());
+    }
+    let flags = SymbolFlags::FunctionScopedVariable;
     let name = Ident::new(name);
     let span = Span::new(0, 1);
-    let flags = SymbolFlags::FunctionScopedVariable;
     scoping.create_symbol_with_binding(span, name, flags, scope, scope, NodeId::ROOT)?;
     Ok(())
 }
 
-/// So many scopes, each inside the one before, of which the first binds `f` and the second `a`, and a reference that
-/// reads in the last one.
-fn nested(rt: &impl Abort, alloc: Global, count: u32) -> Result<Scoping, Fail> {
-    let mut scoping = Scoping::new(alloc);
-    scoping.add_scope(None, NodeId::ROOT, ScopeFlags::Top)?;
-    for number in 1..count {
-        assert!(rt; (number as usize) <= scoping.scopes_len() && number < 200_000);
-        assert!(rt; scoping.scopes_len() < 200_000);
-        let parent = ScopeId::new(number - 1);
-        scoping.add_scope(Some(parent), NodeId::ROOT, ScopeFlags::empty())?;
+/// Makes a reference that reads in the scope.
+fn refer(scoping: &mut Scoping, scope: u32) -> Result<(), AllocError> {
+    if scoping.references_len() > 9 {
+        return Ok(());
     }
-    bind(rt, &mut scoping, "f", 0)?;
-    bind(rt, &mut scoping, "a", 1)?;
-    assert!(rt; 0 < count && scoping.references_len() == 0);
-    let last = ScopeId::new(count - 1);
-    scoping.create_reference(Reference::new(NodeId::ROOT, last, ReferenceFlags::Read))?;
-    Ok(scoping)
+    let read = Reference::new(NodeId::ROOT, scope_of(scope), ReferenceFlags::Read);
+    scoping.create_reference(read)?;
+    Ok(())
 }
 
-/// What is asked in the header, and what waits after it.
-fn header_ends<'a, L>(
-    rt: &impl Abort,
+/// Where the reference waits once the header has ended, if it does.
+fn header_ends<L>(
     alloc: Global,
-    case: &'a Case,
+    case: &Case,
     scoping: &Scoping,
     steps: &mut Steps<L>,
-) -> Result<UnresolvedReferences<'a>, Fail> {
+) -> Result<Option<ScopeId>, AllocError> {
+    let lookup = scope_of(case.lookup);
+    let header = scope_of(case.header);
     let scopes = scoping.scopes_len();
-    assert!(rt; (case.lookup as usize) < scopes && (case.header as usize) < scopes);
-    assert!(rt; (case.waits_in as usize) < scopes && scoping.references_len() > 0);
+    if lookup.index() >= scopes || header.index() >= scopes || scoping.references_len() == 0 {
+        return Ok(None);
+    }
     let mut waiting = UnresolvedReferences::new(alloc);
     waiting.push(UnresolvedReference {
         name: Ident::new(case.name),
         reference_id: ReferenceId::new(0),
-        lookup_scope_id: ScopeId::new(case.lookup),
+        lookup_scope_id: lookup,
     })?;
-    let header = ScopeId::new(case.header);
     let outcomes = resolve_header(alloc, &waiting, 0, header, scoping, steps)?;
-    let waits = [Outcome::Pending(ScopeId::new(case.waits_in))];
-    assert_eq!(rt; outcomes.as_slice(), waits.as_slice(), "{}", case.name);
-    assert_eq!(rt; steps.count(), case.asked, "{}", case.name);
     waiting.apply(0, &outcomes);
-    Ok(waiting)
+    drop(outcomes);
+    let left = waiting.take();
+    drop(waiting);
+    let waits_in = first_scope(left.as_slice());
+    drop(left);
+    Ok(waits_in)
 }
 
-/// What is asked in the end of what waits.
+/// The scope from which the one reference is to be looked up.
+fn first_scope(waiting: &[UnresolvedReference<'_>]) -> Option<ScopeId> {
+    match waiting {
+        [only] => Some(only.lookup_scope_id),
+        _ => None,
+    }
+}
+
+/// What becomes in the end of the reference that waits in the scope.
 fn walk_ends<L>(
-    rt: &impl Abort,
     alloc: Global,
-    case: &Case,
+    name: &str,
+    lookup: ScopeId,
     scoping: &Scoping,
-    entry: &UnresolvedReference<'_>,
     steps: &mut Steps<L>,
-) -> Result<(), Fail> {
-    assert!(rt; entry.lookup_scope_id.index() < scoping.scopes_len());
-    assert!(rt; entry.reference_id.index() < scoping.references_len());
+) -> Result<Option<Outcome>, AllocError> {
+    if lookup.index() >= scoping.scopes_len() || scoping.references_len() == 0 {
+        return Ok(None);
+    }
     let mut waiting = UnresolvedReferences::new(alloc);
     waiting.push(UnresolvedReference {
-        name: entry.name,
-        reference_id: entry.reference_id,
-        lookup_scope_id: entry.lookup_scope_id,
+        name: Ident::new(name),
+        reference_id: ReferenceId::new(0),
+        lookup_scope_id: lookup,
     })?;
     let outcomes = resolve_all(alloc, &waiting, scoping, steps)?;
-    let ended = if case.is_tied {
-        Outcome::Tied(SymbolId::new(0))
-    } else {
-        Outcome::Free
-    };
-    assert_eq!(rt; outcomes.as_slice(), [ended].as_slice(), "{}", case.name);
-    assert_eq!(rt; steps.count(), case.asked_in_all, "{}", case.name);
-    Ok(())
+    drop(waiting);
+    let ended = first_outcome(outcomes.as_slice());
+    drop(outcomes);
+    Ok(ended)
 }
 
-fn check(rt: &impl Abort, alloc: Global, case: &Case) -> Result<(), Fail> {
-    let scoping = nested(rt, alloc, case.scopes)?;
+fn first_outcome(outcomes: &[Outcome]) -> Option<Outcome> {
+    match outcomes {
+        [only] => Some(*only),
+        _ => None,
+    }
+}
+
+/// Whether the reference waits where it is to, asks in the header as often as it is to, ends as it is to, and asks in all
+/// as often as it is to.
+fn is_asked_once(alloc: Global, case: &Case, scoping: &Scoping) -> Result<[bool; 4], AllocError> {
     let mut steps = Steps::new(());
-    let mut waiting = header_ends(rt, alloc, case, &scoping, &mut steps)?;
-    let left = waiting.take();
-    assert!(rt; left.len() == 1 && waiting.len() == 0);
-    walk_ends(rt, alloc, case, &scoping, &left[0], &mut steps)
+    let Some(waits_in) = header_ends(alloc, case, scoping, &mut steps)? else {
+        return Ok([false; 4]);
+    };
+    let asked = steps.count();
+    let ended = walk_ends(alloc, case.name, waits_in, scoping, &mut steps)?;
+    Ok([
+        waits_in == scope_of(case.waits_in),
+        asked == case.asked,
+        ended == Some(case.ends_as()),
+        steps.count() == case.asked_in_all,
+    ])
+}
+
+/// Makes the tables of the case: of its scopes the first binds `f` and the second `a`, and the last has a reference.
+fn make(scoping: &mut Scoping, case: &Case) -> Result<(), AllocError> {
+    nest(scoping, case.scopes)?;
+    bind(scoping, "f", ScopeId::new(0))?;
+    bind(scoping, "a", ScopeId::new(1))?;
+    refer(scoping, case.lookup)
+}
+
+fn make_and_ask(
+    alloc: Global,
+    case: &Case,
+    scoping: &mut Scoping,
+) -> Result<[bool; 4], AllocError> {
+    make(scoping, case)?;
+    is_asked_once(alloc, case, scoping)
+}
+
+fn answers(alloc: Global, case: &Case) -> Result<[bool; 4], AllocError> {
+    let mut scoping = Scoping::new(alloc);
+    let told = make_and_ask(alloc, case, &mut scoping);
+    drop(scoping);
+    told
+}
+
+fn compare(rt: &impl Abort, alloc: Global, cases: &[Case]) -> Result<(), Fail> {
+    for case in cases {
+        let told = answers(alloc, case)?;
+        assert_eq!(rt; told, [true; 4], "{}", case.name);
+    }
+    Ok(())
 }
 
 #[test]
 fn what_waits_is_asked_once(rt: HostRuntime) -> Result<(), Fail> {
-    for case in CASES {
-        check(&rt, rt.alloc(), case)?;
-    }
-    Ok(())
+    compare(&rt, rt.alloc(), CASES)
 }

@@ -1,119 +1,134 @@
-//! Nodes and the paths that lead to them, told by the store and by the stack, and sets of kinds.
-ghost use Rattle.std.specs.Prelude.{◌≡◌, IfOk};
-ghost use Rattle.semantic_kinds.specs.declared.kind.AstType.TheVariants.{Program};
-
-use crate::trees::leaf;
-use node_store::{
-    AncestorKinds, Ancestry, AncestryStack, AstNodeStore, AstNodes, AstTypesBitset, EnteredNodes,
-};
+//! What the store and the stack tell of paths that lead to nodes, in numbers.
+use node_store::{AncestorKinds, Ancestry, AncestryStack, AstNodes, EnteredNodes};
 use semantic_syntax::{NodeFlags, NodeId, ScopeId};
-use semantic_tree::{AstKind, AstType, Node};
+use semantic_tree::{AstKind, AstType};
 use std::alloc::{AllocError, Global};
-use std::test::Fail;
 
-// The root of `let a; function f(b) { return b; } f(a);`.
-fn root(alloc: Global) -> Result<Node, AllocError>
-    ensures { IfOk result (λ made. made.kind ≡ Program) }
-{
-    leaf(alloc, AstType::Program, (0, 40), "")
-}
-
-// Its first statement.
-fn statement(alloc: Global) -> Result<Node, AllocError> {
-    let mut made = leaf(alloc, AstType::VariableDeclaration, (0, 6), "let")?;
-    made.node_id = NodeId::new(1);
-    Ok(made)
-}
-
-fn is_program_alone(kinds: AncestorKinds<'_, '_>) -> bool {
+/// 1 if the path is the program alone, or else 0.
+fn is_program_alone(kinds: AncestorKinds<'_, '_>) -> usize {
     let mut left = kinds;
     match left.next() {
-        Some(kind) => kind.ty() == AstType::Program && left.next().is_none(),
-        None => false,
+        Some(kind) => usize::from(kind.ty() == AstType::Program && left.next().is_none()),
+        None => 0,
     }
 }
 
-#[test]
-fn a_store_tells_the_path(rt: HostRuntime) -> Result<(), Fail> {
-    let root = root(rt.alloc())?;
-    let statement = statement(rt.alloc())?;
-    let mut nodes = AstNodes::new(rt.alloc());
-    nodes.reserve(2)?;
+/// Adds the root and its first statement to an empty store.
+fn add<'a>(
+    nodes: &mut AstNodes<'a>,
+    root: AstKind<'a>,
+    statement: AstKind<'a>,
+) -> Result<(), AllocError> {
     let scope = ScopeId::new(0);
-    let first = NodeId::new(1);
     let flags = NodeFlags::empty();
-    nodes.add_program_node(AstKind::new(&root), scope, flags)?;
-    nodes.add_node(first, AstKind::new(&statement), scope, NodeId::ROOT, flags)?;
-    assert_eq!(rt; nodes.len(), 2);
-    assert_eq!(rt; nodes.parent_id(first), NodeId::ROOT);
-    let above = Ancestry::Nodes {
-        nodes: &nodes,
-        current_node_id: first,
-    };
-    assert!(rt; is_program_alone(above.ancestor_kinds()));
-    let from_root = Ancestry::Nodes {
-        nodes: &nodes,
-        current_node_id: first,
-    };
-    assert!(rt; is_program_alone(from_root.ancestor_kinds_from(Some(NodeId::ROOT))));
-    Ok(())
-}
-
-#[test]
-fn a_stack_tells_the_path(rt: HostRuntime) -> Result<(), Fail> {
-    let root = root(rt.alloc())?;
-    let statement = statement(rt.alloc())?;
-    let mut stack = AncestryStack::new(rt.alloc());
-    stack.push(AstKind::new(&root))?;
-    stack.push(AstKind::new(&statement))?;
-    assert_eq!(rt; stack.current_node_id(), NodeId::new(1));
-    assert!(rt; is_program_alone(stack.ancestor_kinds()));
-    let above = Ancestry::Stack(&stack);
-    assert!(rt; is_program_alone(above.ancestor_kinds()));
-    let from_root = Ancestry::Stack(&stack);
-    assert!(rt; is_program_alone(from_root.ancestor_kinds_from(Some(NodeId::ROOT))));
-    Ok(())
-}
-
-#[test]
-fn room_is_no_node(rt: HostRuntime) -> Result<(), Fail> {
-    let mut store = AstNodeStore::new(rt.alloc());
-    store.reserve(2)?;
-    assert_eq!(rt; store.node_count(), 0);
-    store.set_build_nodes(true);
-    store.reserve(2)?;
-    assert_eq!(rt; store.node_count(), 0);
-    assert!(rt; store.into_nodes().is_empty());
-    Ok(())
-}
-
-#[test]
-fn a_node_that_was_left_is_no_parent(rt: HostRuntime) -> Result<(), Fail> {
-    let root = root(rt.alloc())?;
-    let statement = statement(rt.alloc())?;
-    let scope = ScopeId::new(0);
-    let mut entered = EnteredNodes::new(rt.alloc());
-    entered.enter(AstKind::new(&root), scope)?;
-    entered.enter(AstKind::new(&statement), scope)?;
-    entered.leave();
-    entered.enter(AstKind::new(&statement), scope)?;
-    let nodes = entered.into_nodes();
-    assert_eq!(rt; nodes.len(), 3);
-    assert_eq!(rt; nodes.parent_id(NodeId::new(2)), NodeId::ROOT);
-    Ok(())
-}
-
-#[test]
-fn kinds_are_told_in_order(rt: HostRuntime) {
-    let kinds = [
-        AstType::Program,
-        AstType::AssignmentPattern,
-        AstType::TSTupleType,
-    ];
-    let set = AstTypesBitset::from_types(&[kinds[2], kinds[0], kinds[1], kinds[0]]);
-    let mut told = set.iter();
-    for kind in kinds {
-        assert_eq!(rt; told.next(), Some(kind));
+    nodes.reserve(2)?;
+    match root.ty() {
+        AstType::Program if nodes.len() == 0 => {
+            nodes.add_program_node(root, scope, flags)?;
+            nodes.add_node(NodeId::new(1), statement, scope, NodeId::ROOT, flags)
+        }
+        _ => Ok(()),
     }
-    assert_eq!(rt; told.next(), None);
+}
+
+/// How many nodes there are, the parent of the statement, and whether the program alone is above it, told in two ways.
+fn told_by_store(nodes: &AstNodes<'_>) -> [usize; 4] {
+    let first = NodeId::new(1);
+    if nodes.len() < 2 {
+        return [nodes.len(), 0, 0, 0];
+    }
+    let above = Ancestry::Nodes {
+        nodes,
+        current_node_id: first,
+    };
+    let from_root = Ancestry::Nodes {
+        nodes,
+        current_node_id: first,
+    };
+    [
+        nodes.len(),
+        nodes.parent_id(first).index(),
+        is_program_alone(above.ancestor_kinds()),
+        is_program_alone(from_root.ancestor_kinds_from(Some(NodeId::ROOT))),
+    ]
+}
+
+fn add_and_tell<'a>(
+    nodes: &mut AstNodes<'a>,
+    root: AstKind<'a>,
+    statement: AstKind<'a>,
+) -> Result<[usize; 4], AllocError> {
+    add(nodes, root, statement)?;
+    Ok(told_by_store(nodes))
+}
+
+pub fn in_store(
+    alloc: Global,
+    root: AstKind<'_>,
+    statement: AstKind<'_>,
+) -> Result<Vec<usize>, AllocError> {
+    let mut nodes = AstNodes::new(alloc);
+    let told = add_and_tell(&mut nodes, root, statement);
+    drop(nodes);
+    Vec::from_slice(alloc, told?.as_slice())
+}
+
+/// The current node, and whether the program alone is above it, told in three ways.
+fn told_by_stack(stack: &AncestryStack<'_>) -> [usize; 4] {
+    let above = Ancestry::Stack(stack);
+    let from_root = Ancestry::Stack(stack);
+    [
+        stack.current_node_id().index(),
+        is_program_alone(stack.ancestor_kinds()),
+        is_program_alone(above.ancestor_kinds()),
+        is_program_alone(from_root.ancestor_kinds_from(Some(NodeId::ROOT))),
+    ]
+}
+
+pub fn on_stack(
+    alloc: Global,
+    root: AstKind<'_>,
+    statement: AstKind<'_>,
+) -> Result<Vec<usize>, AllocError> {
+    let mut stack = AncestryStack::new(alloc);
+    stack.push(root)?;
+    stack.push(statement)?;
+    let told = told_by_stack(&stack);
+    drop(stack);
+    Vec::from_slice(alloc, told.as_slice())
+}
+
+/// Enters the root and a statement, leaves this one, and enters another.
+fn enter<'a>(
+    entered: &mut EnteredNodes<'a>,
+    root: AstKind<'a>,
+    statement: AstKind<'a>,
+) -> Result<(), AllocError> {
+    let scope = ScopeId::new(0);
+    entered.enter(root, scope)?;
+    entered.enter(statement, scope)?;
+    entered.leave();
+    entered.enter(statement, scope)
+}
+
+/// How many nodes there are, and the parent of the last of three.
+fn told_of_last(nodes: &AstNodes<'_>) -> [usize; 2] {
+    if nodes.len() < 3 {
+        return [nodes.len(), usize::MAX];
+    }
+    [nodes.len(), nodes.parent_id(NodeId::new(2)).index()]
+}
+
+pub fn behind_one_left(
+    alloc: Global,
+    root: AstKind<'_>,
+    statement: AstKind<'_>,
+) -> Result<Vec<usize>, AllocError> {
+    let mut entered = EnteredNodes::new(alloc);
+    let done = enter(&mut entered, root, statement);
+    let nodes = entered.into_nodes();
+    let told = told_of_last(&nodes);
+    drop(nodes);
+    done?;
+    Vec::from_slice(alloc, told.as_slice())
 }

@@ -1,21 +1,21 @@
-//! Small trees.
-ghost use Rattle.std.specs.Prelude.{◌≡◌, IfOk};
+//! A small program, and the nodes in it that the cases need.
+use semantic_tree::{AstKind, Role};
 
-use semantic_syntax::Span;
-use semantic_tree::{AstType, Marks, Node, Role};
-use std::alloc::{AllocError, Global};
+/// The tree of `class C { m() { #y in this } #x; accessor #a; constructor() {} }`.
+pub const CLASS: &str =
+    r#"{"comments":[],"format":1,"goal":"script","lang":"js","source":"","rows":[[0,"root","Program",0,0,"",[]],[1,"body","Class",0,0,"declaration",[]],[2,"id","BindingIdentifier",0,0,"C",[]],[2,"body","ClassBody",0,0,"",[]],[3,"body","MethodDefinition",0,0,"method",[]],[4,"key","IdentifierName",0,0,"m",[]],[4,"value","Function",0,0,"expression",[]],[5,"params","FormalParameters",0,0,"formal",[]],[5,"body","FunctionBody",0,0,"",[]],[6,"body","ExpressionStatement",0,0,"",[]],[7,"expression","PrivateInExpression",0,0,"",[]],[8,"left","PrivateIdentifier",0,0,"y",[]],[8,"right","ThisExpression",0,0,"",[]],[3,"body","PropertyDefinition",0,0,"",[]],[4,"key","PrivateIdentifier",0,0,"x",[]],[3,"body","AccessorProperty",0,0,"",[]],[4,"key","PrivateIdentifier",0,0,"a",[]],[3,"body","MethodDefinition",0,0,"constructor",[]],[4,"key","IdentifierName",0,0,"constructor",[]],[4,"value","Function",0,0,"expression",[]],[5,"params","FormalParameters",0,0,"formal",[]],[5,"body","FunctionBody",0,0,"",[]]]}"#;
 
-/// A node without children.
-pub fn leaf(alloc: Global, kind: AstType, span: (u32, u32), text: &str) -> Result<Node, AllocError>
-    ensures { IfOk result (λ made. made.kind ≡ kind) }
-{
-    Node::new(alloc, kind, Span::new(span.0, span.1), text, Marks::empty())
+/// The body of the class.
+pub fn class_body(root: AstKind<'_>) -> Option<AstKind<'_>> {
+    root.child(Role::Body)?.child(Role::Body)
 }
 
-/// The node with one more child.
-pub fn with(mut node: Node, role: Role, child: Node) -> Result<Node, AllocError> {
-    match node.push(role, child) {
-        Ok(()) => Ok(node),
-        Err(_) => Err(AllocError),
-    }
+/// `#y in this`.
+pub fn private_in(root: AstKind<'_>) -> Option<AstKind<'_>> {
+    let method = class_body(root)?.child(Role::Body)?;
+    let statement = method
+        .child(Role::Value)?
+        .child(Role::Body)?
+        .child(Role::Body)?;
+    statement.child(Role::Expression)
 }

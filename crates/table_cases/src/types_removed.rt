@@ -38,18 +38,33 @@ fn is_bound(scoping: &Scoping, name: &str) -> bool {
     scoping.scopes_len() > 0 && scoping.scope_has_binding(scoping.root_scope_id(), Ident::new(name))
 }
 
-/// A symbol with the flags that is used in the way, once types went.
-fn without_types(
+/// Whether a symbol with the flags stays bound and its use in the way stays free, once what is of types alone goes from
+/// tables that were empty.
+fn remove_types(
+    scoping: &mut Scoping,
+    flags: SymbolFlags,
+    way: ReferenceFlags,
+) -> Result<(bool, bool), AllocError> {
+    if scoping.scopes_len() > 0 {
+        return Ok((false, false));
+    }
+    scoping.add_scope(None, NodeId::ROOT, ScopeFlags::Top)?;
+    bind(scoping, "a", flags)?;
+    refer(scoping, "a", way)?;
+    scoping.delete_typescript_bindings();
+    let is_free = scoping.root_unresolved_references().len() == 1;
+    Ok((is_bound(scoping, "a"), is_free))
+}
+
+fn what_stays(
     alloc: Global,
     flags: SymbolFlags,
     way: ReferenceFlags,
-) -> Result<Scoping, AllocError> {
-    let mut tables = Scoping::new(alloc);
-    tables.add_scope(None, NodeId::ROOT, ScopeFlags::Top)?;
-    bind(&mut tables, "a", flags)?;
-    refer(&mut tables, "a", way)?;
-    tables.delete_typescript_bindings();
-    Ok(tables)
+) -> Result<(bool, bool), AllocError> {
+    let mut scoping = Scoping::new(alloc);
+    let stays = remove_types(&mut scoping, flags, way);
+    drop(scoping);
+    stays
 }
 
 #[test]
@@ -68,9 +83,7 @@ fn types_go_alone(rt: HostRuntime) -> Result<(), Fail> {
         (SymbolFlags::TypeParameter, read, (false, true)),
         (SymbolFlags::EnumMember.union(class), read, (false, true)),
     ] {
-        let tables = without_types(rt.alloc(), flags, way)?;
-        let is_free = tables.root_unresolved_references().len() == 1;
-        assert_eq!(rt; (is_bound(&tables, "a"), is_free), wanted);
+        assert_eq!(rt; what_stays(rt.alloc(), flags, way)?, wanted);
     }
     Ok(())
 }

@@ -8,4 +8,8 @@ mod script;
 #[cfg(test)]
 mod syntax;
 #[cfg(test)]
+mod texts;
+#[cfg(test)]
 mod tree;
+#[cfg(test)]
+mod writing;

@@ -18,76 +18,103 @@ fn cuts_the_source(rt: HostRuntime) {
     assert_eq!(rt; NodeId::ROOT.index(), 0);
 }
 
-#[test]
-fn values_and_types_are_their_kinds(rt: HostRuntime) {
-    let values = SymbolFlags::Variable
-        .union(SymbolFlags::Class)
-        .union(SymbolFlags::Function)
-        .union(SymbolFlags::RegularEnum)
-        .union(SymbolFlags::ConstEnum)
-        .union(SymbolFlags::EnumMember)
-        .union(SymbolFlags::ValueModule);
-    assert_eq!(rt; SymbolFlags::Value, values);
-    let types = SymbolFlags::Class
-        .union(SymbolFlags::Interface)
-        .union(SymbolFlags::RegularEnum)
-        .union(SymbolFlags::ConstEnum)
-        .union(SymbolFlags::EnumMember)
-        .union(SymbolFlags::TypeParameter)
-        .union(SymbolFlags::TypeAlias);
-    assert_eq!(rt; SymbolFlags::TypeFlag, types);
-    assert!(rt;
-        ScopeFlags::Var
-            .difference(ScopeFlags::TsModuleBlock)
-            .is_function()
-    );
-    assert_eq!(rt; ReferenceFlags::read_write(), ReferenceFlags::Value);
+/// A set of flags, those that the rules write out for it, and those that they take away from these.
+const SETS: &[(SymbolFlags, &[SymbolFlags], &[SymbolFlags])] = &[
+    (
+        SymbolFlags::Value,
+        &[
+            SymbolFlags::Variable,
+            SymbolFlags::Class,
+            SymbolFlags::Function,
+            SymbolFlags::RegularEnum,
+            SymbolFlags::ConstEnum,
+            SymbolFlags::EnumMember,
+            SymbolFlags::ValueModule,
+        ],
+        &[],
+    ),
+    (
+        SymbolFlags::TypeFlag,
+        &[
+            SymbolFlags::Class,
+            SymbolFlags::Interface,
+            SymbolFlags::RegularEnum,
+            SymbolFlags::ConstEnum,
+            SymbolFlags::EnumMember,
+            SymbolFlags::TypeParameter,
+            SymbolFlags::TypeAlias,
+        ],
+        &[],
+    ),
+    (
+        SymbolFlags::FunctionScopedVariableExcludes,
+        &[SymbolFlags::Value],
+        &[SymbolFlags::Function, SymbolFlags::FunctionScopedVariable],
+    ),
+    (
+        SymbolFlags::FunctionExcludes,
+        &[SymbolFlags::Value],
+        &[
+            SymbolFlags::Function,
+            SymbolFlags::ValueModule,
+            SymbolFlags::Class,
+        ],
+    ),
+    (
+        SymbolFlags::ClassExcludes,
+        &[SymbolFlags::Value, SymbolFlags::TypeAlias],
+        &[SymbolFlags::ValueModule, SymbolFlags::Function],
+    ),
+    (
+        SymbolFlags::InterfaceExcludes,
+        &[SymbolFlags::TypeFlag],
+        &[SymbolFlags::Interface, SymbolFlags::Class],
+    ),
+    (
+        SymbolFlags::TypeParameterExcludes,
+        &[SymbolFlags::TypeFlag],
+        &[SymbolFlags::TypeParameter],
+    ),
+    (
+        SymbolFlags::RegularEnumExcludes,
+        &[SymbolFlags::Value, SymbolFlags::TypeFlag],
+        &[SymbolFlags::RegularEnum, SymbolFlags::ValueModule],
+    ),
+    (
+        SymbolFlags::ConstEnumExcludes,
+        &[SymbolFlags::Value, SymbolFlags::TypeFlag],
+        &[SymbolFlags::ConstEnum],
+    ),
+    (
+        SymbolFlags::ValueModuleExcludes,
+        &[SymbolFlags::Value],
+        &[
+            SymbolFlags::Function,
+            SymbolFlags::Class,
+            SymbolFlags::RegularEnum,
+            SymbolFlags::ValueModule,
+        ],
+    ),
+];
+
+fn union_of(flags: &[SymbolFlags]) -> SymbolFlags {
+    let mut union = SymbolFlags::empty();
+    for flag in flags {
+        union = union.union(*flag);
+    }
+    union
 }
 
 #[test]
-fn conflicts_are_what_the_rules_write(rt: HostRuntime) {
-    let value = SymbolFlags::Value;
-    let both = value.union(SymbolFlags::TypeFlag);
-    let module = SymbolFlags::ValueModule;
-    let function = SymbolFlags::Function;
-    let class = SymbolFlags::Class;
-    let kept = function.union(class).union(SymbolFlags::RegularEnum);
-    for (excluded, written) in [
-        (
-            SymbolFlags::FunctionScopedVariableExcludes,
-            value.difference(function.union(SymbolFlags::FunctionScopedVariable)),
-        ),
-        (
-            SymbolFlags::FunctionExcludes,
-            value.difference(function.union(module).union(class)),
-        ),
-        (
-            SymbolFlags::ClassExcludes,
-            value
-                .union(SymbolFlags::TypeAlias)
-                .difference(module.union(function)),
-        ),
-        (
-            SymbolFlags::InterfaceExcludes,
-            SymbolFlags::TypeFlag.difference(SymbolFlags::Interface.union(class)),
-        ),
-        (
-            SymbolFlags::TypeParameterExcludes,
-            SymbolFlags::TypeFlag.difference(SymbolFlags::TypeParameter),
-        ),
-        (
-            SymbolFlags::RegularEnumExcludes,
-            both.difference(SymbolFlags::RegularEnum.union(module)),
-        ),
-        (
-            SymbolFlags::ConstEnumExcludes,
-            both.difference(SymbolFlags::ConstEnum),
-        ),
-        (
-            SymbolFlags::ValueModuleExcludes,
-            value.difference(kept.union(module)),
-        ),
-    ] {
-        assert_eq!(rt; excluded, written);
+fn sets_are_what_the_rules_write(rt: HostRuntime) {
+    for (set, written, taken) in SETS {
+        assert_eq!(rt; *set, union_of(written).difference(union_of(taken)));
     }
+}
+
+#[test]
+fn scopes_of_variables_but_namespaces_are_functions(rt: HostRuntime) {
+    let var = ScopeFlags::Var.difference(ScopeFlags::TsModuleBlock);
+    assert!(rt; var.is_function());
+    assert_eq!(rt; ReferenceFlags::read_write(), ReferenceFlags::Value);
 }

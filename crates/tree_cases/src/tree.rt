@@ -7,6 +7,13 @@ use semantic_tree::{
 use std::alloc::{AllocError, Global};
 use std::test::Fail;
 
+/// The nodes around the name in the tree of `let a;`, from the inside, each over the one before in the role.
+const AROUND: &[(AstType, &str, Role)] = &[
+    (AstType::VariableDeclarator, "", Role::Id),
+    (AstType::VariableDeclaration, "let", Role::Declarators),
+    (AstType::Program, "", Role::Body),
+];
+
 /// The node over the given child alone.
 fn over(
     alloc: Global,
@@ -22,30 +29,24 @@ fn over(
     }
 }
 
-/// The tree of `let a;`.
-fn declaration(alloc: Global) -> Result<Node, AllocError> {
-    let name = Node::new(
-        alloc,
-        AstType::BindingIdentifier,
-        Span::new(4, 5),
-        "a",
-        Marks::empty(),
-    )?;
-    let declarator = over(alloc, AstType::VariableDeclarator, "", Role::Id, name)?;
-    let declared = over(
-        alloc,
-        AstType::VariableDeclaration,
-        "let",
-        Role::Declarators,
-        declarator,
-    )?;
-    over(alloc, AstType::Program, "", Role::Body, declared)
+/// The tree of the name `a` and the nodes around it.
+fn tree(alloc: Global, around: &[(AstType, &str, Role)]) -> Result<Node, AllocError> {
+    let name = AstType::BindingIdentifier;
+    let mut made = Node::new(alloc, name, Span::new(4, 5), "a", Marks::empty())?;
+    for (kind, text, role) in around {
+        made = over(alloc, *kind, text, *role, made)?;
+    }
+    Ok(made)
 }
 
-/// The program of a source and the tree of `let a;`.
-fn program_of(alloc: Global, source: &str) -> Result<Program, TreeError> {
-    let text = Text::new(alloc, source).map_err(TreeError::Memory)?;
-    let root = declaration(alloc).map_err(TreeError::Memory)?;
+/// The program of a source and a tree.
+fn program_of(
+    alloc: Global,
+    source: &str,
+    around: &[(AstType, &str, Role)],
+) -> Result<Program, TreeError> {
+    let text = Text::new(alloc, source)?;
+    let root = tree(alloc, around)?;
     let script = SourceType {
         goal: Goal::Script,
         lang: Lang::Js,
@@ -53,29 +54,46 @@ fn program_of(alloc: Global, source: &str) -> Result<Program, TreeError> {
     Program::new(alloc, text, script, Vec::new(alloc), root)
 }
 
-/// The first name that the first statement of a program binds.
-fn first_bound(root: AstKind<'_>) -> Option<AstKind<'_>> {
-    root.child(Role::Body)?.bound_names().next()
+/// Whether the first statement of a program binds the name first.
+fn binds(program: &Program, name: &str) -> bool {
+    let Some(statement) = program.root().child(Role::Body) else {
+        return false;
+    };
+    match statement.bound_names().next() {
+        Some(bound) => bound.text().as_str() == name,
+        None => false,
+    }
+}
+
+fn is_swapped(alloc: Global, program: &Program) -> Result<bool, AllocError> {
+    let swapped = program.swap_names(alloc, "a", "bc")?;
+    let is_swapped = binds(program, "a") && binds(&swapped, "bc");
+    drop(swapped);
+    Ok(is_swapped)
+}
+
+fn is_made_and_swapped(
+    alloc: Global,
+    around: &[(AstType, &str, Role)],
+) -> Result<bool, AllocError> {
+    let Ok(program) = program_of(alloc, "let a;", around) else {
+        return Ok(false);
+    };
+    let has_four_nodes = program.node_count() == 4;
+    let is_swapped = is_swapped(alloc, &program);
+    drop(program);
+    Ok(has_four_nodes && is_swapped?)
 }
 
 #[test]
 fn a_declared_name_is_swapped(rt: HostRuntime) -> Result<(), Fail> {
-    let alloc = rt.alloc();
-    let program = program_of(alloc, "let a;")?;
-    assert_eq!(rt; program.node_count(), 4);
-    let swapped = program.swap_names(alloc, "a", "bc")?;
-    for (whole, name) in [(&program, "a"), (&swapped, "bc")] {
-        match first_bound(whole.root()) {
-            Some(kind) => assert_eq!(rt; kind.text().as_str(), name),
-            None => assert!(rt; false, "no name"),
-        }
-    }
+    assert!(rt; is_made_and_swapped(rt.alloc(), AROUND)?);
     Ok(())
 }
 
 #[test]
 fn a_span_past_the_source_is_refused(rt: HostRuntime) {
-    assert!(rt; program_of(rt.alloc(), "let").is_err());
+    assert!(rt; program_of(rt.alloc(), "let", AROUND).is_err());
 }
 
 #[test]

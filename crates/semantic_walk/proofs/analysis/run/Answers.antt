@@ -16,6 +16,7 @@ use Rattle.walk_model.specs.Walks.{walked}
 use Rattle.walk_model.proofs.RootSteps.{root_scope}
 use Rattle.semantic_walk.specs.Begun.{begun, AreNamesOf, FitsProgram, IsAnalysis}
 use Rattle.semantic_walk.specs.AtPlace.{walked_over}
+use Rattle.semantic_walk.specs.Walker.{Walker}
 use Rattle.table_building.specs.Conflicting.{told}
 use Rattle.semantic_walk.specs.Listed.{list_kept, kept_nodes}
 use Rattle.semantic_walk.proofs.Beginning.{walk_comes, walk_ends, walk_lists, walk_classes, walk_labels, root_tables, root_conflicts, root_nodes, of_answer}
@@ -33,15 +34,22 @@ module _ (g : given.Over) (c : goal.After-diagnostics g) (keeps on : Bool) (firs
   fits : first_fault program ≡ None
   fits = IsShaped-no_fault program c.root.ensures.shaped
 
+  -- the walk, which has room now, has made no more
+  begins : c.reserve.new.self ≡ begun program c.reserve.new.self.namesakes keeps on
+  begins = subst (λ (w : Walker). w ≡ begun program w.namesakes keeps on) (sym c.reserve.ensures) first
+
+  named : AreNamesOf program c.reserve.new.self.namesakes
+  named = subst (λ (w : Walker). AreNamesOf program w.namesakes) (sym c.reserve.ensures) names
+
   -- the walk goes over the whole program
-  over : c.visit.new.self ≡ walked_over (written_declarations (steps program)) c.args.walk.now (root_place program) (Some (root_scope (root_place program))) 1
+  over : c.visit.new.self ≡ walked_over (written_declarations (steps program)) c.reserve.new.self (root_place program) (Some (root_scope (root_place program))) 1
   over =
       c.in_ok-visit.ensures.walks (written_declarations (steps program)) (root_place program) (Some (root_scope (root_place program))) 1 (sym c.root.ensures.root) refl
-      (walk_comes program fits c.root.ensures.numbered keeps on c.args.walk.now first names)
+      (walk_comes program fits c.root.ensures.numbered keeps on c.reserve.new.self begins named)
 
   -- what the walk has made is what its definition says
   whole : c.end.new.self.made ≡ walked program
-  whole = walk_ends program fits keeps on c.args.walk.now c.visit.new.self c.end.new.self first over c.in_ok-end.ensures
+  whole = walk_ends program fits keeps on c.reserve.new.self c.visit.new.self c.end.new.self begins over c.in_ok-end.ensures
 
   -- the program's tables are as the laws say, so these are
   analysed : (t : Tables) → t ≡ tables_of program → (diagnostics : List Diagnostic) → diagnostics ≡ map told c.end.new.self.made.conflicts → IsAnalysis program t diagnostics
@@ -66,12 +74,12 @@ returns-clause-nodes g c = λ keeps on first names.
 
 pub returns-clause-node_list : goal.returns-clause-node_list
 returns-clause-node_list g c = λ keeps on first names.
-    to_ok c.diagnostics.result _ (walk_lists c.args.program.now (fits g c keeps on first names) keeps on c.args.walk.now c.visit.new.self c.end.new.self first (over g c keeps on first names) c.in_ok-end.ensures)
+    to_ok c.diagnostics.result _ (walk_lists c.args.program.now (fits g c keeps on first names) keeps on c.reserve.new.self c.visit.new.self c.end.new.self (begins g c keeps on first names) (over g c keeps on first names) c.in_ok-end.ensures)
 
 pub returns-clause-classes : goal.returns-clause-classes
 returns-clause-classes g c = λ keeps on first names.
-    to_ok c.diagnostics.result _ (walk_classes c.args.program.now (fits g c keeps on first names) keeps on c.args.walk.now c.visit.new.self c.end.new.self first (over g c keeps on first names) c.in_ok-end.ensures)
+    to_ok c.diagnostics.result _ (walk_classes c.args.program.now (fits g c keeps on first names) keeps on c.reserve.new.self c.visit.new.self c.end.new.self (begins g c keeps on first names) (over g c keeps on first names) c.in_ok-end.ensures)
 
 pub returns-clause-labels : goal.returns-clause-labels
 returns-clause-labels g c = λ keeps on first names.
-    to_ok c.diagnostics.result _ (walk_labels c.args.program.now (fits g c keeps on first names) keeps on c.args.walk.now c.visit.new.self c.end.new.self first (over g c keeps on first names) c.in_ok-end.ensures)
+    to_ok c.diagnostics.result _ (walk_labels c.args.program.now (fits g c keeps on first names) keeps on c.reserve.new.self c.visit.new.self c.end.new.self (begins g c keeps on first names) (over g c keeps on first names) c.in_ok-end.ensures)

@@ -2,7 +2,8 @@ use Rattle.std.proofs.Common.{◌≡◌, ◌+◌, drop}
 use Rattle.semantic_tree.specs.Forest.{count}
 use Rattle.semantic_tree.specs.Children.{forest_of}
 use Rattle.semantic_model.specs.Inside.{scopes_in}
-use Rattle.semantic.specs.Tally.{how_many, is_symbol, is_reference, IsWithin}
+use Rattle.count_laws.specs.Counted.{how_many, is_symbol, is_reference}
+use Rattle.semantic.specs.Tally.{IsWithin}
 use Rattle.semantic.proofs.stats.Stats.+add_tree.Given as goal
 
 -- what is counted and what is left come to the whole

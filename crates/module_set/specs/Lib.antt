@@ -1,0 +1,4 @@
+pub mod SetForm
+pub mod Views
+pub mod Outcome
+pub mod Reading
