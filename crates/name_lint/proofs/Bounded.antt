@@ -28,12 +28,10 @@ use Rattle.semantic_model.proofs.Orders.{HasForm, table_of, sound_program}
 use Rattle.semantic_model.proofs.Shape.{has_form}
 use Rattle.semantic_model.proofs.Whole.{tables_fit}
 use Rattle.program_names.specs.Analysis.{Analysis, analysis_of, symbol_at}
-use Rattle.program_names.specs.Exported.{exported_names, default_exported_names}
 use Rattle.name_lint.specs.Uses.{Use, owner_of, owner_on, owners, is_counted, used_symbol, use_of, uses_by}
-use Rattle.name_lint.specs.Live.{is_sure, sure_from, free_use, owned_use, owned_by}
+use Rattle.name_lint.specs.Live.{is_sure, sure_from, free_use, owned_use, owned_by, exports}
 use Rattle.name_lint.specs.Undeclared.{reference_names}
-use Rattle.name_lint.specs.Within.{seeds_of, AreSymbols}
-use Rattle.name_lint.proofs.Passed.{gathered_by}
+use Rattle.name_lint.specs.Within.{AreSymbols}
 
 some_same : (x y : ℕ) → ◌≡◌ {A = Option ℕ} (Some x) (Some y) → x ≡ y
 some_same x y e = cc
@@ -193,17 +191,17 @@ module _ (p : Tree) (faultless : first_fault p ≡ None) where
           let named : HasName (run start (events (steps p))).symbols m.symbol m.declaration.name = (sound_program p form).has_name m i in
           slice_get_within (run start (events (steps p))).symbols m.symbol named.symbol named.is_there
 
-  pub are_symbols : AreSymbols (tables_of p) (symbol_at (analysis_of p)) (gathered_by (analysis_of p) (steps p))
-  are_symbols = record {
-    references = owners_count (analysis_of p) (steps p) ∙ as_many;
-    seeds = All-append (λ s. s < count) (sure_from (tables_of p) 0 (tables_of p).symbols ++ filter_map (symbol_at (analysis_of p)) (exported_names (steps p)) ++ filter_map (symbol_at (analysis_of p)) (default_exported_names (steps p)))
-        (filter_map free_use (uses_by (owners (analysis_of p) (steps p)) (tables_of p).references))
-        (All-append (λ s. s < count) (sure_from (tables_of p) 0 (tables_of p).symbols ++ filter_map (symbol_at (analysis_of p)) (exported_names (steps p))) (filter_map (symbol_at (analysis_of p)) (default_exported_names (steps p)))
-        (All-append (λ s. s < count) (sure_from (tables_of p) 0 (tables_of p).symbols) (filter_map (symbol_at (analysis_of p)) (exported_names (steps p)))
-        (sure_below count (tables_of p) 0 (tables_of p).symbols (omega arith))
-        (declared_below count (symbol_at (analysis_of p)) declared_symbol (exported_names (steps p))))
-        (declared_below count (symbol_at (analysis_of p)) declared_symbol (default_exported_names (steps p))))
-        (free_below count (owners (analysis_of p) (steps p)) (tables_of p).references (ties_below count (tables_of p).references tie_below));
-    owners = owners_below count (owners (analysis_of p) (steps p)) (tables_of p).references (steps_below count (analysis_of p) declared_symbol (steps p));
-    used = seconds_below count (owners (analysis_of p) (steps p)) (tables_of p).references (ties_below count (tables_of p).references tie_below);
-  }
+  pub are_symbols : AreSymbols (tables_of p) (symbol_at (analysis_of p)) (exports (steps p)) (owners (analysis_of p) (steps p))
+  are_symbols =
+      let ties : TiesBelow count (tables_of p).references = ties_below count (tables_of p).references tie_below in
+      record {
+        references = owners_count (analysis_of p) (steps p) ∙ as_many;
+        seeds = All-append (λ s. s < count) (sure_from (tables_of p) 0 (tables_of p).symbols ++ filter_map (symbol_at (analysis_of p)) (exports (steps p)))
+            (filter_map free_use (uses_by (owners (analysis_of p) (steps p)) (tables_of p).references))
+            (All-append (λ s. s < count) (sure_from (tables_of p) 0 (tables_of p).symbols) (filter_map (symbol_at (analysis_of p)) (exports (steps p)))
+            (sure_below count (tables_of p) 0 (tables_of p).symbols (omega arith))
+            (declared_below count (symbol_at (analysis_of p)) declared_symbol (exports (steps p))))
+            (free_below count (owners (analysis_of p) (steps p)) (tables_of p).references ties);
+        owning = owners_below count (owners (analysis_of p) (steps p)) (tables_of p).references (steps_below count (analysis_of p) declared_symbol (steps p));
+        used = seconds_below count (owners (analysis_of p) (steps p)) (tables_of p).references ties;
+      }

@@ -1,5 +1,4 @@
 pub mod ScopesTold
-pub mod BoundIds
 pub mod Passed
 pub mod Bounded
 pub mod Turns

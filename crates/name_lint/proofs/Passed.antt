@@ -16,10 +16,9 @@ use Rattle.semantic_model.specs.ScopeKind.{opened_scope}
 use Rattle.semantic_model.specs.Cursor.{on_entering}
 use Rattle.semantic_model.specs.Step.{Step, entering, opening, leaving, header_ending, closing, scope_at, next_at, opening_at, ending_after, opening_last, child_place, cursor_past, steps_below, root_place, steps}
 use Rattle.program_names.specs.Analysis.{Analysis, symbol_at}
-use Rattle.program_names.specs.Exported.{declared_names, default_names, exported_names, default_exported_names}
 use Rattle.name_lint.specs.Uses.{own_name, or_further, owner_on, owner_of, owners}
 use Rattle.name_lint.specs.Undeclared.{reference_names, reference_spans}
-use Rattle.name_lint.specs.Gathered.{Gathered, nothing_gathered, symbol_or, owner_inside, ids_of, with_reference, with_export, with_default_export, gathered_at, gathered_below, gathered_from}
+use Rattle.name_lint.specs.Gathered.{Gathered, nothing_gathered, symbol_or, owner_inside, gathered_at, gathered_below, gathered_from}
 
 -- what is gathered at the steps of a walk
 abbrev pub gathered_all : Analysis → Gathered → List Step → Gathered
@@ -115,66 +114,10 @@ module _ (a : Analysis) where
 
   -- ---- each of the lists
 
-  exports_keep_names : (node : Node) (g : Gathered) → (with_default_export node (with_export node g)).names ≡ g.names
-  exports_keep_names node g = by (is kind.ExportDefaultDeclaration node) (is kind.ExportDeclaration node)
-    where
-      by : (c d : Bool) → (cond c (record (cond d (record g { exported = g.exported ++ ids_of (declared_names node) }) g) { default_exported = (cond d (record g { exported = g.exported ++ ids_of (declared_names node) }) g).default_exported ++ ids_of (default_names node) }) (cond d (record g { exported = g.exported ++ ids_of (declared_names node) }) g)).names ≡ g.names
-      by true true = refl
-      by true false = refl
-      by false true = refl
-      by false false = refl
-
-  exports_keep_owners : (node : Node) (g : Gathered) → (with_default_export node (with_export node g)).owners ≡ g.owners
-  exports_keep_owners node g = by (is kind.ExportDefaultDeclaration node) (is kind.ExportDeclaration node)
-    where
-      by : (c d : Bool) → (cond c (record (cond d (record g { exported = g.exported ++ ids_of (declared_names node) }) g) { default_exported = (cond d (record g { exported = g.exported ++ ids_of (declared_names node) }) g).default_exported ++ ids_of (default_names node) }) (cond d (record g { exported = g.exported ++ ids_of (declared_names node) }) g)).owners ≡ g.owners
-      by true true = refl
-      by true false = refl
-      by false true = refl
-      by false false = refl
-
-  exports_keep_spans : (node : Node) (g : Gathered) → (with_default_export node (with_export node g)).spans ≡ g.spans
-  exports_keep_spans node g = by (is kind.ExportDefaultDeclaration node) (is kind.ExportDeclaration node)
-    where
-      by : (c d : Bool) → (cond c (record (cond d (record g { exported = g.exported ++ ids_of (declared_names node) }) g) { default_exported = (cond d (record g { exported = g.exported ++ ids_of (declared_names node) }) g).default_exported ++ ids_of (default_names node) }) (cond d (record g { exported = g.exported ++ ids_of (declared_names node) }) g)).spans ≡ g.spans
-      by true true = refl
-      by true false = refl
-      by false true = refl
-      by false false = refl
-
-  references_keep_exports : (owner : Option ℕ) (node : Node) (g : Gathered) → (with_reference owner node g).exported ≡ g.exported
-  references_keep_exports owner node g = by (is kind.IdentifierReference node)
-    where
-      by : (c : Bool) → (cond c (record g { names = g.names ++ node.text ∷ []; spans = g.spans ++ node.span ∷ []; owners = g.owners ++ owner ∷ [] }) g).exported ≡ g.exported
-      by true = refl
-      by false = refl
-
-  references_keep_defaults : (owner : Option ℕ) (node : Node) (g : Gathered) → (with_reference owner node g).default_exported ≡ g.default_exported
-  references_keep_defaults owner node g = by (is kind.IdentifierReference node)
-    where
-      by : (c : Bool) → (cond c (record g { names = g.names ++ node.text ∷ []; spans = g.spans ++ node.span ∷ []; owners = g.owners ++ owner ∷ [] }) g).default_exported ≡ g.default_exported
-      by true = refl
-      by false = refl
-
-  default_keeps_exports : (node : Node) (g : Gathered) → (with_default_export node g).exported ≡ g.exported
-  default_keeps_exports node g = by (is kind.ExportDefaultDeclaration node)
-    where
-      by : (c : Bool) → (cond c (record g { default_exported = g.default_exported ++ ids_of (default_names node) }) g).exported ≡ g.exported
-      by true = refl
-      by false = refl
-
-  export_keeps_defaults : (node : Node) (g : Gathered) → (with_export node g).default_exported ≡ g.default_exported
-  export_keeps_defaults node g = by (is kind.ExportDeclaration node)
-    where
-      by : (c : Bool) → (cond c (record g { exported = g.exported ++ ids_of (declared_names node) }) g).default_exported ≡ g.default_exported
-      by true = refl
-      by false = refl
-
   names_all : (g : Gathered) (ss : List Step) → (gathered_all a g ss).names ≡ g.names ++ reference_names ss
   names_all g [] = sym (append-nil g.names)
   names_all g (entering p ∷ ss) =
       names_all (gathered_at (owner_of a p.path) p.node g) ss
-      ∙ ap (λ (xs : List Name). xs ++ reference_names ss) (exports_keep_names p.node (with_reference (owner_of a p.path) p.node g))
       ∙ by (is kind.IdentifierReference p.node)
     where
       by : (c : Bool) → (cond c (record g { names = g.names ++ p.node.text ∷ []; spans = g.spans ++ p.node.span ∷ []; owners = g.owners ++ owner_of a p.path ∷ [] }) g).names ++ reference_names ss ≡ g.names ++ map (λ o. o.name) (cons_option (cond c (Some (reference_at p)) None) (references ss))
@@ -189,7 +132,6 @@ module _ (a : Analysis) where
   spans_all g [] = sym (append-nil g.spans)
   spans_all g (entering p ∷ ss) =
       spans_all (gathered_at (owner_of a p.path) p.node g) ss
-      ∙ ap (λ (xs : List Span). xs ++ reference_spans ss) (exports_keep_spans p.node (with_reference (owner_of a p.path) p.node g))
       ∙ by (is kind.IdentifierReference p.node)
     where
       by : (c : Bool) → (cond c (record g { names = g.names ++ p.node.text ∷ []; spans = g.spans ++ p.node.span ∷ []; owners = g.owners ++ owner_of a p.path ∷ [] }) g).spans ++ reference_spans ss ≡ g.spans ++ cons_option (cond c (Some p.node.span) None) (reference_spans ss)
@@ -204,7 +146,6 @@ module _ (a : Analysis) where
   owners_all g [] = sym (append-nil g.owners)
   owners_all g (entering p ∷ ss) =
       owners_all (gathered_at (owner_of a p.path) p.node g) ss
-      ∙ ap (λ (xs : List (Option ℕ)). xs ++ owners a ss) (exports_keep_owners p.node (with_reference (owner_of a p.path) p.node g))
       ∙ by (is kind.IdentifierReference p.node)
     where
       by : (c : Bool) → (cond c (record g { names = g.names ++ p.node.text ∷ []; spans = g.spans ++ p.node.span ∷ []; owners = g.owners ++ owner_of a p.path ∷ [] }) g).owners ++ owners a ss ≡ g.owners ++ cons_option (cond c (Some (owner_of a p.path)) None) (owners a ss)
@@ -215,40 +156,9 @@ module _ (a : Analysis) where
   owners_all g (closing p s ∷ ss) = owners_all g ss
   owners_all g (leaving p ∷ ss) = owners_all g ss
 
-  exports_all : (g : Gathered) (ss : List Step) → (gathered_all a g ss).exported ≡ g.exported ++ exported_names ss
-  exports_all g [] = sym (append-nil g.exported)
-  exports_all g (entering p ∷ ss) =
-      let met : Gathered = with_reference (owner_of a p.path) p.node g in
-      exports_all (gathered_at (owner_of a p.path) p.node g) ss
-      ∙ ap (λ (xs : List ℕ). xs ++ exported_names ss) (default_keeps_exports p.node (with_export p.node met))
-      ∙ by (is kind.ExportDeclaration p.node) met (references_keep_exports (owner_of a p.path) p.node g)
-    where
-      by : (c : Bool) (met : Gathered) → met.exported ≡ g.exported → (cond c (record met { exported = met.exported ++ ids_of (declared_names p.node) }) met).exported ++ exported_names ss ≡ g.exported ++ (cond c (ids_of (declared_names p.node)) [] ++ exported_names ss)
-      by true met e = append_assoc met.exported (ids_of (declared_names p.node)) (exported_names ss) ∙ ap (λ (xs : List ℕ). xs ++ (ids_of (declared_names p.node) ++ exported_names ss)) e
-      by false met e = ap (λ (xs : List ℕ). xs ++ exported_names ss) e
-  exports_all g (opening p s ∷ ss) = exports_all g ss
-  exports_all g (header_ending p s ∷ ss) = exports_all g ss
-  exports_all g (closing p s ∷ ss) = exports_all g ss
-  exports_all g (leaving p ∷ ss) = exports_all g ss
-
-  defaults_all : (g : Gathered) (ss : List Step) → (gathered_all a g ss).default_exported ≡ g.default_exported ++ default_exported_names ss
-  defaults_all g [] = sym (append-nil g.default_exported)
-  defaults_all g (entering p ∷ ss) =
-      let met : Gathered = with_export p.node (with_reference (owner_of a p.path) p.node g) in
-      defaults_all (gathered_at (owner_of a p.path) p.node g) ss
-      ∙ by (is kind.ExportDefaultDeclaration p.node) met (export_keeps_defaults p.node (with_reference (owner_of a p.path) p.node g) ∙ references_keep_defaults (owner_of a p.path) p.node g)
-    where
-      by : (c : Bool) (met : Gathered) → met.default_exported ≡ g.default_exported → (cond c (record met { default_exported = met.default_exported ++ ids_of (default_names p.node) }) met).default_exported ++ default_exported_names ss ≡ g.default_exported ++ (cond c (ids_of (default_names p.node)) [] ++ default_exported_names ss)
-      by true met e = append_assoc met.default_exported (ids_of (default_names p.node)) (default_exported_names ss) ∙ ap (λ (xs : List ℕ). xs ++ (ids_of (default_names p.node) ++ default_exported_names ss)) e
-      by false met e = ap (λ (xs : List ℕ). xs ++ default_exported_names ss) e
-  defaults_all g (opening p s ∷ ss) = defaults_all g ss
-  defaults_all g (header_ending p s ∷ ss) = defaults_all g ss
-  defaults_all g (closing p s ∷ ss) = defaults_all g ss
-  defaults_all g (leaving p ∷ ss) = defaults_all g ss
-
 -- what the definitions take from a walk
 abbrev pub gathered_by : Analysis → List Step → Gathered
-gathered_by a walk = record { names = reference_names walk; spans = reference_spans walk; owners = owners a walk; exported = exported_names walk; default_exported = default_exported_names walk }
+gathered_by a walk = record { names = reference_names walk; spans = reference_spans walk; owners = owners a walk }
 
 -- the pass gathers the same
 pub passed : (a : Analysis) (p : Tree) → gathered_from (symbol_at a) None p.root nothing_gathered ≡ gathered_by a (steps p)
@@ -259,6 +169,4 @@ passed a p = sym (whole a p nothing_gathered) ∙ same
       names = names_all a nothing_gathered (steps p) i;
       spans = spans_all a nothing_gathered (steps p) i;
       owners = owners_all a nothing_gathered (steps p) i;
-      exported = exports_all a nothing_gathered (steps p) i;
-      default_exported = defaults_all a nothing_gathered (steps p) i;
     }

@@ -1,5 +1,5 @@
--- What one pass over a tree gathers: names and owners of references, and what exports bind.
-use Rattle.std.specs.Prelude.{ℕ, List, [], ◌∷◌, ◌++◌, Option, Some, None, cond, map, nat_eq}
+-- What one pass over a tree gathers: the names, spans and owners of its references.
+use Rattle.std.specs.Prelude.{ℕ, List, [], ◌∷◌, ◌++◌, Option, Some, None, cond, nat_eq}
 use Rattle.std.specs.Map.{lookup}
 use Rattle.semantic_kinds.specs.declared.kind.AstType.TheVariants as kind
 use Rattle.semantic_syntax.specs.Tables.{Name}
@@ -9,20 +9,15 @@ use Rattle.semantic_tree.specs.declared.node.Node.{Node}
 use Rattle.semantic_tree.specs.declared.view.AstKind.{AstKind}
 use Rattle.scoping.specs.NodeEntries.{NodeEntries}
 use Rattle.semantic_model.specs.Nodes.{is}
-use Rattle.program_names.specs.Exported.{declared_names, default_names}
 use Rattle.name_lint.specs.Uses.{own_name}
 
 pub record Gathered : Type 0 where
-  -- of each reference
   pub names : List Name
   pub spans : List Span
   pub owners : List (Option ℕ)
-  -- the binding identifiers bound by declarations directly under exports
-  pub exported : List ℕ
-  pub default_exported : List ℕ
 
 abbrev pub nothing_gathered : Gathered
-nothing_gathered = record { names = []; spans = []; owners = []; exported = []; default_exported = [] }
+nothing_gathered = record { names = []; spans = []; owners = [] }
 
 -- the symbol that the node declares, by what belongs to nodes
 abbrev pub symbol_in : NodeEntries → ℕ → Option ℕ
@@ -36,9 +31,6 @@ symbol_or symbol owner (Some id) = symbol id.node_id
 abbrev pub owner_inside : (ℕ → Option ℕ) → Option ℕ → Node → Option ℕ
 owner_inside symbol owner node = symbol_or symbol owner (own_name node)
 
-abbrev pub ids_of : List Node → List ℕ
-ids_of nodes = map (λ x. x.node_id) nodes
-
 -- what a view shows of the name and the place of a reference
 abbrev pub text_of : AstKind → Name
 text_of k = k.node.now.text
@@ -46,23 +38,10 @@ text_of k = k.node.now.text
 abbrev pub span_of : AstKind → Span
 span_of k = k.node.now.span
 
--- the node is a reference
-abbrev pub with_reference : Option ℕ → Node → Gathered → Gathered
-with_reference owner node g =
-    cond (is kind.IdentifierReference node) (record g { names = g.names ++ node.text ∷ []; spans = g.spans ++ node.span ∷ []; owners = g.owners ++ owner ∷ [] }) g
-
--- the node exports a declaration
-abbrev pub with_export : Node → Gathered → Gathered
-with_export node g = cond (is kind.ExportDeclaration node) (record g { exported = g.exported ++ ids_of (declared_names node) }) g
-
--- the node exports a declaration by default
-abbrev pub with_default_export : Node → Gathered → Gathered
-with_default_export node g =
-    cond (is kind.ExportDefaultDeclaration node) (record g { default_exported = g.default_exported ++ ids_of (default_names node) }) g
-
--- what is gathered at the node, which stands in the owner
+-- what is gathered at the node, which stands in the owner: it may be a reference
 abbrev pub gathered_at : Option ℕ → Node → Gathered → Gathered
-gathered_at owner node g = with_default_export node (with_export node (with_reference owner node g))
+gathered_at owner node g =
+    cond (is kind.IdentifierReference node) (record { names = g.names ++ node.text ∷ []; spans = g.spans ++ node.span ∷ []; owners = g.owners ++ owner ∷ [] }) g
 
 -- what is gathered from a forest, whose trees stand in the owner
 abbrev pub gathered_below : (ℕ → Option ℕ) → Option ℕ → Forest → Gathered → Gathered

@@ -29,12 +29,15 @@ abbrev pub free_use : Use → Option ℕ
 free_use u = elim u.owner [ None ↦ Some u.used | Some o ↦ None ]
 
 -- the symbols that are in use whatever else is: sure ones, exported ones, and those that are used outside of declarations
-abbrev pub at_once : Tables → (ℕ → Option ℕ) → List ℕ → List ℕ → List (Option ℕ) → List ℕ
-at_once t symbol exported default_exported os =
-    sure_from t 0 t.symbols ++ filter_map symbol exported ++ filter_map symbol default_exported ++ filter_map free_use (uses_by os t.references)
+abbrev pub at_once : Tables → (ℕ → Option ℕ) → (exported : List ℕ) → List (Option ℕ) → List ℕ
+at_once t symbol exported os = sure_from t 0 t.symbols ++ filter_map symbol exported ++ filter_map free_use (uses_by os t.references)
+
+-- the binding identifiers bound by declarations directly under exports
+abbrev pub exports : List Step → List ℕ
+exports walk = exported_names walk ++ default_exported_names walk
 
 abbrev pub live_at_once : Analysis → List Step → List ℕ
-live_at_once a walk = at_once a.tables (symbol_at a) (exported_names walk) (default_exported_names walk) (owners a walk)
+live_at_once a walk = at_once a.tables (symbol_at a) (exports walk) (owners a walk)
 
 -- an owner, and a symbol that it uses
 abbrev pub owned_use : Use → Option (ℕ × ℕ)

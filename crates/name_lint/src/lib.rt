@@ -1,7 +1,6 @@
 //! A lint of names: the symbols that nothing in use uses, and the references to names that nobody declares.
 #![tactic(auto)]
 
-mod exports;
 mod finding;
 mod found_names;
 mod id_lists;

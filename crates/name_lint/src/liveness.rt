@@ -9,7 +9,6 @@ ghost use Rattle.name_lint.specs.Within.{LiveIn, AreSymbols};
 use crate::id_lists::SymbolIdList;
 use crate::reference_uses::ReferenceUses;
 use crate::scope_questions::has_direct_eval;
-use crate::tree_pass::TreePass;
 use reachability::{reached, rows_of};
 use scoping::{NodeTables, Scoping};
 use semantic_syntax::{NodeId, SymbolFlags, SymbolId};
@@ -57,38 +56,39 @@ fn add_declared(
     Ok(())
 }
 
-/// The symbols that are in use whatever else is, with those that are used outside of declarations.
+/// The symbols that are in use whatever else is: sure ones, those that exported nodes declare, and those that are used
+/// outside of declarations.
 fn live_at_once(
     alloc: Global,
     scoping: &Scoping,
     tables: &NodeTables,
-    pass: &TreePass<'_>,
+    exported: &[NodeId],
     free: &[u32],
 ) -> Result<Vec<u32>, AllocError>
-    ensures { IfOk result (λ symbols. symbols.items ≡ sure_from scoping.now 0 scoping.now.symbols ++ filter_map (symbol_in tables.now) pass.now.exported ++ filter_map (symbol_in tables.now) pass.now.default_exported ++ free.now) }
+    ensures { IfOk result (λ symbols. symbols.items ≡ sure_from scoping.now 0 scoping.now.symbols ++ filter_map (symbol_in tables.now) exported.now ++ free.now) }
 {
     let mut symbols = Vec::new(alloc);
     add_sure(&mut symbols, scoping)?;
-    add_declared(&mut symbols, pass.exported(), tables)?;
-    add_declared(&mut symbols, pass.default_exported(), tables)?;
+    add_declared(&mut symbols, exported, tables)?;
     symbols.extend_from_slice(free)?;
     Ok(symbols)
 }
 
-/// Which symbols are in use.
+/// Which symbols are in use, where exports bind these nodes and the references have these owners.
 fn live_marks(
     alloc: Global,
     scoping: &Scoping,
     tables: &NodeTables,
-    pass: &TreePass<'_>,
+    exported: &[NodeId],
+    owners: &[Option<SymbolId>],
 ) -> Result<Vec<bool>, AllocError>
-    requires { AreSymbols scoping.now (symbol_in tables.now) pass.now }
+    requires { AreSymbols scoping.now (symbol_in tables.now) exported.now owners.now }
     ensures length { IfOk result (λ marks. length marks.items ≡ length scoping.now.symbols) }
-    ensures sound { IfOk result (λ marks. (s : ℕ) → is_marked marks.items s ≡ true → LiveIn scoping.now (symbol_in tables.now) pass.now s) }
-    ensures complete { IfOk result (λ marks. (s : ℕ) → LiveIn scoping.now (symbol_in tables.now) pass.now s → is_marked marks.items s ≡ true) }
+    ensures sound { IfOk result (λ marks. (s : ℕ) → is_marked marks.items s ≡ true → LiveIn scoping.now (symbol_in tables.now) exported.now owners.now s) }
+    ensures complete { IfOk result (λ marks. (s : ℕ) → LiveIn scoping.now (symbol_in tables.now) exported.now owners.now s → is_marked marks.items s ≡ true) }
 {
-    let uses = ReferenceUses::of(alloc, scoping, pass.owners())?;
-    let seeds = live_at_once(alloc, scoping, tables, pass, &uses.free)?;
+    let uses = ReferenceUses::of(alloc, scoping, owners)?;
+    let seeds = live_at_once(alloc, scoping, tables, exported, &uses.free)?;
     let rows = rows_of(alloc, scoping.symbols_len(), &uses.owned)?;
     reached(alloc, &rows, &seeds)
 }
@@ -107,17 +107,18 @@ fn unmarked(alloc: Global, marks: &[bool]) -> Result<Vec<SymbolId>, AllocError>
     Ok(symbols)
 }
 
-/// The symbols that are not in use, ascending.
+/// The symbols that are not in use, ascending, where exports bind these nodes and the references have these owners.
 pub fn unused_symbols(
     alloc: Global,
     scoping: &Scoping,
     tables: &NodeTables,
-    pass: &TreePass<'_>,
+    exported: &[NodeId],
+    owners: &[Option<SymbolId>],
 ) -> Result<SymbolIdList, AllocError>
-    requires { AreSymbols scoping.now (symbol_in tables.now) pass.now }
-    ensures { IfOk result (λ unused. AreOutside (length scoping.now.symbols) (LiveIn scoping.now (symbol_in tables.now) pass.now) unused) }
+    requires { AreSymbols scoping.now (symbol_in tables.now) exported.now owners.now }
+    ensures { IfOk result (λ unused. AreOutside (length scoping.now.symbols) (LiveIn scoping.now (symbol_in tables.now) exported.now owners.now) unused) }
 {
-    let marks = live_marks(alloc, scoping, tables, pass)?;
+    let marks = live_marks(alloc, scoping, tables, exported, owners)?;
     let _count = scoping.symbols_len();
     let unused = unmarked(alloc, &marks)?;
     Ok(SymbolIdList::new(unused))

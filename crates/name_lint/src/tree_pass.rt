@@ -1,23 +1,20 @@
-//! One pass over a tree: the names and owners of its references, and what its exports bind.
+//! One pass over a tree: its references and their owners.
 ghost use Rattle.std.specs.Prelude.{◌≡◌, map, OnOk};
 ghost use Rattle.name_lint.specs.Uses.{is_declaration};
-ghost use Rattle.name_lint.specs.Gathered.{nothing_gathered, symbol_in, text_of, owner_inside, with_reference, with_export, with_default_export, gathered_at, gathered_from};
+ghost use Rattle.name_lint.specs.Gathered.{nothing_gathered, symbol_in, text_of, owner_inside, gathered_at, gathered_from};
 
-use crate::exports::{add_declared, add_default};
 use node_rules::questions::reads;
 use scoping::NodeTables;
-use semantic_syntax::{NodeId, SymbolId};
+use semantic_syntax::SymbolId;
 use semantic_tree::{AstKind, AstType, Role};
 use std::alloc::{AllocError, Global};
 use std::marker::Model;
 
-/// The references of a tree, in preorder, with their owners, and the binding identifiers that exported declarations bind.
+/// The references of a tree, in preorder, with their owners.
 #[derive(Drop)]
 pub struct TreePass<'a> {
     references: Vec<AstKind<'a>>,
     owners: Vec<Option<SymbolId>>,
-    exported: Vec<NodeId>,
-    default_exported: Vec<NodeId>,
 }
 
 impl<'a> Model for TreePass<'a> {
@@ -26,7 +23,7 @@ impl<'a> Model for TreePass<'a> {
 
     ghost Value = { Gathered };
 
-    ghost view = { λ a. record { names = map text_of a.references.items; spans = map span_of a.references.items; owners = a.owners.items; exported = a.exported.items; default_exported = a.default_exported.items } };
+    ghost view = { λ a. record { names = map text_of a.references.items; spans = map span_of a.references.items; owners = a.owners.items } };
 }
 
 /// Whether the node is a function or class declaration.
@@ -64,8 +61,6 @@ impl<'a> TreePass<'a> {
         TreePass {
             references: Vec::new(alloc),
             owners: Vec::new(alloc),
-            exported: Vec::new(alloc),
-            default_exported: Vec::new(alloc),
         }
     }
 
@@ -83,52 +78,15 @@ impl<'a> TreePass<'a> {
         self.owners.as_slice()
     }
 
-    /// What exported declarations bind.
-    pub fn exported(&self) -> &[NodeId]
-        ensures { result.now ≡ self.now.exported }
-    {
-        self.exported.as_slice()
-    }
-
-    /// What declarations that are exported by default bind.
-    pub fn default_exported(&self) -> &[NodeId]
-        ensures { result.now ≡ self.now.default_exported }
-    {
-        self.default_exported.as_slice()
-    }
-
-    /// Adds a reference with its owner, if the node is one.
-    fn add_reference(
-        &mut self,
-        node: AstKind<'a>,
-        owner: &Option<SymbolId>,
-    ) -> Result<(), AllocError>
-        ensures { OnOk result (self.new ≡ with_reference owner.now node.entry.node.now self.old) }
+    /// Adds the node with its owner, if it is a reference.
+    fn gather_at(&mut self, node: AstKind<'a>, owner: &Option<SymbolId>) -> Result<(), AllocError>
+        ensures { OnOk result (self.new ≡ gathered_at owner.now node.entry.node.now self.old) }
     {
         if node.ty() == AstType::IdentifierReference {
             self.references.push(node)?;
             self.owners.push(*owner)?;
         }
         Ok(())
-    }
-
-    /// Adds what the node exports, if it exports a declaration.
-    fn add_export(&mut self, node: AstKind<'a>) -> Result<(), AllocError>
-        ensures { OnOk result (self.new ≡ with_default_export node.entry.node.now (with_export node.entry.node.now self.old)) }
-    {
-        match node.ty() {
-            AstType::ExportDeclaration => add_declared(&mut self.exported, node),
-            AstType::ExportDefaultDeclaration => add_default(&mut self.default_exported, node),
-            _ => Ok(()),
-        }
-    }
-
-    /// Gathers at the node alone.
-    fn gather_at(&mut self, node: AstKind<'a>, owner: &Option<SymbolId>) -> Result<(), AllocError>
-        ensures { OnOk result (self.new ≡ gathered_at owner.now node.entry.node.now self.old) }
-    {
-        self.add_reference(node, owner)?;
-        self.add_export(node)
     }
 
     /// Gathers from the node, which stands in the owner, and from all below it.
