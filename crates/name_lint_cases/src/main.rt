@@ -4,8 +4,7 @@
 
 use name_lint::{NameReport, ReferenceIdList, SymbolIdList, find_names};
 use std::alloc::{AllocError, Global};
-use std::fs;
-use std::io;
+use std::{fs, io};
 use tree_json::read_program;
 
 // The names of a text, one a line.
