@@ -1,0 +1,6 @@
+pub mod Denotes
+pub mod Growth
+pub mod Follows
+pub mod Matches
+pub mod Bounds
+pub mod Sets

@@ -1,0 +1,3 @@
+pub mod Denoted
+pub mod Followed
+pub mod Described
