@@ -1,26 +1,13 @@
 //! Early errors of JavaScript, and those that TypeScript shares with it.
 
-mod bodies;
-mod escapes;
-mod jumps;
-mod labels;
-mod literals;
-mod names;
-mod references;
-mod variables;
-
-pub use bodies::{
-    check_function_declaration, check_function_declaration_in_labeled_statement,
-    check_with_statement, is_function_decl_part_of_if_statement,
+pub use name_checks::{
+    check_binding_identifier, check_directive, check_identifier, check_identifier_reference,
+    check_number_literal, check_private_identifier_outside_class, check_string_literal,
 };
-pub use jumps::{check_break_statement, check_continue_statement};
-pub use labels::check_labeled_statement;
-pub use literals::{check_directive, check_number_literal, check_string_literal};
-pub use names::{
-    check_binding_identifier, check_identifier, check_private_identifier_outside_class,
-};
-pub use references::check_identifier_reference;
-pub use variables::{
-    check_for_of_statement, check_for_statement_left, check_variable_declaration,
-    check_variable_declarator_redeclaration,
+pub use statement_checks::{
+    check_break_statement, check_continue_statement, check_for_of_statement,
+    check_for_statement_left, check_function_declaration,
+    check_function_declaration_in_labeled_statement, check_labeled_statement,
+    check_variable_declaration, check_variable_declarator_redeclaration, check_with_statement,
+    is_function_decl_part_of_if_statement,
 };

@@ -2,11 +2,7 @@
 //! to tell at the end of a list of diagnostics.
 #![tactic(auto)]
 
-pub mod context;
-mod entries;
 pub mod javascript;
-mod links;
-mod nodes;
 pub mod typescript;
 
-pub use context::CheckContext;
+pub use check_context::CheckContext;

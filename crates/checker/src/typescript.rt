@@ -1,5 +1,3 @@
 //! Early errors of TypeScript alone.
 
-mod heads;
-
-pub use heads::check_for_statement_left;
+pub use type_checks::check_for_statement_left;

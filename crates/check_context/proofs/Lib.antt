@@ -1,0 +1,4 @@
+pub mod Outward
+pub mod Declared
+pub mod Telling
+pub mod CurrentClass

@@ -1,0 +1,12 @@
+//! What a check of early errors is handed beside the node, and questions that several checks ask of it.
+#![tactic(auto)]
+
+pub mod context;
+mod entries;
+mod links;
+mod nodes;
+
+pub use context::CheckContext;
+pub use entries::one_before_last;
+pub use links::Links;
+pub use nodes::{first_bytes, has_child, is_child_in, is_same, node_of};

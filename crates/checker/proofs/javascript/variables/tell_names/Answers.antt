@@ -1,8 +1,0 @@
-use Rattle.check_model.specs.Variables.{name_rows}
-use Rattle.checker.specs.Handed.{sight}
-use Rattle.checker.proofs.Telling.{loop_stops}
-use Rattle.checker.proofs.javascript.variables.tell_names.Goals as goal
-
-pub returns-in_err-tell_name : goal.returns-in_err-tell_name
-returns-in_err-tell_name c =
-    loop_stops _ (name_rows (sight c.args.kind.node.now c.args.ctx.now)) _ _ _ _ _ _ _ c.from_residual.result c.from_residual.ensures.1 c.in-Some.ensures.steps c.loop-name.invariant c.in_err-tell_name.ensures

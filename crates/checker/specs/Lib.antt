@@ -1,4 +1,0 @@
-pub mod Handed
-pub mod Tells
-pub mod Shown
-pub mod BadEscapes

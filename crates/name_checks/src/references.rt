@@ -1,0 +1,257 @@
+//! Early errors of identifier references.
+ghost use Rattle.std.specs.Prelude.{◌≡◌, ◌&&◌, ◌||◌, ◌++◌, IsTrue, option_map, find, codes};
+ghost use Rattle.std.specs.Str.{bytes_eq};
+ghost use Rattle.semantic_kinds.specs.Classes.{is_member};
+ghost use Rattle.semantic_kinds.specs.declared.kind.AstType.TheVariants as kinds;
+ghost use Rattle.semantic_tree.specs.ChildIter.{shown};
+ghost use Rattle.semantic_kinds.specs.declared.role.Role.TheVariants as roles;
+ghost use Rattle.semantic_tree.specs.Views.{has_text, is_kind, whose};
+ghost use Rattle.semantic_tree.specs.declared.node.Node.{Node};
+ghost use Rattle.semantic_diagnostics.specs.Ascii.{is_ascii};
+ghost use Rattle.semantic_diagnostics.specs.Names as tell;
+ghost use Rattle.node_store.specs.PathLeft.{path_left};
+ghost use Rattle.check_model.specs.Names as rows;
+ghost use Rattle.check_model.specs.Search.{row_if, rows_if};
+ghost use Rattle.check_context.specs.Handed.{sight, IsContext};
+ghost use Rattle.check_context.specs.Shown.{link_shown, links_left};
+ghost use Rattle.check_context.specs.Tells.{Tells};
+
+use crate::names::{is_eval_or_arguments, tell_assignment};
+use check_context::{CheckContext, Links, is_child_in, is_same};
+use node_rules::questions::reads;
+use node_store::AncestorKinds;
+use semantic_diagnostics::Diagnostics;
+use semantic_diagnostics::makers::unexpected_arguments;
+use semantic_syntax::Span;
+use semantic_tree::{AstKind, AstType, Role};
+use std::alloc::{AllocError, Global};
+
+/// Whether nodes of the kind are parts of an assignment's target, or updates.
+fn is_target(kind: AstType) -> bool
+    ensures { result ≡ rows.is_target kind }
+{
+    matches!(
+        kind,
+        AstType::ObjectAssignmentTarget
+            | AstType::ArrayAssignmentTarget
+            | AstType::AssignmentTargetPropertyIdentifier
+            | AstType::UpdateExpression
+    )
+}
+
+/// Whether the left of a node is a reference of the name.
+fn has_left(name: AstKind<'_>, node: AstKind<'_>) -> bool
+    ensures { result ≡ whose roles.Left (λ left. is_kind kinds.IdentifierReference left && has_text name.entry.node.now.text left) node.entry.node.now }
+{
+    match node.child(Role::Left) {
+        Some(left) => left.ty() == AstType::IdentifierReference && is_same(left, name),
+        None => false,
+    }
+}
+
+/// Whether the node assigns to the name itself.
+fn assigns_to(name: AstKind<'_>, node: AstKind<'_>) -> bool
+    ensures { result ≡ rows.assigns_to name.entry.node.now.text node.entry.node.now }
+{
+    node.ty() == AstType::AssignmentExpression && has_left(name, node)
+}
+
+/// Whether what stands around a name writes to it.
+fn writes_to(name: AstKind<'_>, node: AstKind<'_>) -> bool
+    ensures { result ≡ rows.writes_to name.entry.node.now.text node.entry.node.now }
+{
+    is_target(node.ty()) || assigns_to(name, node)
+}
+
+/// The first node of a path that is a member expression or writes to the name.
+fn met_by_write<'a>(name: AstKind<'_>, above: AncestorKinds<'_, 'a>) -> Option<AstKind<'a>>
+    ensures { option_map shown result ≡ find (λ node. is_member node.kind || rows.writes_to name.entry.node.now.text node) (path_left above.entry) }
+{
+    let mut left = above;
+    while let Some(node) = left.next() {
+        if node.is_member_expression_kind() || writes_to(name, node) {
+            return Some(node);
+        }
+    }
+    None
+}
+
+/// Whether a write to the name comes before any member expression, going outward.
+fn is_written(name: AstKind<'_>, ctx: &CheckContext<'_, '_>) -> bool
+    requires { IsContext ctx.now }
+    ensures { result ≡ rows.is_written (sight name.entry.node.now ctx.now) }
+{
+    match met_by_write(name, ctx.above()) {
+        Some(met) => !met.is_member_expression_kind(),
+        None => false,
+    }
+}
+
+/// Whether strict code writes to `eval` or `arguments`.
+fn is_bad_write(name: AstKind<'_>, ctx: &CheckContext<'_, '_>) -> bool
+    requires { IsContext ctx.now }
+    ensures { result ≡ rows.is_bad_write (sight name.entry.node.now ctx.now) }
+{
+    is_eval_or_arguments(name) && ctx.is_strict() && is_written(name, ctx)
+}
+
+/// Whether the child is the value of a property of a class.
+fn is_field_value(child: AstKind<'_>, parent: AstKind<'_>) -> bool
+    ensures { let link : Node × Node = (child.entry.node.now, parent.entry.node.now) in result ≡ rows.is_field_value link }
+{
+    parent.ty() == AstType::PropertyDefinition && is_child_in(Role::Value, parent, child)
+}
+
+/// Whether `arguments` belongs to the parent, as far as it is reached from the child.
+fn owns_arguments(child: AstKind<'_>, parent: AstKind<'_>) -> bool
+    ensures { let link : Node × Node = (child.entry.node.now, parent.entry.node.now) in result ≡ (is_kind kinds.Function link.1 || (rows.is_field_value link || rows.is_static_block link)) }
+{
+    parent.ty() == AstType::Function
+        || is_field_value(child, parent)
+        || parent.ty() == AstType::StaticBlock
+}
+
+/// The innermost owner of `arguments` on a way outward, with the child that it is reached from.
+fn owner_on<'a>(links: Links<'_, 'a>) -> Option<(AstKind<'a>, AstKind<'a>)>
+    ensures { option_map link_shown result ≡ find (λ link. is_kind kinds.Function link.1 || (rows.is_field_value link || rows.is_static_block link)) (links_left links.entry) }
+{
+    let mut left = links;
+    while let Some((child, parent)) = left.next() {
+        if owns_arguments(child, parent) {
+            return Some((child, parent));
+        }
+    }
+    None
+}
+
+/// The innermost owner of `arguments` around a reference, with the child that it is reached from.
+fn owner_of_arguments<'a>(
+    kind: AstKind<'a>,
+    ctx: &CheckContext<'a, '_>,
+) -> Option<(AstKind<'a>, AstKind<'a>)>
+    requires { IsContext ctx.now }
+    ensures { option_map link_shown result ≡ rows.owner_of_arguments (sight kind.entry.node.now ctx.now) }
+{
+    owner_on(Links::new(kind, ctx.above()))
+}
+
+/// Tells of `arguments` in a place that has none.
+#[tactic(auto, using(check_context::proofs::Telling::telling, semantic_diagnostics::proofs::AsciiTexts::ascii_texts))]
+fn tell_arguments_if(
+    alloc: Global,
+    is_there: bool,
+    place: &str,
+    span: Span,
+    out: &mut Diagnostics,
+) -> Result<(), AllocError>
+    requires { IsTrue (is_ascii place.now) }
+    ensures { Tells result (row_if is_there (tell.unexpected_arguments place.now span)) out.old out.new }
+{
+    if is_there {
+        out.push(unexpected_arguments(alloc, place, span)?)
+    } else {
+        Ok(())
+    }
+}
+
+/// Tells of `arguments` in the value of a field.
+#[tactic(auto, using(check_context::proofs::Telling::telling))]
+fn tell_in_field(
+    alloc: Global,
+    span: Span,
+    child: AstKind<'_>,
+    parent: AstKind<'_>,
+    out: &mut Diagnostics,
+) -> Result<(), AllocError>
+    ensures { let link : Node × Node = (child.entry.node.now, parent.entry.node.now) in Tells result (row_if (rows.is_field_value link) (tell.unexpected_arguments (codes "class field initializer") span)) out.old out.new }
+{
+    let is_there = is_field_value(child, parent);
+    tell_arguments_if(alloc, is_there, "class field initializer", span, out)
+}
+
+/// Tells of `arguments` in a static block.
+#[tactic(auto, using(check_context::proofs::Telling::telling))]
+fn tell_in_block(
+    alloc: Global,
+    span: Span,
+    child: AstKind<'_>,
+    parent: AstKind<'_>,
+    out: &mut Diagnostics,
+) -> Result<(), AllocError>
+    ensures { let link : Node × Node = (child.entry.node.now, parent.entry.node.now) in Tells result (row_if (rows.is_static_block link) (tell.unexpected_arguments (codes "static initialization block") span)) out.old out.new }
+{
+    let _child = child;
+    let is_there = parent.ty() == AstType::StaticBlock;
+    tell_arguments_if(alloc, is_there, "static initialization block", span, out)
+}
+
+/// Tells of `arguments` in the value of a field or in a static block.
+#[tactic(auto, using(check_context::proofs::Telling::telling))]
+fn tell_arguments(
+    alloc: Global,
+    span: Span,
+    child: AstKind<'_>,
+    parent: AstKind<'_>,
+    out: &mut Diagnostics,
+) -> Result<(), AllocError>
+    ensures { let link : Node × Node = (child.entry.node.now, parent.entry.node.now) in Tells result (row_if (rows.is_field_value link) (tell.unexpected_arguments (codes "class field initializer") span) ++ row_if (rows.is_static_block link) (tell.unexpected_arguments (codes "static initialization block") span)) out.old out.new }
+{
+    tell_in_field(alloc, span, child, parent, out)?;
+    tell_in_block(alloc, span, child, parent, out)
+}
+
+/// Tells of `arguments` in a place that has none, going outward.
+#[tactic(auto, using(check_context::proofs::Telling::telling))]
+fn tell_owner<'a>(
+    alloc: Global,
+    kind: AstKind<'a>,
+    ctx: &CheckContext<'a, '_>,
+    out: &mut Diagnostics,
+) -> Result<(), AllocError>
+    requires { IsContext ctx.now }
+    ensures { Tells result (rows.arguments_rows (sight kind.entry.node.now ctx.now)) out.old out.new }
+{
+    match owner_of_arguments(kind, ctx) {
+        Some((child, parent)) => tell_arguments(alloc, kind.span(), child, parent, out),
+        None => Ok(()),
+    }
+}
+
+/// Tells of a reference that is called `arguments`.
+#[tactic(auto, using(check_context::proofs::Telling::telling))]
+fn tell_if_arguments<'a>(
+    alloc: Global,
+    kind: AstKind<'a>,
+    ctx: &CheckContext<'a, '_>,
+    out: &mut Diagnostics,
+) -> Result<(), AllocError>
+    requires { IsContext ctx.now }
+    ensures { let s = sight kind.entry.node.now ctx.now in Tells result (rows_if (bytes_eq s.node.text (codes "arguments")) (rows.arguments_rows s)) out.old out.new }
+{
+    if reads(kind, "arguments") {
+        tell_owner(alloc, kind, ctx, out)
+    } else {
+        Ok(())
+    }
+}
+
+/// Strict code doesn't write to `eval` and `arguments` (ECMAScript 13.1.3, 13.15.1), and fields and static blocks have
+/// no `arguments` (15.7.1, ContainsArguments), except in a definition file.
+#[tactic(auto, using(check_context::proofs::Telling::telling))]
+pub fn check_identifier_reference<'a>(
+    alloc: Global,
+    kind: AstKind<'a>,
+    ctx: &CheckContext<'a, '_>,
+    out: &mut Diagnostics,
+) -> Result<(), AllocError>
+    requires { IsContext ctx.now }
+    ensures { Tells result (rows.check_identifier_reference (sight kind.entry.node.now ctx.now)) out.old out.new }
+{
+    if ctx.source_type.is_typescript_definition() {
+        Ok(())
+    } else if is_bad_write(kind, ctx) {
+        tell_assignment(alloc, kind, ctx, out)
+    } else {
+        tell_if_arguments(alloc, kind, ctx, out)
+    }
+}

@@ -1,0 +1,2 @@
+pub mod UnderLabels
+pub mod LoopNames

@@ -1,0 +1,133 @@
+//! Early errors of functions that stand as bodies of statements, and of `with`.
+ghost use Rattle.std.specs.Prelude.{◌≡◌, not, option_map, find};
+ghost use Rattle.semantic_kinds.specs.declared.kind.AstType.TheVariants as kinds;
+ghost use Rattle.semantic_tree.specs.ChildIter.{shown};
+ghost use Rattle.semantic_tree.specs.Views.{is_kind};
+ghost use Rattle.node_store.specs.PathLeft.{path_left};
+ghost use Rattle.check_model.specs.Bodies as rows;
+ghost use Rattle.check_context.specs.Handed.{around, sight, IsContext, IsHanded};
+ghost use Rattle.check_context.specs.Tells.{Tells};
+
+use check_context::{CheckContext, first_bytes};
+use node_rules::questions::reads;
+use node_store::AncestorKinds;
+use semantic_diagnostics::Diagnostics;
+use semantic_diagnostics::makers::{
+    function_declaration_non_strict, function_declaration_strict, with_statement,
+};
+use semantic_tree::{AstKind, AstType};
+use std::alloc::{AllocError, Global};
+
+/// Whether the node is a function that is declared.
+fn is_declared_function(kind: AstKind<'_>) -> bool
+    ensures { result ≡ rows.is_declared_function kind.entry.node.now }
+{
+    kind.ty() == AstType::Function && (reads(kind, "declaration") || reads(kind, "ts-declare"))
+}
+
+/// A declared function is no body of a statement, except under `if` in sloppy code (ECMAScript 14.6, 14.7, Annex
+/// B.3.3). The node is the body, and the context that of its statement.
+#[tactic(auto, using(check_context::proofs::Telling::telling))]
+pub fn check_function_declaration<'a>(
+    alloc: Global,
+    kind: AstKind<'a>,
+    under_if: bool,
+    ctx: &CheckContext<'a, '_>,
+    out: &mut Diagnostics,
+) -> Result<(), AllocError>
+    requires { IsContext ctx.now }
+    ensures { Tells result (rows.check_function_declaration kind.entry.node.now under_if (around ctx.now)) out.old out.new }
+{
+    if !is_declared_function(kind) {
+        return Ok(());
+    }
+    if ctx.is_strict() {
+        return out.push(function_declaration_strict(alloc, kind.span())?);
+    }
+    if under_if {
+        return Ok(());
+    }
+    out.push(function_declaration_non_strict(alloc, kind.span())?)
+}
+
+/// Whether nodes of the kind are statements with a body that is no block of its own.
+fn has_single_body(kind: AstKind<'_>) -> bool
+    ensures { result ≡ rows.has_single_body kind.entry.node.now.kind }
+{
+    matches!(kind.ty(), AstType::WithStatement | AstType::IfStatement)
+        || kind.is_iteration_statement()
+}
+
+/// The first node of a path that is no label.
+fn first_unlabelled<'a>(above: AncestorKinds<'_, 'a>) -> Option<AstKind<'a>>
+    ensures { option_map shown result ≡ find (λ node. not (is_kind kinds.LabeledStatement node)) (path_left above.entry) }
+{
+    let mut left = above;
+    while let Some(kind) = left.next() {
+        if kind.ty() != AstType::LabeledStatement {
+            return Some(kind);
+        }
+    }
+    None
+}
+
+/// Whether a labelled statement is, outside its labels, the body of a loop, a `with` or an `if`.
+fn is_single_body(ctx: &CheckContext<'_, '_>) -> bool
+    requires { IsContext ctx.now }
+    ensures { result ≡ rows.is_single_body (around ctx.now) }
+{
+    match first_unlabelled(ctx.above()) {
+        Some(outer) => has_single_body(outer),
+        None => false,
+    }
+}
+
+/// A declared function has a label only in sloppy code, and not as a body of a statement (ECMAScript 14.13.1, Annex
+/// B.3.1). The node is the body, and the context that of its label.
+#[tactic(auto, using(check_context::proofs::Telling::telling))]
+pub fn check_function_declaration_in_labeled_statement<'a>(
+    alloc: Global,
+    kind: AstKind<'a>,
+    ctx: &CheckContext<'a, '_>,
+    out: &mut Diagnostics,
+) -> Result<(), AllocError>
+    requires { IsContext ctx.now }
+    ensures { Tells result (rows.check_function_declaration_in_labeled_statement kind.entry.node.now (around ctx.now)) out.old out.new }
+{
+    if !is_declared_function(kind) {
+        return Ok(());
+    }
+    if ctx.is_strict() {
+        return out.push(function_declaration_strict(alloc, kind.span())?);
+    }
+    if is_single_body(ctx) {
+        return out.push(function_declaration_non_strict(alloc, kind.span())?);
+    }
+    Ok(())
+}
+
+/// Neither strict code nor TypeScript has `with` (ECMAScript 14.11.1, TypeScript 2410).
+#[tactic(auto, using(check_context::proofs::Telling::telling))]
+pub fn check_with_statement<'a>(
+    alloc: Global,
+    kind: AstKind<'a>,
+    ctx: &CheckContext<'a, '_>,
+    out: &mut Diagnostics,
+) -> Result<(), AllocError>
+    requires { IsHanded kind.node.now ctx.now }
+    ensures { Tells result (rows.check_with_statement (sight kind.entry.node.now ctx.now)) out.old out.new }
+{
+    if ctx.is_strict() || ctx.source_type.is_typescript() {
+        out.push(with_statement(alloc, first_bytes(4, kind.span()))?)
+    } else {
+        Ok(())
+    }
+}
+
+/// Whether the node is a function that is declared as a branch of an `if` in sloppy code (ECMAScript, Annex B.3.3).
+pub fn is_function_decl_part_of_if_statement(kind: AstKind<'_>, ctx: &CheckContext<'_, '_>) -> bool
+    requires { IsContext ctx.now }
+    ensures { result ≡ rows.is_function_decl_part_of_if_statement (sight kind.entry.node.now ctx.now) }
+{
+    is_declared_function(kind) && !ctx.is_strict() && ctx.is_under(AstType::IfStatement)
+}

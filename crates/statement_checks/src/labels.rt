@@ -1,0 +1,96 @@
+//! Early errors of labels.
+ghost use Rattle.std.specs.Prelude.{◌≡◌, option_map};
+ghost use Rattle.semantic_kinds.specs.declared.role.Role.TheVariants as roles;
+ghost use Rattle.semantic_tree.specs.ChildIter.{shown};
+ghost use Rattle.semantic_tree.specs.Views.{has_text, whose};
+ghost use Rattle.node_store.specs.PathLeft.{path_left};
+ghost use Rattle.check_model.specs.Jumps as rows;
+ghost use Rattle.check_context.specs.Handed.{sight, IsContext};
+ghost use Rattle.check_context.specs.Tells.{Tells};
+
+use check_context::{CheckContext, is_same};
+use node_store::AncestorKinds;
+use semantic_diagnostics::Diagnostics;
+use semantic_diagnostics::makers::label_redeclaration;
+use semantic_tree::{AstKind, AstType, Role};
+use std::alloc::{AllocError, Global};
+
+/// Whether no jump leaves the node.
+pub(crate) fn is_boundary(kind: AstKind<'_>) -> bool
+    ensures { result ≡ rows.is_boundary kind.entry.node.now }
+{
+    matches!(
+        kind.ty(),
+        AstType::Function | AstType::ArrowFunctionExpression | AstType::StaticBlock
+    )
+}
+
+/// Whether the node has a label of the same text.
+fn has_label(label: AstKind<'_>, kind: AstKind<'_>) -> bool
+    ensures { result ≡ whose roles.Label (has_text label.entry.node.now.text) kind.entry.node.now }
+{
+    match kind.child(Role::Label) {
+        Some(own) => is_same(own, label),
+        None => false,
+    }
+}
+
+/// Whether the node is a statement of the label.
+pub(crate) fn is_labelled_by(label: AstKind<'_>, kind: AstKind<'_>) -> bool
+    ensures { result ≡ rows.is_labelled_by label.entry.node.now kind.entry.node.now }
+{
+    kind.ty() == AstType::LabeledStatement && has_label(label, kind)
+}
+
+/// The innermost statement of a path, in the same function, that has the label too.
+fn same_label_around<'a>(label: AstKind<'_>, above: AncestorKinds<'_, 'a>) -> Option<AstKind<'a>>
+    ensures { option_map shown result ≡ rows.same_label_around label.entry.node.now (path_left above.entry) }
+{
+    let mut left = above;
+    while let Some(kind) = left.next() {
+        if is_boundary(kind) {
+            return None;
+        }
+        if is_labelled_by(label, kind) {
+            return Some(kind);
+        }
+    }
+    None
+}
+
+/// Tells of a label that a statement around has too.
+#[tactic(auto, using(check_context::proofs::Telling::telling))]
+fn tell_same_label(
+    alloc: Global,
+    label: AstKind<'_>,
+    above: AncestorKinds<'_, '_>,
+    out: &mut Diagnostics,
+) -> Result<(), AllocError>
+    ensures { Tells result (rows.own_label_rows (path_left above.entry) label.entry.node.now) out.old out.new }
+{
+    let Some(outer) = same_label_around(label, above) else {
+        return Ok(());
+    };
+    let Some(first) = outer.child(Role::Label) else {
+        return Ok(());
+    };
+    let name = label.text();
+    out.push(label_redeclaration(alloc, name.as_str(), first.span(), label.span())?)
+}
+
+/// A label is new in its function, inside the labels around it (ECMAScript 14.13.1, ContainsDuplicateLabels).
+#[tactic(auto, using(check_context::proofs::Telling::telling))]
+pub fn check_labeled_statement<'a>(
+    alloc: Global,
+    kind: AstKind<'a>,
+    ctx: &CheckContext<'a, '_>,
+    out: &mut Diagnostics,
+) -> Result<(), AllocError>
+    requires { IsContext ctx.now }
+    ensures { Tells result (rows.check_labeled_statement (sight kind.entry.node.now ctx.now)) out.old out.new }
+{
+    match kind.child(Role::Label) {
+        Some(label) => tell_same_label(alloc, label, ctx.above(), out),
+        None => Ok(()),
+    }
+}
