@@ -175,6 +175,39 @@ fn the_line_on_a_refusal_is_lost(rt: HostRuntime) -> Result<(), Fail> {
     Ok(())
 }
 
+#[test]
+fn a_write_fails_behind_ten_bytes(rt: HostRuntime) -> Result<(), Fail> {
+    let alloc = rt.alloc();
+    let mut source = SureSource::new(Vec::from_slice(alloc, FUNCTION.as_bytes())?);
+    let mut out = MemorySink::new(alloc, 10, failing(alloc, 2)?);
+    let mut errs = SureSink::new(alloc);
+    let status = run(alloc, &[], &mut source, &mut out, &mut errs);
+    assert_eq!(rt; status, ReportStatus::Write);
+    assert_eq!(rt; out.held(), b"scope 0 pa".as_slice());
+    assert_eq!(rt; errs.held(), b"write failed\n".as_slice());
+    Ok(())
+}
+
+fn is_not_json(rt: &impl Abort, alloc: Global, input: &[u8]) -> Result<(), Fail> {
+    let mut source = SureSource::new(Vec::from_slice(alloc, input)?);
+    let mut out = SureSink::new(alloc);
+    let mut errs = SureSink::new(alloc);
+    let status = run(alloc, &[], &mut source, &mut out, &mut errs);
+    assert_eq!(rt; status, ReportStatus::Tree);
+    assert_eq!(rt; out.held(), b"".as_slice());
+    assert_eq!(rt; errs.held(), b"tree: not JSON\n".as_slice());
+    Ok(())
+}
+
+#[test]
+fn a_tree_cut_behind_any_byte_is_not_json(rt: HostRuntime) -> Result<(), Fail> {
+    let bytes = FUNCTION.as_bytes();
+    for end in 0..bytes.len() {
+        is_not_json(&rt, rt.alloc(), &bytes[..end])?;
+    }
+    Ok(())
+}
+
 // So many spaces.
 fn spaces(alloc: Global, count: usize) -> Result<ReportStatus, Fail> {
     let mut input = Vec::new(alloc);
