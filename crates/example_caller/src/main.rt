@@ -3,32 +3,59 @@
 //! name, and a reference goes. CALLING.md explains each step.
 #![tactic(auto)]
 
+ghost use Rattle.std.specs.Prelude.{◌<◌, length, IfSome};
+
 use scoping::Scoping;
-use semantic::{Semantic, SemanticBuilder, SemanticBuilderReturn};
+use semantic::{SemanticBuilder, SemanticBuilderReturn};
 use semantic_diagnostics::Diagnostics;
-use semantic_syntax::Ident;
+use semantic_syntax::{Ident, ScopeId, SymbolId};
+use semantic_tree::Program;
+use std::alloc::AllocError;
 use std::io::{self, Read};
 use tree_json::read_program;
 
-// The names that each scope binds. Scopes have numbers in order of opening, from the root, 0, on.
-fn print_scopes(rt: &HostRuntime, scoping: &Scoping) -> io::Result<()> {
-    for scope in scoping.scope_descendants_from_root() {
-        println!(rt; "scope {}", scope.index())?;
-        for (name, symbol) in scoping.get_bindings(scope).iter() {
-            println!(rt; "  binds {} to symbol {}", name.as_str(), symbol.index())?;
-        }
+// The names that a scope binds.
+fn print_scope(rt: &HostRuntime, scoping: &Scoping, scope: ScopeId) -> io::Result<()>
+    requires { scope < length scoping.now.scopes }
+{
+    println!(rt; "scope {}", scope.index())?;
+    for (name, symbol) in scoping.get_bindings(scope).iter() {
+        println!(rt; "  binds {} to symbol {}", name.as_str(), symbol.index())?;
     }
     Ok(())
 }
 
-// The symbols, where each is declared first, in bytes, and its uses.
+// Scopes have numbers in order of opening, from the root, 0, on.
+fn print_scopes(rt: &HostRuntime, scoping: &Scoping) -> io::Result<()> {
+    let count = scoping.scopes_len() as u32;
+    for number in 0..count {
+        print_scope(rt, scoping, ScopeId::new(number))?;
+    }
+    Ok(())
+}
+
+// A symbol, where it is declared first, in bytes, and the nodes that use it.
+fn print_symbol(rt: &HostRuntime, scoping: &Scoping, symbol: SymbolId) -> io::Result<()>
+    requires { symbol < length scoping.now.symbols }
+{
+    let name = scoping.symbol_name(symbol);
+    let span = scoping.symbol_span(symbol);
+    println!(rt;
+        "symbol {} {name} at {}-{}",
+        symbol.index(),
+        span.start,
+        span.end
+    )?;
+    for reference in scoping.get_resolved_references(symbol) {
+        println!(rt; "  used at node {}", reference.node_id().index())?;
+    }
+    Ok(())
+}
+
 fn print_symbols(rt: &HostRuntime, scoping: &Scoping) -> io::Result<()> {
-    for symbol in scoping.symbol_ids() {
-        let span = scoping.symbol_span(symbol);
-        println!(rt; "symbol {} {} at {}-{}", symbol.index(), scoping.symbol_name(symbol), span.start, span.end)?;
-        for reference in scoping.get_resolved_references(symbol) {
-            println!(rt; "  used at node {}", reference.node_id().index())?;
-        }
+    let count = scoping.symbols_len() as u32;
+    for number in 0..count {
+        print_symbol(rt, scoping, SymbolId::new(number))?;
     }
     Ok(())
 }
@@ -49,22 +76,35 @@ fn print_diagnostics(rt: &HostRuntime, diagnostics: &Diagnostics) -> io::Result<
     Ok(())
 }
 
-// Gives the root's binding of a name another name. Its references stay tied to the symbol.
-fn rename_at_root(scoping: &mut Scoping, old: &str, new: &str) -> io::Result<()> {
-    let root = scoping.root_scope_id();
-    if let Some(symbol) = scoping.get_root_binding(Ident::new(old)) {
-        scoping.rename_symbol(symbol, root, Ident::new(new))?;
+// The symbol that the root binds to a name. Tables without a root bind nothing.
+fn bound_at_root(scoping: &Scoping, name: &str) -> Option<SymbolId>
+    ensures { IfSome result (λ symbol. (0 < length scoping.now.scopes) × (symbol < length scoping.now.symbols)) }
+{
+    if scoping.scopes_is_empty() {
+        return None;
     }
-    Ok(())
+    match scoping.get_root_binding(Ident::new(name)) {
+        Some(symbol) if symbol.index() < scoping.symbols_len() => Some(symbol),
+        _ => None,
+    }
+}
+
+// Gives the root's binding of a name another name. Its references stay tied to the symbol.
+fn rename_at_root(scoping: &mut Scoping, old: &str, new: &str) -> Result<(), AllocError> {
+    match bound_at_root(scoping, old) {
+        Some(symbol) => scoping.rename_symbol(symbol, ScopeId::new(0), Ident::new(new)),
+        None => Ok(()),
+    }
 }
 
 // Takes the first use of the root's binding of a name out of the tables, as after it was removed from the tree.
 fn delete_first_use(scoping: &mut Scoping, name: &str) {
-    let Some(symbol) = scoping.get_root_binding(Ident::new(name)) else {
+    let Some(symbol) = bound_at_root(scoping, name) else {
         return;
     };
-    if let Some(reference) = scoping.get_resolved_reference_ids(symbol).first() {
-        scoping.delete_resolved_reference(symbol, *reference);
+    let first = scoping.get_resolved_reference_ids(symbol).first().copied();
+    if let Some(reference) = first {
+        scoping.delete_resolved_reference(symbol, reference);
     }
 }
 
@@ -76,23 +116,44 @@ fn print_tables(rt: &HostRuntime, found: &SemanticBuilderReturn<'_>) -> io::Resu
 }
 
 // Edits the tables alone: the tree stays as it is.
-fn print_edited(rt: &HostRuntime, semantic: Semantic<'_>) -> io::Result<()> {
-    let mut scoping = semantic.into_scoping();
-    rename_at_root(&mut scoping, "a", "count")?;
-    delete_first_use(&mut scoping, "f");
+fn edit(scoping: &mut Scoping) -> Result<(), AllocError> {
+    rename_at_root(scoping, "a", "count")?;
+    delete_first_use(scoping, "f");
+    Ok(())
+}
+
+fn print_edited(rt: &HostRuntime, scoping: &mut Scoping) -> io::Result<()> {
+    edit(scoping)?;
     println!(rt; "edited")?;
-    print_symbols(rt, &scoping)
+    print_symbols(rt, scoping)
+}
+
+// The analysis is taken apart at one place, so that it is proved once that all of it is let go.
+fn print_analysis(rt: &HostRuntime, found: SemanticBuilderReturn<'_>) -> io::Result<()> {
+    let printed = print_tables(rt, &found);
+    let mut scoping = found.semantic.into_scoping();
+    match printed {
+        Ok(()) => print_edited(rt, &mut scoping),
+        Err(error) => Err(error),
+    }
+}
+
+fn print_program(rt: &HostRuntime, program: &Program) -> io::Result<()> {
+    match SemanticBuilder::new().build(rt.alloc(), program) {
+        Ok(found) => print_analysis(rt, found),
+        Err(error) => Err(error.into()),
+    }
+}
+
+fn print_tree(rt: &HostRuntime, bytes: &[u8]) -> io::Result<()> {
+    match read_program(rt.alloc(), bytes) {
+        Ok(program) => print_program(rt, &program),
+        Err(_) => println!(rt; "no tree of a program"),
+    }
 }
 
 fn main(rt: HostRuntime) -> io::Result<()> {
     let mut bytes = Vec::new(rt.alloc());
     rt.stdin().read_to_end(&mut bytes)?;
-    match read_program(rt.alloc(), bytes.as_slice()) {
-        Ok(program) => {
-            let found = SemanticBuilder::new().build(rt.alloc(), &program)?;
-            print_tables(&rt, &found)?;
-            print_edited(&rt, found.semantic)
-        }
-        Err(_) => println!(rt; "no tree of a program"),
-    }
+    print_tree(&rt, bytes.as_slice())
 }
