@@ -67,6 +67,29 @@ parameters_with_functions() {
     }' "$1"
 }
 
+# class C { #a0 = this.#a0; #a1 = this.#a1; .. }
+private_names() {
+    awk -v count="$1" '
+    function row(depth, role, kind, text) {
+        printf ",[%d,\"%s\",\"%s\",0,0,\"%s\",[]]", depth, role, kind, text
+    }
+    BEGIN {
+        printf "{\"comments\":[],\"format\":1,\"goal\":\"script\",\"lang\":\"js\",\"source\":\"\""
+        printf ",\"rows\":[[0,\"root\",\"Program\",0,0,\"\",[]]"
+        row(1, "body", "Class", "declaration")
+        row(2, "id", "BindingIdentifier", "C")
+        row(2, "body", "ClassBody", "")
+        for (i = 0; i < count; i++) {
+            row(3, "body", "PropertyDefinition", "")
+            row(4, "key", "PrivateIdentifier", "a" i)
+            row(4, "value", "PrivateFieldExpression", "")
+            row(5, "object", "ThisExpression", "")
+            row(5, "field", "PrivateIdentifier", "a" i)
+        }
+        printf "]}"
+    }'
+}
+
 # The least of three times of the report of a tree, in milliseconds.
 time_of() {
     "$1" "$2" >"$scratch/tree"
@@ -80,7 +103,7 @@ time_of() {
     sort -n "$scratch/times" | head -n 1
 }
 
-[ $# -gt 0 ] || set -- parameters_plain parameters_with_defaults parameters_in_patterns parameters_with_functions
+[ $# -gt 0 ] || set -- parameters_plain parameters_with_defaults parameters_in_patterns parameters_with_functions private_names
 [ -n "${REPORT:-}" ] || "$report" </dev/null >/dev/null 2>&1 || true
 for family; do
     small="$(time_of "$family" "$size")"

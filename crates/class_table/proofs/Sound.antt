@@ -1,5 +1,5 @@
 -- What each change of the lists leaves true.
-use Rattle.std.proofs.Common.{◌≡◌, ℕ, ◌+◌, ◌-◌, ◌^◌, ◌<◌, ◌≤◌, List, [], ◌∷◌, ◌++◌, length, Option, None, Some, IfSome, option_map, ◌∙◌, arith, length-append}
+use Rattle.std.proofs.Common.{◌≡◌, ℕ, ◌+◌, ◌-◌, ◌^◌, ◌<◌, ◌≤◌, List, [], ◌∷◌, ◌++◌, length, Option, None, Some, IfSome, option_map, refl, ◌∙◌, arith, length-append}
 use Rattle.std.specs.List.{AllByRecursion}
 use Rattle.std.specs.Option.{option_to_list}
 use Rattle.std.proofs.Math.ListN.{length-set}
@@ -50,6 +50,11 @@ pub sound_made : (lists : ClassLists) (parent : Option ℕ) (node : ℕ) (es : L
     → IsClassLists lists → length lists.nodes < 2 ^ 32 - 1 → length es ≤ 2 ^ 32 - 1 → IfSome parent (λ p. p < length lists.nodes)
     → IsClassLists (record { parents = parents; nodes = nodes; elements = elements; uses = uses })
 sound_made lists parent node es parents nodes elements uses a b c d h room fits within = rw (a, b, c, d) (sound_with_class lists parent node es h room fits within)
+
+pub made_is : (lists : ClassLists) (parent : Option ℕ) (node : ℕ) (es : List Element) (parents : List (ℕ × ℕ)) (nodes : List ℕ) (elements : List (List Element)) (uses : List (List PrivateUse))
+    → parents ≡ lists.parents ++ option_to_list (option_map (λ p. (length lists.nodes, p)) parent) → nodes ≡ lists.nodes ++ node ∷ [] → elements ≡ lists.elements ++ es ∷ [] → uses ≡ lists.uses ++ [] ∷ []
+    → (let made : ClassLists = record { parents = parents; nodes = nodes; elements = elements; uses = uses } in made ≡ with_class lists parent node es)
+made_is lists parent node es parents nodes elements uses a b c d = rw (a, b, c, d) refl
 
 -- each class has an id for each of its elements
 pub elements_fit : (lists : ClassLists) (c : ℕ) → IsClassLists lists → c < length lists.nodes → length (elements_in lists c) ≤ 2 ^ 32 - 1

@@ -1,5 +1,5 @@
 -- A class stays current until its node is left: by the shape nothing comes between that and the end of its body.
-use Rattle.std.proofs.Common.{◌≡◌, ℕ, ◌+◌, List, [], ◌∷◌, ◌++◌, Bool, true, false, ◌&&◌, not, cond, Option, None, Some, length, refl, sym, ap, subst, ◌∙◌, arith, inl, inr}
+use Rattle.std.proofs.Common.{◌≡◌, ℕ, ◌+◌, Bool, true, false, ◌&&◌, not, cond, Option, Some, length, refl, sym, ap, ◌∙◌, arith, inl, inr}
 use Rattle.std.proofs.lemmas.Bool.{cases_Bool}
 use Rattle.semantic_kinds.specs.Kinds.{same_kind}
 use Rattle.semantic_kinds.specs.declared.kind.AstType.{AstType}
@@ -15,7 +15,7 @@ use Rattle.class_table.specs.Bodies.{is_nothing, ends_with_body, has_no_body, en
 use Rattle.class_table.specs.Told.{told, FitCurrent, current_elements}
 use Rattle.class_table.specs.declared.builder.ClassTableBuilder.{ClassTableBuilder}
 use Rattle.class_table.proofs.Telling.{told_nothing}
-use Rattle.class_table.proofs.Noting.{left_body, noted_bodies, told_tree, tree_open, left_again, tree_length, tree_joined, fits_tree, notes}
+use Rattle.class_table.proofs.Noting.{left_body, noted_bodies, told_tree, tree_open, tree_length, tree_joined, fits_tree, notes}
 
 -- behind a class both walks are the same; among its children the one has to be popped yet
 abbrev pub Agrees : Forest → Type 0

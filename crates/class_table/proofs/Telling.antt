@@ -1,14 +1,13 @@
 -- Lists with some uses more in the current class, and some classes more.
 use Rattle.std.proofs.Common.{◌≡◌, ℕ, ◌+◌, ◌<◌, List, [], ◌∷◌, ◌++◌, Option, None, Some, IfSome, length, map, get_or, refl, sym, ap, ◌∙◌, arith, append_assoc, length-append, add-zero}
 use Rattle.std.specs.Prelude.{option_map}
-use Rattle.std.specs.List.{AllByRecursion}
-use Rattle.std.specs.Option.{option_to_list, option_map_or}
+use Rattle.std.specs.Option.{option_to_list}
 use Rattle.std.proofs.Math.ListN.{set, length-set}
 use Rattle.std.proofs.lemmas.List.{map-append, append-nil, set-append_left, set-set, get_or-set_same, get_or_append_left, set-get_or, length-map}
 use Rattle.semantic_model.specs.Element.{Element}
 use Rattle.semantic_model.specs.Class.{Class, PrivateUse}
 use Rattle.class_table.specs.Lists.{ClassLists, with_class, with_use, elements_in}
-use Rattle.class_table.specs.Told.{parents_from, with_uses, told, FitCurrent, current_elements}
+use Rattle.class_table.specs.Told.{parents_from, with_uses, told, FitCurrent}
 
 parents_append : (n : ℕ) (cs ds : List Class) → parents_from n (cs ++ ds) ≡ parents_from n cs ++ parents_from (n + length cs) ds
 parents_append n [] ds = ap (λ m. parents_from m ds) (sym (add-zero n))

@@ -1,5 +1,6 @@
 pub mod Seen
 pub mod Lists
+pub mod Meanings
 pub mod View
 pub mod Outward
 pub mod Building

@@ -1,11 +1,10 @@
 //! The elements of classes.
 ghost use Rattle.std.specs.Prelude.{◌≡◌};
-ghost use Rattle.std.specs.Str.{chars};
 ghost use Rattle.semantic_tree.specs.NameView.{name_shown};
-ghost use Rattle.semantic_model.specs.Element.{is_named, stands_alone};
+ghost use Rattle.semantic_model.specs.Element.{stands_alone};
 ghost use Rattle.class_table.specs.Seen.{element_seen};
 
-use semantic_syntax::{ElementKind, Ident, Span};
+use semantic_syntax::{ElementKind, Span};
 use semantic_tree::StaticPropertyName;
 
 /// An element of a class: a method, a property or an accessor.
@@ -40,14 +39,6 @@ impl<'a> Element<'a> {
             is_static,
             kind,
         }
-    }
-
-    /// Whether it has the name, as a private or as a public one.
-    #[tactic(auto, using(semantic_tree::proofs::SameTexts::texts))]
-    pub(crate) fn is_named(&self, name: Ident<'_>, is_private: bool) -> bool
-        ensures { result ≡ is_named (chars name.entry.text.now) is_private (element_seen self.now) }
-    {
-        self.name.as_str() == name.as_str() && self.is_private == is_private
     }
 
     /// Whether its name means it alone: an accessor or a property has no second half.

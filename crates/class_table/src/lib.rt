@@ -8,6 +8,7 @@ pub mod element_ids;
 pub mod iterators;
 pub mod laws;
 mod making;
+mod meant_names;
 pub mod private_name;
 pub mod table;
 mod walking;

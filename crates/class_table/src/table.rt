@@ -6,14 +6,16 @@ ghost use Rattle.std.specs.Str.{chars};
 ghost use Rattle.semantic_model.specs.Element.{is_named, element_ids};
 ghost use Rattle.class_table.specs.Seen.{element_seen, use_seen};
 ghost use Rattle.class_table.specs.Lists.{IsInside, no_classes, with_class, with_element, with_use, elements_in, uses_in};
+ghost use Rattle.class_table.specs.Meanings.{put};
 ghost use Rattle.class_table.specs.Outward.{parent_in, outward};
 
 use crate::ancestors::{ClassAncestors, parent_of};
 use crate::element::Element;
 use crate::element_ids::ElementIds;
 use crate::iterators::{ClassesEnumerated, PrivateUses};
+use crate::meant_names::MeantNames;
 use crate::private_name::PrivateIdentifierReference;
-use semantic_syntax::{ClassId, ElementId, Ident, NodeId};
+use semantic_syntax::{ClassId, Ident, NodeId};
 use std::alloc::{AllocError, Global};
 use std::collections::BTreeMap;
 use std::marker::Model;
@@ -29,18 +31,20 @@ pub struct ClassTable<'a> {
     pub elements: Vec<Vec<Element<'a>>>,
     /// The uses of private names in each class, without those in classes inside it.
     pub private_identifier_references: Vec<Vec<PrivateIdentifierReference<'a>>>,
+    /// What each name means among the elements of each class.
+    names: Vec<MeantNames<'a>>,
 }
 
 impl<'a> Model for ClassTable<'a> {
-    ghost use Rattle.class_table.specs.Lists.{ClassLists, IsClassLists};
+    ghost use Rattle.class_table.specs.Lists.{ClassLists};
 
     ghost Value = { ClassLists };
 
-    ghost use Rattle.class_table.specs.View.{lists_of};
+    ghost use Rattle.class_table.specs.View.{lists_of, IsClassTable};
 
     ghost view = { lists_of };
 
-    ghost invariant = { λ a. IsClassLists (lists_of a) };
+    ghost invariant = { IsClassTable };
 }
 
 impl<'a> ClassTable<'a> {
@@ -53,6 +57,7 @@ impl<'a> ClassTable<'a> {
             declarations: Vec::new(alloc),
             elements: Vec::new(alloc),
             private_identifier_references: Vec::new(alloc),
+            names: Vec::new(alloc),
         }
     }
 
@@ -117,7 +122,6 @@ impl<'a> ClassTable<'a> {
 
     /// The elements of the class that the name means, as a private or as a public one: the first match alone where it
     /// is an accessor or a property, else the matches up to and including the first accessor or property, at most two.
-    #[tactic(auto, using(crate::proofs::Matches::ids_within))]
     pub fn get_element_ids(
         &self,
         alloc: Global,
@@ -129,7 +133,7 @@ impl<'a> ClassTable<'a> {
         ensures ids { IfOk result (λ ids. ids ≡ element_ids (elements_in self.now c) (chars name.entry.text.now) is_private) }
         ensures within { IfOk result (AllByRecursion (λ i. i < length (elements_in self.now c))) }
     {
-        ids_of_name(alloc, self.elements_of(c), name, is_private)
+        self.names[c.index()].ids_meant(alloc, name, is_private)
     }
 
     /// Whether the class itself has a private element of the name.
@@ -137,12 +141,7 @@ impl<'a> ClassTable<'a> {
         requires { c < length self.now.nodes }
         ensures { result ≡ list_any (is_named (chars name.entry.text.now) true) (elements_in self.now c) }
     {
-        for element in self.elements_of(c) {
-            if element.is_named(name, true) {
-                return true;
-            }
-        }
-        false
+        self.names[c.index()].has(name, true)
     }
 
     /// Adds a class with this node, inside another one or inside none, without elements and uses. After want of
@@ -178,13 +177,16 @@ impl<'a> ClassTable<'a> {
     {
         let alloc = self.allocator();
         let id = ClassId::new(self.declarations.len() as u32);
+        let names = MeantNames::of(alloc, elements.as_slice())?;
         self.declarations.reserve(1)?;
         self.elements.reserve(1)?;
         self.private_identifier_references.reserve(1)?;
+        self.names.reserve(1)?;
         put_inside(&mut self.parent_ids, id, parent)?;
         push_in_room(&mut self.declarations, node);
         push_in_room(&mut self.elements, elements);
         push_in_room(&mut self.private_identifier_references, Vec::new(alloc));
+        push_in_room(&mut self.names, names);
         Ok(id)
     }
 
@@ -195,7 +197,11 @@ impl<'a> ClassTable<'a> {
         ensures ok { OnOk result (self.new ≡ with_element self.old c (element_seen element.entry)) }
         ensures err { OnErr result (self.new ≡ self.old) }
     {
-        self.elements[c.index()].push(element)?;
+        push_named(
+            &mut self.elements[c.index()],
+            &mut self.names[c.index()],
+            element,
+        )?;
         Ok(())
     }
 
@@ -238,24 +244,20 @@ fn push_in_room<T: Drop>(list: &mut Vec<T>, value: T)
     let _ = list.push(value);
 }
 
-/// The elements that the name means, by one pass.
-fn ids_of_name(
-    alloc: Global,
-    elements: &[Element<'_>],
-    name: Ident<'_>,
-    is_private: bool,
-) -> Result<ElementIds, AllocError>
-    requires { length elements.now ≤ u32.MAX }
-    ensures { IfOk result (λ ids. ids ≡ element_ids (map element_seen elements.now) (chars name.entry.text.now) is_private) }
+/// Adds an element as the last one, and to the names as well. After want of memory both are as before.
+fn push_named<'a>(
+    elements: &mut Vec<Element<'a>>,
+    names: &mut MeantNames<'a>,
+    element: Element<'a>,
+) -> Result<(), AllocError>
+    requires { length elements.old.items < u32.MAX }
+    ensures elements { OnOk result (elements.new.items ≡ elements.old.items ++ element.entry ∷ []) }
+    ensures names { OnOk result (names.new ≡ put names.old (length elements.old.items) (element_seen element.entry)) }
+    ensures elements_stay { OnErr result (elements.new.items ≡ elements.old.items) }
+    ensures names_stay { OnErr result (names.new ≡ names.old) }
 {
-    let mut ids = ElementIds::new(alloc);
-    for (number, element) in elements.iter().enumerate() {
-        if element.is_named(name, is_private) {
-            ids.push(ElementId::new(number as u32))?;
-            if ids.len() == 2 || element.stands_alone() {
-                return Ok(ids);
-            }
-        }
-    }
-    Ok(ids)
+    elements.reserve(1)?;
+    names.put(elements.len() as u32, &element)?;
+    push_in_room(elements, element);
+    Ok(())
 }

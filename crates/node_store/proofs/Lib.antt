@@ -4,3 +4,4 @@ pub mod KindOrder
 pub mod Paths
 pub mod Rests
 pub mod Ways
+pub mod Walking

@@ -4,7 +4,7 @@ use Rattle.std.proofs.lemmas.Option.{slice_get-get_or}
 use Rattle.node_store.specs.NodeList.{NodeList, SeenNode}
 use Rattle.node_store.specs.PathIn.{path_in}
 
-some_first : (nodes : List SeenNode) → 0 < length nodes → SeenNode
+pub some_first : (nodes : List SeenNode) → 0 < length nodes → SeenNode
 some_first [] h = absurd (omega arith)
 some_first (s ∷ ss) h = s
 

@@ -9,7 +9,7 @@ use Rattle.node_store.specs.NodeList.{StandBefore}
 use Rattle.node_store.specs.Outward.{outward_within, outward, outward_from, above, parent_above, numbered_of, EndsAtRoot}
 
 -- more steps than a node has before it make no difference
-enough : (parents : List ℕ) → StandBefore parents → (a b n : ℕ) → n < length parents → n < a → n < b → outward_within a parents n ≡ outward_within b parents n
+pub enough : (parents : List ℕ) → StandBefore parents → (a b n : ℕ) → n < length parents → n < a → n < b → outward_within a parents n ≡ outward_within b parents n
 enough parents before zero b n h ha hb = absurd (omega arith)
 enough parents before (suc a) zero n h ha hb = absurd (omega arith)
 enough parents before (suc a) (suc b) zero h ha hb = refl

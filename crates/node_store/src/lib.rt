@@ -7,7 +7,6 @@ pub mod ancestors;
 pub mod ancestry;
 pub mod ast_node;
 pub mod bitset;
-pub mod entered;
 mod frame_kinds;
 mod held_kinds;
 pub mod node_iter;
@@ -23,7 +22,6 @@ pub use ancestors::{
 pub use ancestry::Ancestry;
 pub use ast_node::AstNode;
 pub use bitset::{AstTypesBitset, AstTypesIter};
-pub use entered::EnteredNodes;
 pub use node_iter::{AstNodesEnumerated, AstNodesIter};
 pub use nodes::AstNodes;
 pub use stack::AncestryStack;

@@ -1,7 +1,8 @@
 //! The store of all nodes of a program.
-ghost use Rattle.std.specs.Prelude.{◌≡◌, ◌-◌, ◌<◌, ◌≤◌, ◌==◌, [], Some, OnOk, OnErr, length, slice_get, slice_index, slice_set};
+ghost use Rattle.std.specs.Prelude.{◌≡◌, ◌-◌, ◌<◌, ◌≤◌, ◌==◌, [], ◌∷◌, Some, OnOk, OnErr, length, drop, slice_get, slice_index, slice_set};
 ghost use Rattle.semantic_kinds.specs.declared.kind.AstType.TheVariants.{Program};
 ghost use Rattle.node_store.specs.Seen.{seen};
+ghost use Rattle.node_store.specs.Entered.{no_flags};
 ghost use Rattle.node_store.specs.NodeList.{node_at, no_nodes, with_node};
 ghost use Rattle.node_store.specs.Lending.{LendsFlags};
 ghost use Rattle.std.specs.Borrow.{sem};
@@ -99,7 +100,7 @@ impl<'a> AstNodes<'a> {
     }
 
     /// The parent of a node, or the root where there is no such node.
-    pub(crate) fn parent_or_root(&self, n: NodeId) -> NodeId
+    fn parent_or_root(&self, n: NodeId) -> NodeId
         ensures parent { result ≡ slice_index self.now.parents n }
         ensures before { result ≤ n - 1 }
     {
@@ -107,6 +108,17 @@ impl<'a> AstNodes<'a> {
             Some(parent) => *parent,
             None => NodeId::ROOT,
         }
+    }
+
+    /// Where a walk stands that goes back from a node: at its parent, or at the root still.
+    pub(crate) fn back_from(&self, n: NodeId) -> NodeId
+        requires { n ≤ length self.now.nodes - 1 }
+        ensures parent { result ≡ slice_index self.now.parents n }
+        ensures within { result ≤ length self.now.nodes - 1 }
+        ensures path { 1 < length (path_in self.now n) → path_in self.now result ≡ drop 1 (path_in self.now n) }
+    {
+        let _count = self.nodes.len();
+        self.parent_or_root(n)
     }
 
     /// The view of the parent of a node; that of the root is the root.
@@ -279,8 +291,27 @@ impl<'a> AstNodes<'a> {
         self.push(n, kind, scope, parent, flags)
     }
 
+    /// Adds a node under the next id below the one where a walk stands; the root is its own parent. For want of memory
+    /// the nodes are as before.
+    pub(crate) fn push_below(
+        &mut self,
+        n: NodeId,
+        kind: AstKind<'a>,
+        scope: ScopeId,
+        parent: NodeId,
+    ) -> Result<(), AllocError>
+        requires next { n ≡ length self.old.nodes }
+        requires within { parent ≤ length self.old.nodes - 1 }
+        ensures ok { OnOk result (self.new ≡ with_node self.old kind.entry.node.now n scope parent no_flags) }
+        ensures err { OnErr result (self.new ≡ self.old) }
+        ensures path { OnOk result (path_in self.new n ≡ kind.entry.node.now ∷ path_in self.old parent) }
+    {
+        let _count = self.nodes.len();
+        self.push(n, kind, scope, parent, NodeFlags::empty())
+    }
+
     /// Adds a node under the next id. For want of memory the nodes are as before.
-    pub(crate) fn push(
+    fn push(
         &mut self,
         n: NodeId,
         kind: AstKind<'a>,

@@ -1,12 +1,16 @@
 //! What a walk keeps of the nodes: all of them, or the path to the current one.
-ghost use Rattle.std.specs.Prelude.{◌≡◌, ◌+◌, ◌<◌, []};
+ghost use Rattle.std.specs.Prelude.{◌≡◌, ◌+◌, ◌<◌, [], ◌∷◌, OnOk, OnErr, length, drop, option_map};
+ghost use Rattle.node_store.specs.Entered.{entering, leaving};
+ghost use Rattle.node_store.specs.PathLeft.{path_left};
 ghost use Rattle.node_store.specs.PathOf.{path_of};
-ghost use Rattle.node_store.specs.Store.{IsKept, path_kept, nodes_kept, emptied};
+ghost use Rattle.node_store.specs.Store.{IsKept, IsCounted, Stands, path_kept, path_to, nodes_kept, emptied, entered_kept, entered_in, kept_with, kept_behind, back_from, after_entering, after_leaving};
 
+use crate::ancestor_kinds::AncestorKinds;
 use crate::ancestry::Ancestry;
 use crate::nodes::AstNodes;
 use crate::stack::AncestryStack;
-use semantic_syntax::NodeId;
+use semantic_syntax::{NodeId, ScopeId};
+use semantic_tree::view::AstKind;
 use std::alloc::{AllocError, Global};
 
 /// What is kept.
@@ -34,6 +38,42 @@ impl<'a> AstNodeStoreKind<'a> {
         match self {
             AstNodeStoreKind::Full(nodes) => nodes.allocator(),
             AstNodeStoreKind::Ancestry(stack) => stack.allocator(),
+        }
+    }
+
+    /// Keeps the node of the next id, below the one at which the walk stands. For want of memory all is as before.
+    fn enter(
+        &mut self,
+        id: NodeId,
+        kind: AstKind<'a>,
+        scope: ScopeId,
+        parent: NodeId,
+    ) -> Result<(), AllocError>
+        requires { IsCounted parent id self.old }
+        ensures ok { OnOk result (self.new ≡ kept_with self.old kind.entry.node.now id scope parent) }
+        ensures err { OnErr result (self.new ≡ self.old) }
+        ensures path { OnOk result (path_kept id self.new ≡ kind.entry.node.now ∷ path_kept parent self.old) }
+    {
+        match self {
+            AstNodeStoreKind::Full(nodes) => nodes.push_below(id, kind, scope, parent),
+            AstNodeStoreKind::Ancestry(stack) => stack.push(kind),
+        }
+    }
+
+    /// Goes back from the node at which the walk stands, and gives the one where it stands then.
+    fn leave(&mut self, count: u32, from: NodeId) -> NodeId
+        requires { IsCounted from count self.old }
+        ensures back { result ≡ back_from from self.old }
+        ensures kept { self.new ≡ kept_behind self.old }
+        ensures path { 1 < length (path_kept from self.old) → path_kept result self.new ≡ drop 1 (path_kept from self.old) }
+        ensures stands { IsCounted result count self.new }
+    {
+        match self {
+            AstNodeStoreKind::Full(nodes) => nodes.back_from(from),
+            AstNodeStoreKind::Ancestry(stack) => {
+                stack.pop();
+                stack.current_node_id()
+            }
         }
     }
 }
@@ -87,6 +127,50 @@ impl<'a> AstNodeStore<'a> {
         match &mut self.kind {
             AstNodeStoreKind::Full(nodes) => nodes.reserve(n),
             AstNodeStoreKind::Ancestry(_) => Ok(()),
+        }
+    }
+
+    /// A walk enters a node, which stands in the scope, and stands at it then. The node gets the next id, and in a full
+    /// store the one where the walk stood as its parent; the root is its own. That the ids are used up is told as want
+    /// of memory; a program has no more nodes than there are ids. For want of memory all is as before.
+    pub fn enter(&mut self, kind: AstKind<'a>, scope: ScopeId) -> Result<(), AllocError>
+        requires { Stands self.old }
+        ensures ok { OnOk result (self.new ≡ after_entering self.old kind.entry.node.now scope) }
+        ensures err { OnErr result (self.new ≡ self.old) }
+        ensures path { OnOk result (path_to self.new ≡ kind.entry.node.now ∷ path_to self.old) }
+        ensures entered { OnOk result (entered_in self.new ≡ option_map (λ e. entering e kind.entry.node.now scope) (entered_in self.old)) }
+        ensures stands { Stands self.new }
+    {
+        if self.count == u32::MAX {
+            return Err(AllocError);
+        }
+        let id = NodeId::new(self.count);
+        self.kind.enter(id, kind, scope, self.current_node_id)?;
+        self.current_node_id = id;
+        self.count += 1;
+        Ok(())
+    }
+
+    /// A walk leaves the node at which it stands: it stands at the parent again. Behind the root a full store stands at
+    /// the root still, and a path is empty.
+    pub fn leave(&mut self)
+        requires { Stands self.old }
+        ensures left { self.new ≡ after_leaving self.old }
+        ensures path { 1 < length (path_to self.old) → path_to self.new ≡ drop 1 (path_to self.old) }
+        ensures entered { entered_in self.new ≡ option_map leaving (entered_in self.old) }
+        ensures stands { Stands self.new }
+    {
+        self.current_node_id = self.kind.leave(self.count, self.current_node_id);
+    }
+
+    /// What the node at which the walk stands and those above it show, inner first.
+    pub fn outward(&self) -> AncestorKinds<'_, 'a>
+        requires { IsKept self.now.current_node_id self.now.kind }
+        ensures { path_left result ≡ path_to self.now }
+    {
+        match &self.kind {
+            AstNodeStoreKind::Full(nodes) => nodes.path(self.current_node_id),
+            AstNodeStoreKind::Ancestry(stack) => stack.outward(),
         }
     }
 

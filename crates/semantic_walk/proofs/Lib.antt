@@ -1,5 +1,6 @@
 pub mod Going
 pub mod MovedNames
+pub mod Turning
 pub mod Parents
 pub mod Beginning
 pub mod Opening

@@ -1,25 +1,10 @@
 -- The parent of the node that a walk visits.
-use Rattle.std.proofs.Common.{◌≡◌, ℕ, zero, suc, ◌+◌, ◌<◌, List, [], ◌∷◌, Bool, true, ◌&&◌, Option, Some, None, length, get_or, map, refl, sym, ap, ◌∙◌, arith}
+use Rattle.std.proofs.Common.{◌≡◌, ℕ, zero, suc, ◌+◌, ◌<◌, List, [], ◌∷◌, Bool, true, ◌&&◌, Some, None, length, get_or, map, refl, sym, ap, ◌∙◌, arith}
 use Rattle.semantic_kinds.specs.declared.kind.AstType.TheVariants as kind
-use Rattle.semantic_tree.specs.ChildIter.{shown}
-use Rattle.semantic_tree.specs.declared.view.AstKind.{AstKind}
 use Rattle.semantic_tree.specs.declared.node.Node.{Node}
 use Rattle.semantic_model.specs.Nodes.{is}
 use Rattle.semantic_model.specs.Names.{is_simple_list}
 use Rattle.semantic_walk.specs.Paths.{parent_in, is_marked, first_mark}
-
-pub parent_found : (ks : List AstKind) (n : ℕ) (k : AstKind) → length ks ≡ n + 2 → k ≡ get_or ks n k → shown k ∷ [] ≡ parent_in (map shown ks)
-parent_found [] n k h is = absurd (omega arith)
-parent_found (a ∷ []) n k h is = absurd (omega arith)
-parent_found (a ∷ b ∷ []) zero k h is = ap (λ (x : AstKind). shown x ∷ []) is
-parent_found (a ∷ b ∷ []) (suc n) k h is = absurd (omega arith)
-parent_found (a ∷ b ∷ d ∷ ks) zero k h is = absurd (omega arith)
-parent_found (a ∷ b ∷ d ∷ ks) (suc n) k h is = parent_found (b ∷ d ∷ ks) n k (omega arith) is
-
-pub parent_absent : (ks : List AstKind) → length ks < 2 → parent_in (map shown ks) ≡ []
-parent_absent [] h = refl
-parent_absent (k ∷ []) h = refl
-parent_absent (k ∷ l ∷ ks) h = absurd (omega arith)
 
 -- the mark of the parent
 pub mark_found : (xs : List Node) (ms : List Bool) (n : ℕ) (m : Bool) → ms ≡ map is_marked xs → length ms ≡ n + 2 → m ≡ get_or ms n m → Some m ≡ first_mark (parent_in xs)
@@ -48,4 +33,4 @@ marked_simple list m xs k first parent = unmarked (first ∙ ap first_mark (sym 
     unmarked : Some m ≡ Some (is_marked list) → m ≡ is_marked list
     unmarked e = cc
 
-pub ruleset parents = (parent_absent, mark_absent)
+pub ruleset parents = (mark_absent)

@@ -43,11 +43,11 @@ walker w = record {
   source_type = w.source_type;
   node_count = w.node_count;
   namesakes = w.namesakes;
-  path = w.path;
+  path = w.path.nodes;
   current = w.current_scope;
   cursor = w.cursor.bits;
   is_ambient = w.is_ambient;
-  nodes = w.nodes;
+  nodes = w.path.entered;
   notes = w.notes;
 }
 

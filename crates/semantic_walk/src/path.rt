@@ -1,38 +1,43 @@
 //! The way from the root to the node that a walk visits.
 
-ghost use Rattle.std.specs.Prelude.{◌≡◌, ◌++◌, ◌∷◌, ◌-◌, [], length, map, take, OnOk};
+ghost use Rattle.std.specs.Prelude.{◌≡◌, ◌++◌, ◌∷◌, ◌-◌, ◌≤◌, [], length, map, reverse, take, option_map, IfOk, OnOk};
 ghost use Rattle.node_rules.specs.Seen.{path_of};
+ghost use Rattle.node_store.specs.Entered.{entering, leaving};
+ghost use Rattle.node_store.specs.PathLeft.{path_left};
 ghost use Rattle.semantic_tree.specs.ChildIter.{shown};
 ghost use Rattle.semantic_model.specs.Names.{is_simple_list};
+ghost use Rattle.semantic_walk.specs.Listed.{kept_from, list_kept};
 ghost use Rattle.semantic_walk.specs.Paths.{parent_in, is_marked, first_mark};
 
 use node_rules::rows::is_simple_list;
+use node_store::{AncestorKinds, AstNodeStore, AstNodes};
+use semantic_syntax::ScopeId;
 use semantic_tree::{AstKind, AstType};
 use std::alloc::{AllocError, Global};
 use std::marker::Model;
 
-/// The nodes from the root to the one that is visited. A list of parameters is marked if it is simple: each of its
-/// parameters asks for that, so it is found once for the list.
+/// The nodes from the root to the one that is visited, in a store that keeps all nodes, or these alone. A list of
+/// parameters on the way is marked if it is simple: each of its parameters asks for that, so it is found once for the
+/// list.
 #[derive(Drop)]
 pub struct Path<'a> {
-    nodes: Vec<AstKind<'a>>,
+    store: AstNodeStore<'a>,
     marks: Vec<bool>,
 }
 
 impl<'a> Model for Path<'a> {
-    ghost use Rattle.std.specs.Prelude.{List};
     ghost use Rattle.std.specs.Coded.{codes};
-    ghost use Rattle.semantic_tree.specs.declared.node.Node.{Node};
     ghost use Rattle.semantic_tree.specs.contracts.node.Node as node;
-    ghost use Rattle.semantic_walk.specs.Paths.{nodes_on, AreMarked};
+    ghost use Rattle.semantic_syntax.specs.contracts.node_flags.NodeFlags as eight_flags;
+    ghost use Rattle.semantic_walk.specs.Paths.{Way, way_of, IsWay};
 
-    ghost Value = { List Node };
+    ghost Value = { Way };
 
-    ghost coded = { Prim.hlevel (codes, node.the_row.coded) };
+    ghost coded = { Prim.hlevel (codes, node.the_row.coded, eight_flags.the_row.coded) };
 
-    ghost view = { nodes_on };
+    ghost view = { way_of };
 
-    ghost invariant = { AreMarked };
+    ghost invariant = { IsWay };
 }
 
 /// Whether the node is a list of parameters that is simple.
@@ -42,56 +47,99 @@ fn is_marked(kind: AstKind<'_>) -> bool
     kind.ty() == AstType::FormalParameters && is_simple_list(kind)
 }
 
+/// The nodes that are left on a path.
+fn collected<'a>(
+    alloc: Global,
+    kinds: AncestorKinds<'_, 'a>,
+) -> Result<Vec<AstKind<'a>>, AllocError>
+    ensures { IfOk result (λ nodes. map shown nodes.items ≡ path_left kinds.entry) }
+{
+    let mut nodes = Vec::new(alloc);
+    for kind in kinds {
+        nodes.push(kind)?;
+    }
+    Ok(nodes)
+}
+
+/// The last node becomes the first.
+fn turn_round(nodes: &mut Vec<AstKind<'_>>)
+    ensures { nodes.new.items ≡ reverse nodes.old.items }
+{
+    nodes.reverse();
+}
+
 impl<'a> Path<'a> {
-    /// No nodes.
-    pub fn new(alloc: Global) -> Path<'a>
-        ensures { result ≡ [] }
+    /// No nodes. All nodes that are entered are kept, or those on the way alone.
+    pub fn new(alloc: Global, keeps: bool) -> Path<'a>
+        ensures { result ≡ record { nodes = []; entered = kept_from keeps } }
     {
+        let mut store = AstNodeStore::new(alloc);
+        store.set_build_nodes(keeps);
         Path {
-            nodes: Vec::new(alloc),
+            store,
             marks: Vec::new(alloc),
         }
     }
 
-    /// Comes to a node.
-    pub fn push(&mut self, kind: AstKind<'a>) -> Result<(), AllocError>
-        ensures { OnOk result (self.new ≡ self.old ++ kind.entry.node.now ∷ []) }
+    /// Makes room for nodes, if all are kept. The way stays, whatever the answer.
+    pub fn reserve(&mut self, count: u32) -> Result<(), AllocError>
+        ensures { self.new ≡ self.old }
     {
+        self.store.reserve(count as usize)
+    }
+
+    /// Comes to a node, which stands in the scope. A second root is told as want of memory; a program has one.
+    pub fn push(&mut self, kind: AstKind<'a>, scope: ScopeId) -> Result<(), AllocError>
+        ensures { OnOk result (self.new ≡ record {
+          nodes = self.old.nodes ++ kind.entry.node.now ∷ [];
+          entered = option_map (λ e. entering e kind.entry.node.now scope) self.old.entered;
+        }) }
+    {
+        if self.marks.is_empty() && self.store.node_count() > 0 {
+            return Err(AllocError);
+        }
         self.marks.reserve(1)?;
-        self.nodes.push(kind)?;
+        self.store.enter(kind, scope)?;
         self.marks.push(is_marked(kind))?;
         Ok(())
     }
 
     /// Leaves the last node.
     pub fn pop(&mut self)
-        ensures { self.new ≡ take (length self.old - 1) self.old }
+        ensures { self.new ≡ record { nodes = take (length self.old.nodes - 1) self.old.nodes; entered = option_map leaving self.old.entered } }
     {
-        let _node = self.nodes.pop();
+        self.store.leave();
         let _mark = self.marks.pop();
     }
 
     /// The nodes, root first.
-    pub fn as_slice(&self) -> &[AstKind<'a>]
-        ensures { map shown result.now ≡ self.now }
+    pub fn to_vec(&self, alloc: Global) -> Result<Vec<AstKind<'a>>, AllocError>
+        ensures { IfOk result (λ nodes. map shown nodes.items ≡ self.now.nodes) }
     {
-        self.nodes.as_slice()
+        if self.marks.is_empty() {
+            return Ok(Vec::new(alloc));
+        }
+        let mut nodes = collected(alloc, self.store.outward())?;
+        turn_round(&mut nodes);
+        Ok(nodes)
     }
 
     /// The parent of the last node.
-    #[tactic(auto, using(crate::proofs::Parents::parents))]
     pub fn parent(&self) -> Option<AstKind<'a>>
-        ensures { path_of result ≡ parent_in self.now }
+        ensures { path_of result ≡ parent_in self.now.nodes }
     {
-        let above = self.nodes.len().checked_sub(2)?;
-        let parent = self.nodes.get(above)?;
-        Some(*parent)
+        if self.marks.is_empty() {
+            return None;
+        }
+        let mut outward = self.store.outward();
+        outward.next()?;
+        outward.next()
     }
 
     /// The mark of that parent.
     #[tactic(auto, using(crate::proofs::Parents::parents))]
     fn parent_mark(&self) -> Option<bool>
-        ensures { result ≡ first_mark (parent_in self.now) }
+        ensures { result ≡ first_mark (parent_in self.now.nodes) }
     {
         let above = self.marks.len().checked_sub(2)?;
         let mark = self.marks.get(above)?;
@@ -100,11 +148,18 @@ impl<'a> Path<'a> {
 
     /// Whether that parent, the list, is simple.
     pub fn is_in_simple(&self, list: AstKind<'a>) -> bool
-        ensures { list.entry.node.now ∷ [] ≡ parent_in self.now → result ≡ is_simple_list list.entry.node.now }
+        ensures { list.entry.node.now ∷ [] ≡ parent_in self.now.nodes → result ≡ is_simple_list list.entry.node.now }
     {
         match self.parent_mark() {
             Some(mark) if list.ty() == AstType::FormalParameters => mark,
             _ => is_simple_list(list),
         }
+    }
+
+    /// The nodes that were entered, if all are kept, and else none.
+    pub fn into_nodes(self) -> AstNodes<'a>
+        ensures { result ≡ list_kept self.entry.entered }
+    {
+        self.store.into_nodes()
     }
 }

@@ -23,7 +23,7 @@ ghost use Rattle.table_building.specs.Settled.{settled_from};
 ghost use Rattle.node_rules.specs.Seen.{path_of};
 ghost use Rattle.semantic_walk.specs.Paths.{parent_in};
 ghost use Rattle.semantic_walk.specs.Walker.{place_in, noting_node, referring, opening_in, taking_over};
-ghost use Rattle.semantic_walk.specs.Listed.{kept_from, list_kept};
+ghost use Rattle.semantic_walk.specs.Listed.{list_kept};
 ghost use Rattle.walk_notes.specs.NoteLists.{noting, leaving as leaving_notes};
 ghost use Rattle.node_store.specs.Entered.{leaving};
 ghost use Rattle.semantic_walk.specs.Begun.{begun, AreNamesOf};
@@ -43,7 +43,6 @@ use node_rules::cursor;
 use node_rules::direct_eval::is_direct_eval;
 use node_rules::rows::is_statement;
 use node_rules::scope_kind::{flags_of, root_flags};
-use node_store::{AstNodes, EnteredNodes};
 use semantic_diagnostics::Diagnostics;
 use semantic_syntax::{Ident, ReferenceFlags, ScopeFlags, ScopeId, SourceType, Steps};
 use semantic_tree::{AstKind, AstType, Mark, Program, Role};
@@ -64,15 +63,13 @@ pub struct Walk<'a> {
     pub(crate) declared: Declared<'a>,
     /// Past which declarations block functions don't move.
     pub(crate) namesakes: Namesakes,
-    /// The nodes from the root to the one that is visited.
+    /// The nodes from the root to the one that is visited, and all that the walk has entered, if they are kept.
     pub(crate) path: Path<'a>,
     pub(crate) current_scope: ScopeId,
     /// The flags of the next reference.
     pub(crate) cursor: ReferenceFlags,
     /// Whether the code where the walk stands is ambient.
     pub(crate) is_ambient: bool,
-    /// The nodes that the walk has entered, if they are kept.
-    pub(crate) nodes: Option<EnteredNodes<'a>>,
     /// The classes, if they are noted, and the labels.
     pub(crate) notes: Notes<'a>,
 }
@@ -107,27 +104,6 @@ fn declares_inside(kind: AstKind<'_>) -> bool
     }
 }
 
-/// What keeps the nodes that a walk enters, if they are to be kept.
-fn keeping<'a>(alloc: Global, keeps: bool) -> Option<EnteredNodes<'a>>
-    ensures { result ≡ kept_from keeps }
-{
-    if keeps {
-        Some(EnteredNodes::new(alloc))
-    } else {
-        None
-    }
-}
-
-/// The nodes that were kept; none where nothing keeps them.
-fn nodes_kept<'a>(alloc: Global, kept: Option<EnteredNodes<'a>>) -> AstNodes<'a>
-    ensures { result ≡ list_kept kept.entry }
-{
-    match kept {
-        Some(nodes) => nodes.into_nodes(),
-        None => AstNodes::new(alloc),
-    }
-}
-
 #[tactic(auto, using(crate::proofs::Going::going))]
 impl<'a> Walk<'a> {
     /// The state at the root, whose scope is open. The nodes that are entered are kept, or not, and classes are noted,
@@ -151,11 +127,10 @@ impl<'a> Walk<'a> {
             node_count: program.node_count(),
             declared,
             namesakes,
-            path: Path::new(alloc),
+            path: Path::new(alloc, keeps),
             current_scope: ScopeId::new(0),
             cursor: ReferenceFlags::empty(),
             is_ambient: source_type.is_typescript_definition(),
-            nodes: keeping(alloc, keeps),
             notes: Notes::new(alloc, classes),
         })
     }
@@ -174,48 +149,16 @@ impl<'a> Walk<'a> {
         self.declared.scoping().scope_flags(self.current_scope)
     }
 
-    /// Makes room for nodes, if they are kept. What the walk has made stays, whatever the answer.
-    fn reserve_nodes(&mut self, count: u32) -> Result<(), AllocError>
-        ensures { self.new ≡ self.old }
-    {
-        match &mut self.nodes {
-            Some(nodes) => nodes.reserve(count as usize),
-            None => Ok(()),
-        }
-    }
-
     /// Makes room for what the walk will make. What it has made stays, whatever the answer.
     pub(crate) fn reserve(&mut self, room: Room) -> Result<(), AllocError>
         ensures { self.new ≡ self.old }
     {
-        self.reserve_nodes(room.nodes)?;
+        self.path.reserve(room.nodes)?;
         self.declared.reserve(
             room.symbols as usize,
             room.references as usize,
             room.scopes as usize,
         )
-    }
-
-    /// Keeps the node, if nodes are kept.
-    fn note_node(&mut self, kind: AstKind<'a>) -> Result<(), AllocError>
-        ensures made { OnOk result (self.new ≡ noting_node self.old kind.entry.node.now) }
-        ensures goes { OnOk result (Goes self.old.made self.new.made) }
-    {
-        match &mut self.nodes {
-            Some(nodes) => nodes.enter(kind, self.current_scope),
-            None => Ok(()),
-        }
-    }
-
-    /// Goes back to the parent of the node, if nodes are kept.
-    fn leave_node(&mut self)
-        ensures made { self.new ≡ record self.old { nodes = option_map leaving self.old.nodes } }
-        ensures goes { Goes self.old.made self.new.made }
-    {
-        match &mut self.nodes {
-            Some(nodes) => nodes.leave(),
-            None => {}
-        }
     }
 
     /// Notes what is entered of classes and labels.
@@ -251,8 +194,7 @@ impl<'a> Walk<'a> {
         ensures made { OnOk result (self.new ≡ record (noting_node self.old kind.entry.node.now) { path = self.old.path ++ kind.entry.node.now ∷ []; cursor = on_entering kind.entry.node.now.kind self.old.cursor }) }
         ensures goes { OnOk result (Goes self.old.made self.new.made) }
     {
-        self.note_node(kind)?;
-        self.path.push(kind)?;
+        self.path.push(kind, self.current_scope)?;
         self.cursor = cursor::on_entering(kind.ty(), self.cursor);
         Ok(())
     }
@@ -414,15 +356,15 @@ impl<'a> Walk<'a> {
         self.declared.close(scope);
     }
 
-    /// Leaves the node that is visited.
+    /// Leaves the node that is visited, which stands on the path until the end.
     pub(crate) fn leave(&mut self, kind: AstKind<'a>) -> Result<(), AllocError>
         ensures made { OnOk result (self.new ≡ record self.old { path = take (length self.old.path - 1) self.old.path; cursor = on_leaving kind.entry.node.now.kind self.old.cursor; nodes = option_map leaving self.old.nodes; notes = leaving_notes kind.entry.node.now self.old.notes }) }
         ensures goes { OnOk result (Goes self.old.made self.new.made) }
     {
-        self.leave_node();
+        self.note_behind(kind)?;
         self.cursor = cursor::on_leaving(kind.ty(), self.cursor);
         self.path.pop();
-        self.note_behind(kind)
+        Ok(())
     }
 
     /// At the end of a header the references that wait since its start are looked up as far as its scope.
@@ -476,7 +418,7 @@ impl<'a> Walk<'a> {
         Analysis {
             scoping,
             tables,
-            nodes: nodes_kept(self.alloc, self.nodes),
+            nodes: self.path.into_nodes(),
             classes,
             unused_labels,
             diagnostics,

@@ -1,5 +1,7 @@
 //! What the store and the stack tell of paths that lead to nodes, in numbers.
-use node_store::{AncestorKinds, Ancestry, AncestryStack, AstNodes, EnteredNodes};
+ghost use Rattle.node_store.specs.Store.{Stands};
+
+use node_store::{AncestorKinds, Ancestry, AncestryStack, AstNodeStore, AstNodes};
 use semantic_syntax::{NodeFlags, NodeId, ScopeId};
 use semantic_tree::{AstKind, AstType};
 use std::alloc::{AllocError, Global};
@@ -100,10 +102,12 @@ pub fn on_stack(
 
 /// Enters the root and a statement, leaves this one, and enters another.
 fn enter<'a>(
-    entered: &mut EnteredNodes<'a>,
+    entered: &mut AstNodeStore<'a>,
     root: AstKind<'a>,
     statement: AstKind<'a>,
-) -> Result<(), AllocError> {
+) -> Result<(), AllocError>
+    requires { Stands entered.old }
+{
     let scope = ScopeId::new(0);
     entered.enter(root, scope)?;
     entered.enter(statement, scope)?;
@@ -124,7 +128,8 @@ pub fn behind_one_left(
     root: AstKind<'_>,
     statement: AstKind<'_>,
 ) -> Result<Vec<usize>, AllocError> {
-    let mut entered = EnteredNodes::new(alloc);
+    let mut entered = AstNodeStore::new(alloc);
+    entered.set_build_nodes(true);
     let done = enter(&mut entered, root, statement);
     let nodes = entered.into_nodes();
     let told = told_of_last(&nodes);

@@ -3,7 +3,6 @@ use Rattle.semantic_syntax.specs.Tables.{Tables}
 use Rattle.scoping.specs.NodeEntries.{NodeEntries}
 use Rattle.semantic_diagnostics.specs.declared.diagnostic.Diagnostic.{Diagnostic}
 use Rattle.semantic_walk.specs.Begun.{BelongsToNodes, IsAnalysis}
-use Rattle.semantic_walk.specs.Listed.{list_kept, kept_nodes}
 use Rattle.semantic_walk.proofs.analysis.analyse.Goals as goal
 
 if_done : {X E : Type 0} (r : Result X E) (x : X) (P : X → Type 0) → r ≡ Ok x → IfOk r P → P x

@@ -1,4 +1,4 @@
-use Rattle.std.proofs.Common.{◌≡◌, Bool, Some, None, Result, Ok, Err, ap, sym, subst, map, refl, List, IfOk, OnOk, ◌∙◌}
+use Rattle.std.proofs.Common.{◌≡◌, Bool, Some, None, Result, Ok, Err, ap, sym, subst, map, refl, List, OnOk, ◌∙◌}
 use Rattle.semantic_syntax.specs.Tables.{Tables}
 use Rattle.semantic_tree.specs.Faults.{first_fault}
 use Rattle.semantic_tree.specs.Tree.{Tree}
@@ -18,7 +18,6 @@ use Rattle.semantic_walk.specs.Begun.{begun, AreNamesOf, FitsProgram, IsAnalysis
 use Rattle.semantic_walk.specs.AtPlace.{walked_over}
 use Rattle.semantic_walk.specs.Walker.{Walker}
 use Rattle.table_building.specs.Conflicting.{told}
-use Rattle.semantic_walk.specs.Listed.{list_kept, kept_nodes}
 use Rattle.semantic_walk.proofs.Beginning.{walk_comes, walk_ends, walk_lists, walk_classes, walk_labels, root_tables, root_conflicts, root_nodes, of_answer}
 use Rattle.semantic_walk.proofs.analysis.run.Given as given
 use Rattle.semantic_walk.proofs.analysis.run.Goals as goal

@@ -17,5 +17,5 @@ returns-clause-ok c =
     let lists = lists_of c.self.inside in
     let within : c.args.c < length lists.nodes = rw (← c.self.view_is) at c.requires in
     rw (pushed use_seen (λ v. v.items) c.self.inside.private_identifier_references.items c.args.c c.index.result c.index_mut.result.now c.push.new.self c.args.reference c.index.ensures c.index_mut.ensures.value c.in_ok-push.ensures.items
-    (within_uses lists c.args.c c.self.invariant within))
+    (within_uses lists c.args.c c.self.invariant.lists within))
     (ap (λ ls. with_use ls c.args.c (use_seen c.args.reference)) c.self.view_is)

@@ -10,7 +10,7 @@ pub returns-clause-numbered : goal.returns-clause-numbered
 returns-clause-numbered c =
     let lists = lists_of c.self.inside in
     let within : c.args.c < length lists.nodes = rw (← c.self.view_is) at c.requires in
-    let fit = elements_fit lists c.args.c c.self.invariant within in
-    let read = read_at element_seen (λ v. v.items) c.self.inside.elements.items c.args.c c.index.result c.index-2.result.now c.index.ensures c.index-2.ensures (within_elements lists c.args.c c.self.invariant within) in
+    let fit = elements_fit lists c.args.c c.self.invariant.lists within in
+    let read = read_at element_seen (λ v. v.items) c.self.inside.elements.items c.args.c c.index.result c.index-2.result.now c.index.ensures c.index-2.ensures (within_elements lists c.args.c c.self.invariant.lists within) in
     let same = ap length read ∙ length-map c.index-2.result.now.items element_seen ∙ sym (ap length c.as_slice.ensures.value) in
     rw same at fit

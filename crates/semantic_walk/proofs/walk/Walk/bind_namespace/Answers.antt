@@ -1,5 +1,4 @@
-use Rattle.std.proofs.Common.{◌≡◌, List, map, reverse, sym, ap, ◌∙◌}
-use Rattle.semantic_tree.specs.ChildIter.{shown}
+use Rattle.std.proofs.Common.{◌≡◌, reverse, refl, sym, ap, ◌∙◌}
 use Rattle.semantic_tree.specs.declared.node.Node.{Node}
 use Rattle.semantic_model.specs.Namespace.{instance_state, nodes_around}
 use Rattle.namespace_states.specs.InstanceStates.{state_of}
@@ -9,11 +8,9 @@ use Rattle.semantic_walk.proofs.walk.Walk.bind_namespace.Goals as goal
 
 pub returns-clause-made : goal.returns-clause-made
 returns-clause-made c = λ ds p e within k.
-    let path : List Node = map shown c.as_slice-path.result.now in
-    let above : path ≡ c.args.self.now.path = c.as_slice-path.ensures ∙ ap (λ (w : Walker). w.path) c.self.view_is in
-    let count : c.self.inside.node_count ≡ c.args.self.now.node_count = ap (λ (w : Walker). w.node_count) c.self.view_is in
+    let w : Walker = c.args.self.now in
     let state : state_of c.in_ok-state.state ≡ instance_state p.node p.path (nodes_around p.node p.path) =
-    c.in_ok-state.ensures ∙ ap (λ (n : Node). instance_state n (reverse path) c.self.inside.node_count) (sym e) ∙ state_here ds c.args.self.now p within path c.self.inside.node_count k above count in
+    c.in_ok-state.ensures ∙ ap (λ (n : Node). instance_state n (reverse w.path) w.node_count) (sym e) ∙ state_here ds w p within w.path w.node_count k refl refl in
     on_ok_same c.bind_all.result c.bind_all.new.self _ _
     (namespace_acts ds c.args.self.now p within c.args.namespace.node.now c.namespace_row.result (state_of c.in_ok-state.state) e k (c.namespace_row.ensures p e) state)
     c.bind_all.ensures.made

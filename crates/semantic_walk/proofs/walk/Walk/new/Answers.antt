@@ -9,6 +9,7 @@ use Rattle.walk_model.specs.Opens.{open_scope}
 use Rattle.walk_model.specs.Standing.{nothing_made}
 use Rattle.walk_model.proofs.RootSteps.{root_scope}
 use Rattle.walk_model.proofs.Seats.{root_is_program}
+use Rattle.semantic_walk.specs.Paths.{Way}
 use Rattle.semantic_walk.proofs.Beginning.{begins, made_first}
 use Rattle.semantic_walk.proofs.walk.Walk.new.Goals as goal
 
@@ -20,5 +21,5 @@ returns-clause-begins c =
     let made : c.in_ok-declared.declared ≡ open_scope nothing_made (root_place program) (root_scope (root_place program)) =
     made_first program is_program nothing_made c.in_ok-declared.declared c.root-root.result.node.now c.source_type-source_type.result c.root_flags.result.bits refl c.root-root.ensures.root
     c.source_type-source_type.ensures c.root_flags.ensures c.in_ok-declared.ensures in
-    begins program _ c.args.keeps c.args.classes made c.source_type-source_type.ensures c.node_count.ensures c.new-2.ensures c.new-3.ensures c.empty.ensures
-    (c.is_typescript_definition.ensures ∙ ap is_typescript_definition c.source_type-source_type.ensures) c.keeping.ensures c.new-4.ensures
+    begins program _ c.args.keeps c.args.classes made c.source_type-source_type.ensures c.node_count.ensures (ap (λ (way : Way). way.nodes) c.new-2.ensures) c.new-3.ensures c.empty.ensures
+    (c.is_typescript_definition.ensures ∙ ap is_typescript_definition c.source_type-source_type.ensures) (ap (λ (way : Way). way.entered) c.new-2.ensures) c.new-4.ensures
