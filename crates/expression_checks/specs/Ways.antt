@@ -1,0 +1,32 @@
+-- A place on the way outward from a node, and what of the way is left.
+use Rattle.std.specs.Prelude.{◌≡◌, ℕ, List, [], ◌∷◌, ◌==◌, ◌×◌, Bool, true, Option, Some, None, nat_lt}
+use Rattle.semantic_tree.specs.declared.node.Node.{Node}
+use Rattle.semantic_tree.specs.declared.view.AstKind.{AstKind}
+use Rattle.node_store.specs.PathLeft.{path_left}
+use Rattle.check_model.specs.Search.{neighbours, onward}
+use Rattle.expression_checks.specs.declared.way.Way.{Way}
+
+-- the nodes from the place on, if it is not behind the last
+abbrev pub nodes_from : Option AstKind → List Node → List Node
+nodes_from None above = []
+nodes_from (Some here) above = here.node.now ∷ above
+
+abbrev pub way_left : Way → List Node
+way_left way = nodes_from way.here (path_left way.above)
+
+-- each place that is left with the next one
+abbrev pub way_links : Way → List (Node × Node)
+way_links way = neighbours (way_left way)
+
+-- the nodes from the one with the id on
+abbrev pub from_id : ℕ → List Node → List Node
+from_id id nodes = onward (λ node. node.node_id == id) nodes
+
+-- the id is lower than each that was passed
+abbrev pub is_below : Option ℕ → ℕ → Bool
+is_below None id = true
+is_below (Some least) id = nat_lt id least
+
+-- the way is that along the nodes: none that was passed has an id below the least of them
+abbrev pub GoesAlong : List Node → Way → Type 0
+GoesAlong nodes way = (id : ℕ) → is_below way.least id ≡ true → from_id id nodes ≡ from_id id (way_left way)
