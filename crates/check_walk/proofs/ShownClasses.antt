@@ -18,7 +18,7 @@ use Rattle.semantic_model.specs.Place.{Place}
 use Rattle.semantic_model.specs.Element.{Element, elements_of}
 use Rattle.semantic_model.specs.Class.{Class, PrivateUse, uses_under, uses_below, classes_below}
 use Rattle.semantic_model.proofs.Clauses.{kind_is, first_holds, second_holds, both_hold}
-use Rattle.class_table.specs.Lists.{ClassLists, IsInside, with_class, with_use}
+use Rattle.class_table.specs.Lists.{ClassLists, IsInside, uses_in, with_class, with_use}
 use Rattle.class_table.specs.Building.{with_body, with_use_under, use_in}
 use Rattle.class_table.specs.Bodies.{is_nothing, ends_with_body, has_no_body, end_rightly}
 use Rattle.class_table.specs.Noted.{noting_in, entered, left, noted_below, begun}
@@ -61,7 +61,7 @@ told_in lists current around us cs h k = record {
 use_told : (lists : ClassLists) (current : Option ℕ) (around : List SeenClass) (c : ℕ) (used : PrivateUse) → IsInClasses (noting_in current lists) around → IsInClasses (noting_in current (with_use lists c used)) around
 use_told lists current around c used h = record {
   enabled = refl;
-  fits = record { there = h.fits.there; with_elements = h.fits.with_elements; with_uses = length-set lists.uses c _ ∙ h.fits.with_uses; inside = h.fits.inside };
+  fits = record { there = h.fits.there; with_elements = h.fits.with_elements; with_uses = length-set lists.uses c (uses_in lists c ++ used ∷ []) ∙ h.fits.with_uses; inside = h.fits.inside };
   inside = h.inside;
   classes = h.classes;
 }
@@ -175,21 +175,15 @@ own_uses lists current node es us cs fits =
 
 -- ---- between the children of a place
 
+-- in the classes around the children of a place, with those that are left
+between : (b : ClassTableBuilder) (p : Place) (f : Forest) → IsInClasses b (classes_around (p.node ∷ p.path)) → is_class_shape p.node.kind f ≡ true → are_class_shapes f ≡ true → (is kind.Class p.node ≡ true → bodies_of p.node ≡ children_of role.Body f)
+    → ShowsBetween b p f
+between b p nothing h shape below bodies = left_other b p (ends_empty p.node.kind shape) h
+between b p (tree r k span text marks under id after) h shape below bodies = record { around = h; shape = shape; below = below; bodies = bodies }
+
 -- the place is come to
 pub comes : (b : ClassTableBuilder) (p : Place) → is_class_shape p.node.kind p.node.children ≡ true → are_class_shapes p.node.children ≡ true → IsInClasses b (classes_around p.path) → ShowsBetween (entered_under p.path p.node b) p p.node.children
-comes b p shape below h = by p.node.children refl
-  where
-    inner : IsInClasses (entered_under p.path p.node b) (classes_around (p.node ∷ p.path))
-    inner = entered_in b p.path p.node h
-
-    by : (f : Forest) → p.node.children ≡ f → ShowsBetween (entered_under p.path p.node b) p f
-    by nothing is = left_other (entered_under p.path p.node b) p (ends_empty p.node.kind (subst (λ f. is_class_shape p.node.kind f ≡ true) is shape)) inner
-    by (tree r k span text marks under id after) is = record {
-      around = inner;
-      shape = subst (λ f. is_class_shape p.node.kind f ≡ true) is shape;
-      below = subst (λ f. are_class_shapes f ≡ true) is below;
-      bodies = λ e. ap (children_of role.Body) is;
-    }
+comes b p shape below h = between (entered_under p.path p.node b) p p.node.children (entered_in b p.path p.node h) shape below (λ e. refl)
 
 later_ends : (is_class is_body : Bool) (after : Forest) → is_body ≡ false → cond is_class (cond is_body (is_nothing after) (ends_with_body after)) (not is_body && has_no_body after) ≡ true → cond is_class (ends_with_body after) (has_no_body after) ≡ true
 later_ends true is_body after e h = rw e at h
@@ -213,55 +207,27 @@ own_role r is_class is_body c b h = by (same_role r role.Body) (rw (c, b) at h)
 turns_other : (b : ClassTableBuilder) (p : Place) (r : Role) (here : Node) (after : Forest) → same_kind here.kind kind.ClassBody ≡ false → ShowsAround b p (tree r here.kind here.span here.text here.marks here.children here.node_id after)
     → ShowsBetween (left here.kind (noted_below here.kind here.node_id here.children (entered p.node.kind p.node.node_id here b))) p after
 turns_other b p r here after other h =
-    by after refl
-  where
-    k : AstType
-    k = here.kind
-
-    F : Forest
-    F = tree r here.kind here.span here.text here.marks here.children here.node_id after
-
-    alone : Forest
-    alone = tree r here.kind here.span here.text here.marks here.children here.node_id nothing
-
-    behind : ClassTableBuilder
-    behind = left here.kind (noted_below here.kind here.node_id here.children (entered p.node.kind p.node.node_id here b))
-
-    rest : (are_class_shapes here.children && are_class_shapes after) ≡ true
-    rest = second_holds (is_class_shape k here.children) _ h.below
-
-    ends : end_rightly p.node.kind after ≡ true
-    ends = later_ends (is kind.Class p.node) (same_kind k kind.ClassBody) after other (first_holds (end_rightly p.node.kind F) (have_own_role p.node.kind F) h.shape)
-
-    roles : have_own_role p.node.kind F ≡ true
-    roles = second_holds (end_rightly p.node.kind F) (have_own_role p.node.kind F) h.shape
-
-    shape : is_class_shape p.node.kind after ≡ true
-    shape = both_hold (end_rightly p.node.kind after) (have_own_role p.node.kind after) ends (second_holds (has_own_role p.node.kind r k) (have_own_role p.node.kind after) roles)
-
-    none : has_no_body alone ≡ true
-    none = rw other refl
-
-    inner : IsInClasses behind (classes_around (p.node ∷ p.path))
-    inner =
-        walked_in alone p.node.kind p.node.node_id b (classes_around (p.node ∷ p.path)) none
-        (both_hold (is_class_shape k here.children) (are_class_shapes here.children && true) (first_holds (is_class_shape k here.children) _ h.below)
-        (both_hold (are_class_shapes here.children) true (first_holds (are_class_shapes here.children) _ rest) refl))
-        h.around
-
-    bodies : is kind.Class p.node ≡ true → bodies_of p.node ≡ children_of role.Body after
-    bodies e =
-        let q : same_role r role.Body ≡ false = no_role r (is kind.Class p.node) (same_kind k kind.ClassBody) e other (first_holds (has_own_role p.node.kind r k) (have_own_role p.node.kind after) roles) in
-        h.bodies e ∙ ap (λ c. cond c (here ∷ children_of role.Body after) (children_of role.Body after)) q
-
-    by : (f : Forest) → after ≡ f → ShowsBetween behind p f
-    by nothing is = left_other behind p (ends_empty p.node.kind (subst (λ f. is_class_shape p.node.kind f ≡ true) is shape)) inner
-    by (tree r2 k2 span text marks below id more) is = record {
-      around = inner;
-      shape = subst (λ f. is_class_shape p.node.kind f ≡ true) is shape;
-      below = subst (λ f. are_class_shapes f ≡ true) is (second_holds (are_class_shapes here.children) (are_class_shapes after) rest);
-      bodies = λ e. bodies e ∙ ap (children_of role.Body) is;
-    }
+    let k : AstType = here.kind in
+    let F : Forest = tree r here.kind here.span here.text here.marks here.children here.node_id after in
+    let alone : Forest = tree r here.kind here.span here.text here.marks here.children here.node_id nothing in
+    let around : List SeenClass = classes_around (p.node ∷ p.path) in
+    let rest : (are_class_shapes here.children && are_class_shapes after) ≡ true = second_holds (is_class_shape k here.children) _ h.below in
+    let ends : end_rightly p.node.kind after ≡ true =
+    later_ends (is kind.Class p.node) (same_kind k kind.ClassBody) after other (first_holds (end_rightly p.node.kind F) (have_own_role p.node.kind F) h.shape) in
+    let roles : have_own_role p.node.kind F ≡ true = second_holds (end_rightly p.node.kind F) (have_own_role p.node.kind F) h.shape in
+    let shape : is_class_shape p.node.kind after ≡ true =
+    both_hold (end_rightly p.node.kind after) (have_own_role p.node.kind after) ends (second_holds (has_own_role p.node.kind r k) (have_own_role p.node.kind after) roles) in
+    let none : has_no_body alone ≡ true = rw other refl in
+    let formed : are_class_shapes alone ≡ true =
+    both_hold (is_class_shape k here.children) (are_class_shapes here.children && true) (first_holds (is_class_shape k here.children) _ h.below)
+    (both_hold (are_class_shapes here.children) true (first_holds (are_class_shapes here.children) _ rest) refl) in
+    let bodies : is kind.Class p.node ≡ true → bodies_of p.node ≡ children_of role.Body after =
+    λ e.
+    h.bodies e
+    ∙ ap (λ c. cond c (here ∷ children_of role.Body after) (children_of role.Body after))
+    (no_role r (is kind.Class p.node) (same_kind k kind.ClassBody) e other (first_holds (has_own_role p.node.kind r k) (have_own_role p.node.kind after) roles)) in
+    between (left here.kind (noted_below here.kind here.node_id here.children (entered p.node.kind p.node.node_id here b))) p after
+    (walked_in alone p.node.kind p.node.node_id b around none formed h.around) shape (second_holds (are_class_shapes here.children) (are_class_shapes after) rest) bodies
 
 -- a class body is entered in a walk that notes classes
 enters_body : (lists : ClassLists) (current : Option ℕ) (parent : AstType) (node : ℕ) (here : Node) → here.kind ≡ kind.ClassBody

@@ -115,13 +115,13 @@ fn tell_derived<'a>(
 fn tell_verdict<'a>(
     alloc: Global,
     kind: AstKind<'a>,
-    found: &Found,
+    found: Found,
     ctx: &CheckContext<'a, '_>,
     out: &mut Diagnostics,
 ) -> Result<(), AllocError>
     requires context { IsContext ctx.now }
-    requires kept { IsKept ctx.now found.now.kept }
-    ensures { Tells result (rows.verdict_rows (sight kind.entry.node.now ctx.now) (found_shown ctx.now found.now)) out.old out.new }
+    requires kept { IsKept ctx.now found.kept }
+    ensures { Tells result (rows.verdict_rows (sight kind.entry.node.now ctx.now) (found_shown ctx.now found)) out.old out.new }
 {
     match found.verdict {
         Verdict::Allowed => Ok(()),
@@ -144,5 +144,5 @@ pub fn check_super<'a>(
     ensures { Tells result (rows.check_super (sight kind.entry.node.now ctx.now)) out.old out.new }
 {
     let found = first_verdict(kind, ctx);
-    tell_verdict(alloc, kind, &found, ctx, out)
+    tell_verdict(alloc, kind, found, ctx, out)
 }

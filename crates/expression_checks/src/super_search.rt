@@ -13,6 +13,7 @@ use semantic_syntax::{ClassId, NodeId, ScopeId};
 use semantic_tree::AstKind;
 
 /// What is found: the verdict, and the class that the search had come to.
+#[derive(Clone, Copy)]
 pub(crate) struct Found {
     pub(crate) verdict: Verdict,
     pub(crate) kept: Option<ClassId>,
