@@ -1,5 +1,5 @@
 //! Laws of what a walk tells.
-ghost use Rattle.std.specs.Prelude.{◌≡◌, ◌×◌, ◌∷◌, ◌++◌, [], ℕ, List, Bool, true, None};
+ghost use Rattle.std.specs.Prelude.{◌≡◌, ◌∷◌, ◌++◌, [], ℕ, List, Bool, true, None};
 ghost use Rattle.semantic_kinds.specs.declared.role.Role.{Role};
 ghost use Rattle.semantic_tree.specs.Faults.{first_fault};
 ghost use Rattle.semantic_tree.specs.Forest.{Forest, tree};

@@ -1,5 +1,5 @@
 -- A search for what decides about a `super`, and what it finds.
-use Rattle.std.specs.Prelude.{ℕ, ◌<◌, ◌×◌, List, Option, IfSome, length}
+use Rattle.std.specs.Prelude.{ℕ, ◌<◌, List, Option, IfSome, length}
 use Rattle.semantic_tree.specs.declared.node.Node.{Node}
 use Rattle.check_model.specs.Context.{classes_from}
 use Rattle.check_model.specs.Sight.{SeenClass}

@@ -1,5 +1,5 @@
 -- A place on the way outward from a node, and what of the way is left.
-use Rattle.std.specs.Prelude.{◌≡◌, ℕ, List, [], ◌∷◌, ◌==◌, ◌×◌, Bool, true, Option, Some, None, nat_lt}
+use Rattle.std.specs.Prelude.{◌≡◌, ℕ, List, [], ◌∷◌, ◌==◌, Bool, true, Option, Some, None, nat_lt}
 use Rattle.semantic_tree.specs.declared.node.Node.{Node}
 use Rattle.semantic_tree.specs.declared.view.AstKind.{AstKind}
 use Rattle.node_store.specs.PathLeft.{path_left}

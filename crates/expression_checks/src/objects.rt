@@ -1,5 +1,5 @@
 //! Early errors of object literals.
-ghost use Rattle.std.specs.Prelude.{◌≡◌, ◌×◌, option_map, filter_map};
+ghost use Rattle.std.specs.Prelude.{◌≡◌, option_map, filter_map};
 ghost use Rattle.std.specs.Iterator.{YieldsFirstBy};
 ghost use Rattle.semantic_kinds.specs.declared.role.Role.TheVariants as roles;
 ghost use Rattle.semantic_tree.specs.ChildIter.{shown};

@@ -1,5 +1,5 @@
 //! Early errors of `await` and `yield`.
-ghost use Rattle.std.specs.Prelude.{◌≡◌, ◌||◌, ◌×◌, IsTrue, option_map, find, codes};
+ghost use Rattle.std.specs.Prelude.{◌≡◌, ◌||◌, IsTrue, option_map, find, codes};
 ghost use Rattle.semantic_tree.specs.declared.node.Node.{Node};
 ghost use Rattle.semantic_diagnostics.specs.Ascii.{is_ascii};
 ghost use Rattle.semantic_diagnostics.specs.Functions as tell;

@@ -1,5 +1,5 @@
 //! What a function decides about the `super` in it.
-ghost use Rattle.std.specs.Prelude.{◌≡◌, ◌<◌, ◌×◌, ◌==◌, ◌||◌, if◌then◌else◌, Some, None, length, not, option_map, find};
+ghost use Rattle.std.specs.Prelude.{◌≡◌, ◌<◌, ◌==◌, ◌||◌, if◌then◌else◌, Some, None, length, not, option_map, find};
 ghost use Rattle.semantic_tree.specs.ChildIter.{shown};
 ghost use Rattle.semantic_tree.specs.declared.node.Node.{Node};
 ghost use Rattle.check_model.specs.Context.{seen_row};

@@ -1,5 +1,5 @@
 //! A way outward from a node that is gone once, however often it is asked to go on from a node.
-ghost use Rattle.std.specs.Prelude.{◌≡◌, ◌&&◌, ◌||◌, ◌==◌, ◌×◌, ℕ, List, drop, find, nat_lt, not, option_map};
+ghost use Rattle.std.specs.Prelude.{◌≡◌, ◌&&◌, ◌||◌, ◌==◌, ℕ, List, drop, find, nat_lt, not, option_map};
 ghost use Rattle.std.specs.Iterator.{YieldsFirstBy};
 ghost use Rattle.std.specs.List.{take_while};
 ghost use Rattle.semantic_kinds.specs.declared.role.Role.TheVariants as roles;
