@@ -1,2 +1,3 @@
-pub mod Along
+pub mod BeforeEnd
+pub mod BeforeLast
 pub mod Searched

@@ -43,9 +43,9 @@ fn is_var_or_function(flags: SymbolFlags) -> bool
 
 /// Whether a function may follow the declaration here, as far as functions are concerned: a clash with a lexical one
 /// is told elsewhere.
-fn may_precede(before: Redeclaration, ctx: &CheckContext<'_, '_>) -> bool
+fn may_precede(before: &Redeclaration, ctx: &CheckContext<'_, '_>) -> bool
     requires { IsContext ctx.now }
-    ensures { result ≡ rows.may_precede (around ctx.now) before }
+    ensures { result ≡ rows.may_precede (around ctx.now) before.now }
 {
     before.flags.intersects(SymbolFlags::BlockScopedVariable)
         || (is_var_or_function(before.flags) && lets_functions_redeclare(ctx))
@@ -59,19 +59,18 @@ fn is_plain(kind: AstKind<'_>) -> bool
 }
 
 /// Whether the function is a plain one in sloppy code, as the declaration before it is.
-fn is_sloppy_repeat(kind: AstKind<'_>, before: Redeclaration, ctx: &CheckContext<'_, '_>) -> bool
+fn is_sloppy_repeat(kind: AstKind<'_>, before: &Redeclaration, ctx: &CheckContext<'_, '_>) -> bool
     requires { IsContext ctx.now }
-    ensures { result ≡ rows.is_sloppy_repeat (sight kind.entry.node.now ctx.now) before }
+    ensures { result ≡ rows.is_sloppy_repeat (sight kind.entry.node.now ctx.now) before.now }
 {
     !ctx.is_strict() && is_plain(kind) && before.flags.intersects(SymbolFlags::Function)
 }
 
-/// The first declaration, before the last one, that is an async function or a generator.
+/// The first of some declarations that is an async function or a generator.
 fn first_async_or_generator(entries: &[Redeclaration]) -> Option<Redeclaration>
-    ensures { result ≡ find rows.is_async_or_generator (before_last entries.now) }
+    ensures { result ≡ find rows.is_async_or_generator entries.now }
 {
-    let (_, earlier) = entries.split_last()?;
-    for entry in earlier {
+    for entry in entries {
         if entry
             .flags
             .intersects(SymbolFlags::AsyncOrGeneratorFunction)
@@ -80,6 +79,17 @@ fn first_async_or_generator(entries: &[Redeclaration]) -> Option<Redeclaration>
         }
     }
     None
+}
+
+/// The first declaration, before the last one, that is an async function or a generator.
+#[tactic(auto, using(crate::proofs::BeforeLast::before_last_is))]
+fn earlier_async_or_generator(entries: &[Redeclaration]) -> Option<Redeclaration>
+    ensures { result ≡ find rows.is_async_or_generator (before_last entries.now) }
+{
+    match entries.split_last() {
+        Some((_, earlier)) => first_async_or_generator(earlier),
+        None => None,
+    }
 }
 
 /// Tells of a name that is declared at the span and again by the identifier.
@@ -107,7 +117,7 @@ fn tell_sloppy_repeat(
 ) -> Result<(), AllocError>
     ensures { let node = ident.entry.node.now in Tells result (rows_of_some (λ entry. tell.redeclaration node.text entry.span node.span ∷ []) (find rows.is_async_or_generator (before_last entries.now))) out.old out.new }
 {
-    match first_async_or_generator(entries) {
+    match earlier_async_or_generator(entries) {
         Some(entry) => tell_again(alloc, ident, entry.span, out),
         None => Ok(()),
     }
@@ -119,12 +129,12 @@ fn tell_repeat<'a>(
     alloc: Global,
     kind: AstKind<'a>,
     ident: AstKind<'a>,
-    before: Redeclaration,
+    before: &Redeclaration,
     ctx: &CheckContext<'a, '_>,
     out: &mut Diagnostics,
 ) -> Result<(), AllocError>
     requires { IsContext ctx.now }
-    ensures { let s = sight kind.entry.node.now ctx.now in let ident = ident.entry.node.now in Tells result (rows.repeat_rows s ident before (before_last (entries_of s ident))) out.old out.new }
+    ensures { let s = sight kind.entry.node.now ctx.now in let ident = ident.entry.node.now in Tells result (rows.repeat_rows s ident before.now (before_last (entries_of s ident))) out.old out.new }
 {
     if is_sloppy_repeat(kind, before, ctx) {
         tell_sloppy_repeat(alloc, ident, ctx.entries_of(ident), out)
@@ -148,10 +158,10 @@ fn tell_redeclared<'a>(
     let Some(before) = one_before_last(ctx.entries_of(ident)) else {
         return Ok(());
     };
-    if may_precede(before, ctx) {
+    if may_precede(&before, ctx) {
         return Ok(());
     }
-    tell_repeat(alloc, kind, ident, before, ctx, out)
+    tell_repeat(alloc, kind, ident, &before, ctx, out)
 }
 
 /// Whether the node is a function that is declared, elsewhere than as a branch of an `if` in sloppy code.

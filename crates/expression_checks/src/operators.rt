@@ -42,17 +42,26 @@ fn tell_private(alloc: Global, member: AstKind<'_>, out: &mut Diagnostics) -> Re
     out.push(delete_private_field(alloc, member.span())?)
 }
 
-/// Tells of the name of a private member in an optional chain.
+/// Tells of the name of a private member.
+#[tactic(auto, using(check_context::proofs::Telling::telling))]
+fn tell_field(alloc: Global, member: AstKind<'_>, out: &mut Diagnostics) -> Result<(), AllocError>
+    ensures { Tells result (rows_of_some (λ field. tell.delete_private_field field.span ∷ []) (child_in roles.Field member.entry.node.now)) out.old out.new }
+{
+    match member.child(Role::Field) {
+        Some(field) => tell_private(alloc, field, out),
+        None => Ok(()),
+    }
+}
+
+/// Tells of what an optional chain ends with, if it is a private member.
 #[tactic(auto, using(check_context::proofs::Telling::telling))]
 fn tell_member(alloc: Global, member: AstKind<'_>, out: &mut Diagnostics) -> Result<(), AllocError>
     ensures { Tells result (rows.chained_rows member.entry.node.now) out.old out.new }
 {
-    if member.ty() != AstType::PrivateFieldExpression {
-        return Ok(());
-    }
-    match member.child(Role::Field) {
-        Some(field) => tell_private(alloc, field, out),
-        None => Ok(()),
+    if member.ty() == AstType::PrivateFieldExpression {
+        tell_field(alloc, member, out)
+    } else {
+        Ok(())
     }
 }
 

@@ -139,14 +139,18 @@ pub(crate) fn first_verdict<'a>(kind: AstKind<'a>, ctx: &CheckContext<'a, '_>) -
     let mut state = Searching::new(kind, ctx);
     let mut left = Some(ctx.current_scope_id);
     while let Some(scope) = left {
-        if let Some(verdict) = state.decides(scope, kind, ctx) {
-            return Found {
-                verdict,
-                kept: state.kept,
-            };
+        match state.decides(scope, kind, ctx) {
+            Some(verdict) => {
+                return Found {
+                    verdict,
+                    kept: state.kept,
+                };
+            }
+            None => {
+                state.pass(scope, ctx);
+                left = ctx.outer_scope(scope);
+            }
         }
-        state.pass(scope, ctx);
-        left = ctx.outer_scope(scope);
     }
     Found {
         verdict: Verdict::Refused,

@@ -15,6 +15,7 @@ ghost use Rattle.check_context.specs.Tells.{Tells};
 use check_context::{CheckContext, Links, first_bytes};
 use semantic_diagnostics::Diagnostics;
 use semantic_diagnostics::makers::{await_or_yield_in_parameter, class_static_block_await};
+use semantic_syntax::Span;
 use semantic_tree::{AstKind, AstType};
 use std::alloc::{AllocError, Global};
 
@@ -58,8 +59,27 @@ fn is_in_parameter<'a>(kind: AstKind<'a>, ctx: &CheckContext<'a, '_>) -> bool
     }
 }
 
-/// Tells of an expression of the keyword in a parameter.
+/// Tells of an expression of the keyword, if it stands in a parameter.
 #[tactic(auto, using(check_context::proofs::Telling::telling, semantic_diagnostics::proofs::AsciiTexts::ascii_texts))]
+fn tell_keyword_if(
+    alloc: Global,
+    is_there: bool,
+    keyword: &str,
+    span: Span,
+    out: &mut Diagnostics,
+) -> Result<(), AllocError>
+    requires { IsTrue (is_ascii keyword.now) }
+    ensures { Tells result (row_if is_there (tell.await_or_yield_in_parameter keyword.now span)) out.old out.new }
+{
+    if is_there {
+        out.push(await_or_yield_in_parameter(alloc, keyword, span)?)
+    } else {
+        Ok(())
+    }
+}
+
+/// Tells of an expression of the keyword in a parameter.
+#[tactic(auto, using(check_context::proofs::Telling::telling))]
 fn tell_in_parameter<'a>(
     alloc: Global,
     keyword: &str,
@@ -71,11 +91,8 @@ fn tell_in_parameter<'a>(
     requires keyword { IsTrue (is_ascii keyword.now) }
     ensures { let s = sight kind.entry.node.now ctx.now in Tells result (row_if (rows.is_in_parameter s) (tell.await_or_yield_in_parameter keyword.now s.node.span)) out.old out.new }
 {
-    if is_in_parameter(kind, ctx) {
-        out.push(await_or_yield_in_parameter(alloc, keyword, kind.span())?)
-    } else {
-        Ok(())
-    }
+    let is_there = is_in_parameter(kind, ctx);
+    tell_keyword_if(alloc, is_there, keyword, kind.span(), out)
 }
 
 /// Tells of `await` in a static block.

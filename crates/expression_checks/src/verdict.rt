@@ -1,9 +1,11 @@
 //! What a function decides about the `super` in it.
-ghost use Rattle.std.specs.Prelude.{◌≡◌, ◌<◌, ◌==◌, ◌||◌, if◌then◌else◌, Some, None, length, not, option_map, find};
+ghost use Rattle.std.specs.Prelude.{◌≡◌, ◌<◌, ◌==◌, ◌||◌, if◌then◌else◌, Some, None, codes, length, not, option_map, find};
 ghost use Rattle.semantic_tree.specs.ChildIter.{shown};
+ghost use Rattle.semantic_tree.specs.Views.{has_text};
 ghost use Rattle.semantic_tree.specs.declared.node.Node.{Node};
 ghost use Rattle.check_model.specs.Context.{seen_row};
 ghost use Rattle.check_model.specs.Super as rows;
+ghost use Rattle.check_model.specs.Surroundings.{links};
 ghost use Rattle.check_context.specs.Handed.{around, sight, IsContext};
 ghost use Rattle.check_context.specs.Shown.{link_shown, links_left};
 ghost use Rattle.expression_checks.specs.Verdicts.{verdict_shown};
@@ -58,8 +60,22 @@ fn is_object_method(property: AstKind<'_>) -> bool
         && (property.has_mark(Mark::Method) || reads(property, "get") || reads(property, "set"))
 }
 
+/// What the function of a method of a class decides: constructors alone allow the call.
+fn method_verdict(method: AstKind<'_>, ctx: &CheckContext<'_, '_>) -> Verdict
+    requires { IsContext ctx.now }
+    ensures { verdict_shown result ≡ (if not (rows.is_call (around ctx.now)) then rows.allowed else (if has_text (codes "constructor") method.entry.node.now then rows.allowed_in_derived else rows.refused)) }
+{
+    if !is_call(ctx) {
+        Verdict::Allowed
+    } else if reads(method, "constructor") {
+        Verdict::AllowedInDerived
+    } else {
+        Verdict::Refused
+    }
+}
+
 /// What a function decides that is reached from the node around it: methods of objects and of classes alone allow
-/// `super`, and constructors alone its call.
+/// `super`.
 fn function_verdict(
     function: AstKind<'_>,
     owner: AstKind<'_>,
@@ -69,21 +85,14 @@ fn function_verdict(
     ensures { let link : Node × Node = (function.entry.node.now, owner.entry.node.now) in verdict_shown result ≡ rows.function_verdict (around ctx.now) link }
 {
     if !is_child_in(Role::Value, owner, function) {
-        return Verdict::Refused;
+        Verdict::Refused
+    } else if is_object_method(owner) {
+        Verdict::AllowedUnlessCall
+    } else if owner.ty() == AstType::MethodDefinition {
+        method_verdict(owner, ctx)
+    } else {
+        Verdict::Refused
     }
-    if is_object_method(owner) {
-        return Verdict::AllowedUnlessCall;
-    }
-    if owner.ty() != AstType::MethodDefinition {
-        return Verdict::Refused;
-    }
-    if !is_call(ctx) {
-        return Verdict::Allowed;
-    }
-    if reads(owner, "constructor") {
-        return Verdict::AllowedInDerived;
-    }
-    Verdict::Refused
 }
 
 /// The node with the id, among those of a way outward, with its parent.
@@ -99,6 +108,22 @@ fn link_of<'a>(id: NodeId, links: Links<'_, 'a>) -> Option<(AstKind<'a>, AstKind
     None
 }
 
+/// The node that opens a scope, if it is on the path and not the root, with its parent.
+fn opener_of<'a>(
+    scope: ScopeId,
+    kind: AstKind<'a>,
+    ctx: &CheckContext<'a, '_>,
+) -> Option<(AstKind<'a>, AstKind<'a>)>
+    requires context { IsContext ctx.now }
+    requires scope { scope < length ctx.now.scoping.now.scopes }
+    ensures { option_map link_shown result ≡ find (λ link. link.0.node_id == (seen_row ctx.now.scoping.now scope).opener) (links (sight kind.entry.node.now ctx.now)) }
+{
+    link_of(
+        ctx.scoping.get_node_id(scope),
+        Links::new(kind, ctx.above()),
+    )
+}
+
 /// What the function of a scope decides.
 fn scope_function_verdict<'a>(
     scope: ScopeId,
@@ -109,8 +134,7 @@ fn scope_function_verdict<'a>(
     requires scope { scope < length ctx.now.scoping.now.scopes }
     ensures { verdict_shown result ≡ rows.scope_function_verdict (sight kind.entry.node.now ctx.now) (seen_row ctx.now.scoping.now scope) }
 {
-    let opener = ctx.scoping.get_node_id(scope);
-    match link_of(opener, Links::new(kind, ctx.above())) {
+    match opener_of(scope, kind, ctx) {
         Some((function, owner)) => function_verdict(function, owner, ctx),
         None => Verdict::Refused,
     }

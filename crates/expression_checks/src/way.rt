@@ -1,16 +1,15 @@
 //! A way outward from a node that is gone once, however often it is asked to go on from a node.
-ghost use Rattle.std.specs.Prelude.{◌≡◌, ◌&&◌, ◌||◌, ◌==◌, ℕ, List, drop, find, nat_lt, not, option_map};
+ghost use Rattle.std.specs.Prelude.{◌≡◌, ◌&&◌, ◌||◌, ◌==◌, ℕ, List, drop, nat_lt, option_map};
 ghost use Rattle.std.specs.Iterator.{YieldsFirstBy};
-ghost use Rattle.std.specs.List.{take_while};
 ghost use Rattle.semantic_kinds.specs.declared.role.Role.TheVariants as roles;
 ghost use Rattle.semantic_tree.specs.Views.{is_child_in};
 ghost use Rattle.semantic_tree.specs.declared.node.Node.{Node};
-ghost use Rattle.check_model.specs.Search.{passes};
+ghost use Rattle.check_model.specs.Search.{find_before};
 ghost use Rattle.check_model.specs.Super as rows;
 ghost use Rattle.check_model.specs.Surroundings.{outward};
 ghost use Rattle.check_context.specs.Handed.{sight, IsContext};
 ghost use Rattle.check_context.specs.Shown.{link_shown};
-ghost use Rattle.expression_checks.specs.Ways.{from_id, is_below, way_left, way_links, GoesAlong};
+ghost use Rattle.expression_checks.specs.Ways.{from_id, is_below, leaves_value_from, way_left, way_links, GoesAlong};
 
 use check_context::{CheckContext, is_child_in};
 use node_store::AncestorKinds;
@@ -117,6 +116,18 @@ impl<'n, 'a> Way<'n, 'a> {
         }
     }
 
+    /// Stands before the node with the id: where that may have been passed, the way begins anew.
+    fn stand_before(&mut self, id: NodeId, kind: AstKind<'a>, ctx: &CheckContext<'a, 'n>)
+        requires context { IsContext ctx.now }
+        requires along { GoesAlong (outward (sight kind.node.now ctx.now)) self.old }
+        ensures left { from_id id (way_left self.new) ≡ from_id id (outward (sight kind.entry.node.now ctx.now)) }
+        ensures along { GoesAlong (outward (sight kind.entry.node.now ctx.now)) self.new }
+    {
+        if !self.is_before(id) {
+            *self = Way::new(kind, ctx);
+        }
+    }
+
     /// Goes to the node with the id.
     pub(crate) fn go_to(&mut self, id: NodeId, kind: AstKind<'a>, ctx: &CheckContext<'a, 'n>)
         requires context { IsContext ctx.now }
@@ -124,15 +135,13 @@ impl<'n, 'a> Way<'n, 'a> {
         ensures left { way_left self.new ≡ from_id id (outward (sight kind.entry.node.now ctx.now)) }
         ensures along { GoesAlong (outward (sight kind.entry.node.now ctx.now)) self.new }
     {
-        if !self.is_before(id) {
-            *self = Way::new(kind, ctx);
-        }
+        self.stand_before(id, kind, ctx);
         self.go_on_to(id);
     }
 
     /// Goes on to the first element of a class that is left, below the class's own node; to that where there is none.
     fn next_element(&mut self, class: NodeId) -> Option<(AstKind<'a>, AstKind<'a>)>
-        ensures link { option_map link_shown result ≡ find (λ link. rows.is_element link.1.kind) (take_while (λ link. not (link.1.node_id == class)) (way_links self.old)) }
+        ensures link { option_map link_shown result ≡ find_before (λ link. link.1.node_id == class) (λ link. rows.is_element link.1.kind) (way_links self.old) }
         ensures along { (nodes : List Node) → GoesAlong nodes self.old → GoesAlong nodes self.new }
     {
         while let Some((child, parent)) = self.next_link() {
@@ -148,7 +157,7 @@ impl<'n, 'a> Way<'n, 'a> {
 
     /// Whether the first element of the class, going outward from here, is left through its value or its type.
     pub(crate) fn leaves_value(&mut self, class: NodeId) -> bool
-        ensures value { result ≡ passes (λ link. is_child_in roles.Value link.1 link.0 || is_child_in roles.Annotation link.1 link.0) (find (λ link. rows.is_element link.1.kind) (take_while (λ link. not (link.1.node_id == class)) (way_links self.old))) }
+        ensures value { result ≡ leaves_value_from class (way_left self.old) }
         ensures along { (nodes : List Node) → GoesAlong nodes self.old → GoesAlong nodes self.new }
     {
         match self.next_element(class) {
