@@ -1,4 +1,4 @@
-use Rattle.std.proofs.Common.{◌≡◌, ℕ, ◌<◌, List, ◌∷◌, Option, Some, None, IfSome, length, refl, sym, ap, subst, ◌∙◌, arith}
+use Rattle.std.proofs.Common.{◌≡◌, ℕ, ◌<◌, List, ◌∷◌, Option, IfSome, length, refl, sym, ap, subst, ◌∙◌, arith}
 use Rattle.semantic_syntax.specs.Tables.{Tables}
 use Rattle.scoping.specs.Reading.{parent_of}
 use Rattle.check_model.specs.Context.{seen_row}

@@ -1,6 +1,6 @@
-use Rattle.std.proofs.Common.{◌≡◌, Bool, true, false, Option, Some, None, cond, sym, ap, ◌∙◌}
+use Rattle.std.proofs.Common.{Some, None, cond, sym, ap, ◌∙◌}
 use Rattle.check_model.specs.Context.{seen_row}
-use Rattle.check_model.specs.Super.{allowed_unless_call, leaves_value}
+use Rattle.check_model.specs.Super.{allowed_unless_call}
 use Rattle.check_model.specs.Surroundings.{outward}
 use Rattle.check_context.specs.Handed.{sight}
 use Rattle.expression_checks.specs.Ways.{leaves_value_from, way_left}

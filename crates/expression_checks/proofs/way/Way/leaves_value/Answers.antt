@@ -1,4 +1,4 @@
-use Rattle.std.proofs.Common.{Option, ◌||◌, ◌==◌, sym, ap, ◌∙◌}
+use Rattle.std.proofs.Common.{◌||◌, ◌==◌, sym, ap, ◌∙◌}
 use Rattle.semantic_kinds.specs.declared.role.Role.TheVariants as roles
 use Rattle.semantic_tree.specs.Views.{is_child_in}
 use Rattle.semantic_tree.specs.declared.node.Node.{Node}
