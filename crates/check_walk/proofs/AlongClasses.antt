@@ -1,5 +1,5 @@
 -- Along the steps of a walk each node is left with the classes that its checks look at.
-use Rattle.std.proofs.Common.{◌≡◌, ℕ, ◌+◌, List, [], ◌∷◌, ◌++◌, Bool, true, false, ◌&&◌, not, cond, Option, None, Some, refl, sym, ap, subst, ◌∙◌, map}
+use Rattle.std.proofs.Common.{◌≡◌, ℕ, ◌+◌, List, [], ◌∷◌, ◌++◌, Bool, true, false, ◌&&◌, not, cond, Option, None, Some, refl, sym, ap, subst, ◌∙◌}
 use Rattle.semantic_kinds.specs.declared.role.Role.{Role}
 use Rattle.semantic_kinds.specs.declared.kind.AstType.TheVariants as kind
 use Rattle.semantic_kinds.specs.Kinds.{same_kind}
@@ -7,20 +7,19 @@ use Rattle.semantic_tree.specs.Forest.{Forest, nothing, tree}
 use Rattle.semantic_tree.specs.Tree.{Tree}
 use Rattle.semantic_tree.specs.Faults.{first_fault}
 use Rattle.semantic_tree.specs.declared.node.Node.{Node}
-use Rattle.semantic_model.specs.Nodes.{is, has_role}
+use Rattle.semantic_model.specs.Nodes.{has_role}
 use Rattle.semantic_model.specs.Inside.{opens, is_inside, any_inside, header_roles, is_in_header, scopes_in}
 use Rattle.semantic_model.specs.Place.{Place, OpenScope}
 use Rattle.semantic_model.specs.Cursor.{on_entering}
-use Rattle.semantic_model.specs.Class.{classes}
 use Rattle.semantic_model.specs.ScopeKind.{opened_scope}
-use Rattle.semantic_model.specs.Step.{Step, entering, opening, leaving, header_ending, closing, scope_at, next_at, opening_at, ending_after, opening_last, child_place, cursor_past, steps_below, steps_of, root_place, steps}
+use Rattle.semantic_model.specs.Step.{Step, entering, opening, leaving, header_ending, closing, scope_at, next_at, opening_at, ending_after, opening_last, child_place, cursor_past, steps_below, root_place, steps}
 use Rattle.class_table.specs.Noted.{left, noted_below, entered, begun}
 use Rattle.class_table.specs.NotedSteps.{noting, noting_all}
 use Rattle.class_table.specs.declared.builder.ClassTableBuilder.{ClassTableBuilder}
 use Rattle.class_table.proofs.BodiesStand.{bodies_stand}
 use Rattle.class_table.proofs.NotingSteps.{all_append, steps_note, noted_classes}
 use Rattle.check_model.specs.SightOf.{elements_at, elements_if}
-use Rattle.check_walk.specs.Showing.{ShowsClasses, ShowsAround, ShowsBetween}
+use Rattle.check_walk.specs.Showing.{ShowsClasses, ShowsBetween}
 use Rattle.check_walk.specs.Telling.{steps_within}
 use Rattle.check_walk.proofs.ClassForm.{classes_formed}
 use Rattle.check_walk.proofs.ShownClasses.{begins, comes, turns, child_comes}

@@ -28,7 +28,7 @@ use Rattle.semantic_model.proofs.ParameterShape.{lead_in_role}
 use Rattle.semantic_model.proofs.Shape.{NoneMisshapen, first_formed, rest_formed, table_kept, fit_kept, none_misshapen}
 use Rattle.class_table.specs.Bodies.{end_rightly, all_end_rightly}
 use Rattle.class_table.proofs.BodiesStand.{bodies_stand}
-use Rattle.check_walk.specs.Shaped.{agree, has_own_role, have_own_role, is_class_shape, are_class_shapes}
+use Rattle.check_walk.specs.Shaped.{has_own_role, have_own_role, is_class_shape, are_class_shapes}
 
 -- the class has class bodies alone
 is_body_class : Class → Bool

@@ -1,12 +1,10 @@
 -- Classes that are told more leave those before them as they are.
 use Rattle.std.proofs.Common.{◌≡◌, ℕ, zero, suc, ◌+◌, ◌<◌, ◌≤◌, List, [], ◌∷◌, ◌++◌, Bool, true, false, cond, Option, None, Some, IfSome, refl, sym, ap, subst, ◌∙◌, map, length, arith, add-zero, length-append}
-use Rattle.std.specs.Prelude.{nat_eq, slice_index_or, option_map}
+use Rattle.std.specs.Prelude.{nat_eq, option_map}
 use Rattle.std.specs.List.{AllByRecursion}
-use Rattle.std.specs.Map.{lookup}
 use Rattle.std.specs.Option.{option_map_or, option_to_list}
 use Rattle.std.proofs.lemmas.List.{get_or_append_left}
 use Rattle.semantic_kinds.specs.Kinds.{same_kind}
-use Rattle.semantic_kinds.specs.declared.kind.AstType.{AstType}
 use Rattle.semantic_kinds.specs.declared.kind.AstType.TheVariants as kind
 use Rattle.semantic_tree.specs.Forest.{Forest, nothing, tree}
 use Rattle.semantic_model.specs.Element.{elements_of}

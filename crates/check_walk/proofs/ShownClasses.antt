@@ -1,5 +1,5 @@
 -- The classes that a walk shows, as nodes are entered and walked.
-use Rattle.std.proofs.Common.{◌≡◌, ℕ, ◌+◌, ◌<◌, List, [], ◌∷◌, ◌++◌, Bool, true, false, ◌&&◌, not, cond, Option, None, Some, IfSome, refl, sym, ap, subst, ◌∙◌, map, flat_map, length, arith, inl, inr, get_or}
+use Rattle.std.proofs.Common.{◌≡◌, ℕ, ◌+◌, ◌<◌, List, [], ◌∷◌, ◌++◌, Bool, true, false, ◌&&◌, not, cond, Option, None, Some, refl, sym, ap, subst, ◌∙◌, map, length, arith, inl, inr, get_or}
 use Rattle.std.specs.List.{AllByRecursion}
 use Rattle.std.specs.Option.{option_map_or}
 use Rattle.std.proofs.lemmas.Bool.{cases_Bool}
@@ -30,7 +30,7 @@ use Rattle.class_table.proofs.Fitting.{fits_told, fits_class}
 use Rattle.class_table.proofs.Noting.{fits_none}
 use Rattle.class_table.proofs.Staying.{notes_other}
 use Rattle.class_table.proofs.Telling.{declared_elements, declared_length}
-use Rattle.check_model.specs.Context.{classes_from, uses_from}
+use Rattle.check_model.specs.Context.{uses_from}
 use Rattle.check_model.specs.Sight.{SeenClass}
 use Rattle.check_model.specs.SightOf.{class_of, classes_around, classes_at, bodies_of, uses_at}
 use Rattle.check_walk.specs.Shaped.{have_own_role, has_own_role, is_class_shape, are_class_shapes}
