@@ -2,3 +2,5 @@ pub mod Outward
 pub mod Declared
 pub mod Telling
 pub mod CurrentClass
+pub mod SoundSpans
+pub mod FreeReferences

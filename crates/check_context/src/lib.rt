@@ -3,10 +3,14 @@
 
 pub mod context;
 mod entries;
+mod free_references;
+mod grandchildren;
 mod links;
 mod nodes;
+mod source_text;
 
 pub use context::CheckContext;
 pub use entries::one_before_last;
+pub use grandchildren::Grandchildren;
 pub use links::Links;
 pub use nodes::{first_bytes, has_child, is_child_in, is_same, node_of};
