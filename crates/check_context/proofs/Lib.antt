@@ -4,3 +4,4 @@ pub mod Telling
 pub mod CurrentClass
 pub mod SoundSpans
 pub mod FreeReferences
+pub mod Stopping

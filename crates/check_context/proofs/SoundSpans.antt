@@ -1,5 +1,5 @@
 -- Spans that lie in a source, on its characters.
-use Rattle.std.proofs.Common.{◌≡◌, ℕ, ◌<◌, ◌≤◌, List, true, ◌&&◌, ◌||◌, ◌==◌, length, slice_index, nat_le, nat_lt, arith, inl, inr}
+use Rattle.std.proofs.Common.{◌≡◌, ℕ, ◌<◌, ◌≤◌, List, true, ◌&&◌, ◌==◌, length, slice_index, nat_le, nat_lt, arith, inl, inr}
 use Rattle.std.specs.Fmt.{is_char_start}
 use Rattle.std.specs.Str.{IsCharBoundary}
 use Rattle.std.proofs.lemmas.Bool.{and_parts, or_cases, eqb-true, leb-true, ltb-true}

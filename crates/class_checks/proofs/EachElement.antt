@@ -74,11 +74,3 @@ module _ (s : Sight) (els : List StoredElement) (i : ℕ) (within : i < length e
     -- it is told of in part
     pub element_begun : IsBegun (own_rows s earlier (element_seen own)) mid now → IsBegun rows before now
     element_begun k = stops rows (own_rows s earlier (element_seen own)) (rows_left s els (i + 1)) before mid now (subst (λ l. IsTelling rows l before mid) own_first telling) k
-
--- for want of memory the first rows are told
-pub stopped : {A E : Type 0} (P : E → Type 0) (r : Result A E) (rows before now : List Diagnostic) → IsErrAnd r P → IsBegun rows before now → Tells r rows before now
-stopped P (Ok done) rows before now h k = absurd h
-stopped P (Err want) rows before now h k = k
-
-pub all_told_so_far : (rows left before now : List Diagnostic) → IsTelling rows left before now → IsBegun rows before now
-all_told_so_far rows left before now h = record { told = h.told; left = left; are_first = h.are_first; are_last = h.are_last }

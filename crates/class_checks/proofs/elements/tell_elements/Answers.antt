@@ -3,7 +3,8 @@ use Rattle.semantic_tree.specs.Sound.{is_sound}
 use Rattle.semantic_model.specs.Element.{Element}
 use Rattle.class_table.specs.Seen.{element_seen}
 use Rattle.check_context.specs.Handed.{around}
-use Rattle.class_checks.proofs.EachElement.{no_element, before_each, earlier_goes_on, element_told, element_begun, stopped, all_told_so_far}
+use Rattle.check_context.proofs.Stopping.{stopped, all_told_so_far}
+use Rattle.class_checks.proofs.EachElement.{no_element, before_each, earlier_goes_on, element_told, element_begun}
 use Rattle.class_checks.proofs.elements.tell_elements.Goals as goal
 
 pub tell_element-requires : goal.tell_element-requires
