@@ -1,5 +1,5 @@
 -- The classes around a class are in the table.
-use Rattle.std.proofs.Common.{◌≡◌, ℕ, zero, suc, ◌<◌, List, [], ◌∷◌, Option, Some, None, IfSome, arith}
+use Rattle.std.proofs.Common.{ℕ, zero, suc, ◌<◌, List, [], Option, Some, None, IfSome, arith}
 use Rattle.std.specs.List.{AllByRecursion}
 use Rattle.std.specs.Option.{option_map_or}
 use Rattle.class_table.specs.Outward.{parent_in, StandBefore, outward_within, outward}

@@ -1,18 +1,17 @@
 -- A pass over the elements of a class.
-use Rattle.std.proofs.Common.{◌≡◌, ℕ, false, zero, suc, ◌+◌, ◌<◌, List, [], ◌∷◌, ◌++◌, Result, Ok, Err, get_or, take, drop, length, map, refl, sym, ap, subst, ◌∙◌, add-one, drop-cons}
+use Rattle.std.proofs.Common.{◌≡◌, ℕ, false, zero, suc, ◌+◌, ◌<◌, List, [], ◌∷◌, ◌++◌, get_or, take, drop, length, map, sym, ap, subst, ◌∙◌, add-one, drop-cons}
 use Rattle.std.specs.Prelude.{IfSome}
 use Rattle.std.specs.List.{AllByRecursion}
-use Rattle.std.specs.Result.{IsErrAnd}
 use Rattle.std.proofs.lemmas.List.{map-append, take_more}
 use Rattle.semantic_diagnostics.specs.declared.diagnostic.Diagnostic.{Diagnostic}
 use Rattle.semantic_model.specs.Element.{Element}
 use Rattle.class_table.specs.Seen.{element_seen}
 use Rattle.class_table.specs.declared.element.Element.{Element as StoredElement}
-use Rattle.check_model.specs.Elements.{clash, clash_row, class_rows, element_rows}
+use Rattle.check_model.specs.Elements.{clash, clash_row, element_rows}
 use Rattle.check_model.specs.Search.{each_after, row_if, rows_of_some}
 use Rattle.check_model.specs.Sight.{Sight}
 use Rattle.check_model.specs.Surroundings.{is_typescript}
-use Rattle.check_context.specs.Tells.{IsBegun, IsTelling, Tells}
+use Rattle.check_context.specs.Tells.{IsBegun, IsTelling}
 use Rattle.check_context.proofs.Telling.{goes_on, stops}
 use Rattle.class_checks.specs.Predecessors.{earlier_of, and_element, predecessor_in}
 use Rattle.class_checks.specs.declared.earlier_elements.EarlierElements.{EarlierElements}

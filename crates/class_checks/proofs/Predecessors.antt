@@ -1,5 +1,5 @@
 -- The elements by their names tell the one that an element is compared with.
-use Rattle.std.proofs.Common.{◌≡◌, ℕ, List, [], ◌∷◌, ◌++◌, Bool, true, false, Option, Some, None, ◌&&◌, ◌||◌, not, cond, if◌then◌else◌, refl, sym, ap, subst, ◌∙◌, inl, inr, bytes_eq}
+use Rattle.std.proofs.Common.{◌≡◌, List, [], ◌∷◌, ◌++◌, Bool, true, false, Option, Some, None, ◌&&◌, ◌||◌, not, cond, if◌then◌else◌, refl, sym, ap, subst, ◌∙◌, inl, inr, bytes_eq}
 use Rattle.std.specs.Prelude.{find, reverse, fold, IfSome}
 use Rattle.std.specs.List.{AllByRecursion}
 use Rattle.std.specs.Map.{lookup}

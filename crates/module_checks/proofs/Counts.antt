@@ -1,16 +1,11 @@
 -- How often each symbol is bound, counted and told.
-use Rattle.std.proofs.Common.{◌≡◌, ℕ, zero, suc, ◌+◌, ◌-◌, ◌<◌, ◌≤◌, List, [], ◌∷◌, ◌++◌, Bool, true, false, cond, Result, Ok, Err, ◌==◌, get_or, set, drop, length, filter, flat_map, replicate, refl, sym, ap, subst, ◌∙◌, add-one, arith, inl, inr, drop-cons, get_or-set_same, get_or-set_other}
-use Rattle.std.specs.Result.{IsErrAnd}
-use Rattle.std.proofs.Math.ListN.{length-set}
-use Rattle.std.proofs.lemmas.Bool.{cases_eq, eq-eqb, ne_eqb}
-use Rattle.std.proofs.lemmas.List.{get_or-replicate, length-replicate}
-use Rattle.semantic_syntax.specs.Tables.{Symbol, Tables}
+use Rattle.std.proofs.Common.{◌≡◌, ℕ, suc, ◌+◌, ◌-◌, ◌<◌, ◌≤◌, List, [], ◌∷◌, ◌++◌, Bool, true, false, cond, ◌==◌, get_or, drop, length, filter, flat_map, refl, sym, ap, ◌∙◌, add-one, arith, drop-cons}
+use Rattle.std.proofs.lemmas.Bool.{eq-eqb}
+use Rattle.semantic_syntax.specs.Tables.{Tables}
 use Rattle.semantic_diagnostics.specs.declared.diagnostic.Diagnostic.{Diagnostic}
 use Rattle.scoping.specs.Reading.{no_symbol, symbol_of}
 use Rattle.check_model.specs.Exports.{bound_rows, import_rows}
-use Rattle.check_context.specs.Tells.{IsBegun, IsTelling, Tells}
-use Rattle.check_context.proofs.Telling.{begins, ends, goes_on, stops}
-use Rattle.module_checks.specs.Bound.{times_in, AreCounts, AreCounting, repeated}
+use Rattle.module_checks.specs.Bound.{times_in, AreCounting, repeated}
 
 -- ---- counting
 

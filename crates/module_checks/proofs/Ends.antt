@@ -1,10 +1,9 @@
 -- The first of some declarations, and the last.
-use Rattle.std.proofs.Common.{◌≡◌, ℕ, ◌-◌, ◌<◌, ◌≤◌, List, [], ◌∷◌, Some, get_or, length, reverse, refl, sym, ap, ◌∙◌, arith}
+use Rattle.std.proofs.Common.{◌≡◌, ◌-◌, ◌<◌, ◌≤◌, List, [], ◌∷◌, Some, get_or, length, reverse, refl, ap, ◌∙◌, arith}
 use Rattle.std.proofs.lemmas.Bool.{lt-ltb, le-ltb}
 use Rattle.std.proofs.lemmas.List.{get_or-reverse, length-reverse}
 use Rattle.semantic_syntax.specs.Tables.{Name}
 use Rattle.semantic_syntax.specs.declared.references.Redeclaration.{Redeclaration}
-use Rattle.semantic_diagnostics.specs.declared.diagnostic.Diagnostic.{Diagnostic}
 use Rattle.semantic_diagnostics.specs.Names.{redeclaration}
 use Rattle.check_model.specs.Exports.{first_and_last_rows}
 use Rattle.check_model.specs.Search.{first, last, rows_if, rows_of_some}

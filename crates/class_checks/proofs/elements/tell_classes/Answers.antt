@@ -1,4 +1,4 @@
-use Rattle.std.proofs.Common.{map, subst, sym, ap, ◌∙◌}
+use Rattle.std.proofs.Common.{map, subst, sym}
 use Rattle.class_table.specs.Seen.{element_seen}
 use Rattle.check_model.specs.Elements.{class_rows}
 use Rattle.check_context.specs.Handed.{around}

@@ -1,4 +1,4 @@
-use Rattle.std.proofs.Common.{◌<◌, length, subst, sym, ap}
+use Rattle.std.proofs.Common.{◌<◌, length, subst, sym}
 use Rattle.std.specs.List.{AllByRecursion}
 use Rattle.class_table.specs.Lists.{ClassLists}
 use Rattle.class_table.specs.Outward.{outward}

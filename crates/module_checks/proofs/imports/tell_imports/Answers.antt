@@ -1,11 +1,11 @@
-use Rattle.std.proofs.Common.{◌≡◌, ℕ, ◌+◌, ◌<◌, List, ◌++◌, get_or, drop, length, subst, ap, sym, ◌∙◌, arith}
+use Rattle.std.proofs.Common.{ℕ, ◌+◌, ◌<◌, List, ◌++◌, get_or, drop, length, subst, ap, ◌∙◌, arith}
 use Rattle.semantic_diagnostics.specs.declared.diagnostic.Diagnostic.{Diagnostic}
 use Rattle.scoping.specs.Reading.{symbol_of}
 use Rattle.check_model.specs.Exports.{bound_rows, import_rows}
 use Rattle.check_context.specs.Tells.{IsBegun, IsTelling}
 use Rattle.check_context.proofs.Telling.{goes_on, stops}
 use Rattle.check_context.proofs.Stopping.{stopped}
-use Rattle.module_checks.specs.Bound.{bound_in, repeated, times_in}
+use Rattle.module_checks.specs.Bound.{bound_in, repeated}
 use Rattle.module_checks.proofs.Counts.{next_symbol}
 use Rattle.module_checks.proofs.imports.tell_imports.Goals as goal
 
