@@ -6,4 +6,4 @@ use Rattle.check_context.proofs.outer_class.class_around.Goals as goal
 
 pub returns-clause-before : goal.returns-clause-before
 returns-clause-before c =
-    subst (λ (lists : ClassLists). StandBefore lists.parents) c.classes.view_is (stand_before _ c.classes.inside.parent_ids.entries c.classes.invariant.inside)
+    subst (λ (lists : ClassLists). StandBefore lists.parents) c.classes.view_is (stand_before _ c.classes.inside.parent_ids.entries c.classes.invariant.lists.inside)
