@@ -12,4 +12,4 @@ returns c =
     let lists : ClassLists = lists_of c.classes.inside in
     let P : ClassLists → Type 0 = λ lists. AllByRecursion (λ k. k < length lists.nodes) (outward lists.parents c.args.class) in
     subst P c.classes.view_is
-    (around_each (length lists.nodes) lists.parents (stand_before _ lists.parents c.classes.invariant.inside) c.args.class (subst (λ (lists : ClassLists). c.args.class < length lists.nodes) (sym c.classes.view_is) c.requires))
+    (around_each (length lists.nodes) lists.parents (stand_before _ lists.parents c.classes.invariant.lists.inside) c.args.class (subst (λ (lists : ClassLists). c.args.class < length lists.nodes) (sym c.classes.view_is) c.requires))
