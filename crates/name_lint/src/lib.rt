@@ -2,15 +2,6 @@
 #![tactic(auto)]
 
 mod finding;
-mod found_names;
-mod id_lists;
-mod known_names;
-mod liveness;
-mod reference_uses;
-mod scope_questions;
-mod tree_pass;
-mod undeclared_names;
 
 pub use finding::find_names;
-pub use found_names::NameReport;
-pub use id_lists::{ReferenceIdList, SymbolIdList};
+pub use name_uses::{NameReport, ReferenceIdList, SymbolIdList};
