@@ -1,5 +1,5 @@
 -- The lines that are written are those of the definitions.
-use Rattle.std.proofs.Common.{◌≡◌, ◌<◌, ℕ, List, [], ◌++◌, codes, flat_map, length, map, get_or, sym, ap, ◌∙◌}
+use Rattle.std.proofs.Common.{◌≡◌, ◌<◌, ℕ, List, [], codes, length, map, get_or, sym, ap, ◌∙◌}
 use Rattle.std.proofs.lemmas.List.{get_or-map}
 use Rattle.std.specs.Str.{encode_utf8_all}
 use Rattle.semantic_syntax.specs.declared.spans.Span.{Span}

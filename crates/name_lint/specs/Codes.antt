@@ -1,5 +1,5 @@
 -- The exit statuses, and the end that each stands for.
-use Rattle.std.specs.Prelude.{ℕ, List, [], ◌∷◌}
+use Rattle.std.specs.Prelude.{ℕ, List, []}
 use Rattle.program_ends.specs.Meaning.{End}
 use Rattle.program_ends.specs.Meaning as ends
 use Rattle.program_ends.specs.declared.stops.Stop.{Stop}

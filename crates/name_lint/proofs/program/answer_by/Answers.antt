@@ -3,7 +3,7 @@ use Rattle.std.proofs.lemmas.List.{length-map}
 use Rattle.semantic_model.specs.Step.{steps}
 use Rattle.name_uses.specs.Gathered.{Gathered, text_of, span_of}
 use Rattle.name_uses.specs.Known.{names_of}
-use Rattle.name_uses.specs.Undeclared.{undeclared, reference_names, reference_spans}
+use Rattle.name_uses.specs.Undeclared.{reference_names, reference_spans}
 use Rattle.name_lint.specs.Codes.{end_of, status_for}
 use Rattle.name_lint.specs.Lines.{name_lines}
 use Rattle.name_lint.proofs.InRange.{unused_below, undeclared_below}
