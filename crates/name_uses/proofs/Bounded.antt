@@ -1,5 +1,5 @@
 -- What is gathered from a program speaks of symbols that its tables have.
-use Rattle.std.proofs.Common.{◌≡◌, ◌<◌, ◌≤◌, ◌+◌, ◌==◌, ℕ, suc, List, [], ◌∷◌, ◌++◌, Bool, true, false, cond, Option, None, Some, IfSome, All, length, map, refl, sym, ap, subst, ◌∙◌, inl, inr, eq-eqb, arith}
+use Rattle.std.proofs.Common.{◌≡◌, ◌<◌, ◌≤◌, ◌+◌, ◌==◌, ℕ, suc, List, [], ◌∷◌, ◌++◌, Bool, true, false, cond, Option, None, Some, All, length, map, refl, sym, ap, subst, ◌∙◌, inl, inr, eq-eqb, arith}
 use Rattle.std.specs.Prelude.{slice_get}
 use Rattle.std.specs.List.{filter_map, cons_option, range_with_len}
 use Rattle.std.proofs.lemmas.List.{length-map}
@@ -16,7 +16,7 @@ use Rattle.semantic_model.specs.Nodes.{is}
 use Rattle.semantic_model.specs.Entries.{Among, times, or_empty}
 use Rattle.semantic_model.specs.Event.{events}
 use Rattle.semantic_model.specs.Fits.{StandOnce, stand_of, stand_in_tree}
-use Rattle.semantic_model.specs.Fold.{State, Made, start}
+use Rattle.semantic_model.specs.Fold.{Made, start}
 use Rattle.semantic_model.specs.Hoist.{run}
 use Rattle.semantic_model.specs.NodeTable.{belonging, number_of}
 use Rattle.semantic_model.specs.Reference.{reference_at, references}
@@ -24,12 +24,12 @@ use Rattle.semantic_model.specs.Step.{Step, entering, opening, header_ending, cl
 use Rattle.semantic_model.specs.TablesOf.{tables_of, is_symbol}
 use Rattle.semantic_model.proofs.Afterwards.{uses_are_ties}
 use Rattle.semantic_model.proofs.Changes.{HasName}
-use Rattle.semantic_model.proofs.Orders.{HasForm, table_of, sound_program}
+use Rattle.semantic_model.proofs.Orders.{HasForm, sound_program}
 use Rattle.semantic_model.proofs.Shape.{has_form}
 use Rattle.semantic_model.proofs.Whole.{tables_fit}
 use Rattle.program_names.specs.Analysis.{Analysis, analysis_of, symbol_at}
-use Rattle.name_uses.specs.Uses.{Use, owner_of, owner_on, owners, is_counted, used_symbol, use_of, uses_by}
-use Rattle.name_uses.specs.Live.{is_sure, sure_from, free_use, owned_use, owned_by, exports}
+use Rattle.name_uses.specs.Uses.{owner_of, owner_on, owners, is_counted, used_symbol, use_of, uses_by}
+use Rattle.name_uses.specs.Live.{is_sure, sure_from, free_use, owned_use, exports}
 use Rattle.name_uses.specs.Undeclared.{reference_names}
 use Rattle.name_uses.specs.Within.{AreSymbols}
 

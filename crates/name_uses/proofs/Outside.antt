@@ -1,5 +1,5 @@
 -- Where marks are those of a set, the numbers without a mark are those outside.
-use Rattle.std.proofs.Common.{◌≡◌, ◌<◌, ◌≤◌, ◌+◌, ℕ, zero, suc, List, [], ◌∷◌, Bool, true, false, cond, length, refl, sym, ap, subst, ◌∙◌, inl, inr, arith}
+use Rattle.std.proofs.Common.{◌≡◌, ◌<◌, ◌+◌, ℕ, zero, suc, List, [], ◌∷◌, Bool, true, false, cond, length, refl, sym, subst, inl, inr, arith}
 use Rattle.reachability.specs.Rows.{Among}
 use Rattle.reachability.specs.Marked.{is_marked}
 use Rattle.name_uses.specs.Live.{IsRising, AreOutside, unmarked_from}

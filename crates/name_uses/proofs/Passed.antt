@@ -1,10 +1,8 @@
 -- What the pass over a tree gathers is what the definitions take from the steps of the walk.
-use Rattle.std.proofs.Common.{◌≡◌, ℕ, ◌+◌, List, [], ◌∷◌, ◌++◌, Bool, true, false, ◌&&◌, not, cond, Option, None, Some, map, flat_map, refl, sym, ap, subst, ◌∙◌, append_assoc, append-nil, option_and_then}
-use Rattle.std.specs.List.{filter_map, cons_option}
+use Rattle.std.proofs.Common.{◌≡◌, ℕ, ◌+◌, List, [], ◌∷◌, ◌++◌, Bool, true, false, ◌&&◌, not, cond, Option, None, Some, map, refl, sym, ap, ◌∙◌, append_assoc, append-nil, option_and_then}
+use Rattle.std.specs.List.{cons_option}
 use Rattle.semantic_kinds.specs.declared.role.Role.{Role}
 use Rattle.semantic_kinds.specs.declared.kind.AstType.TheVariants as kind
-use Rattle.semantic_syntax.specs.Tables.{Name}
-use Rattle.semantic_syntax.specs.declared.spans.Span.{Span}
 use Rattle.semantic_tree.specs.Forest.{Forest, nothing, tree}
 use Rattle.semantic_tree.specs.Tree.{Tree}
 use Rattle.semantic_tree.specs.declared.node.Node.{Node}

@@ -1,5 +1,5 @@
 -- What is gathered from a program, by its tables and what belongs to its nodes.
-use Rattle.std.proofs.Common.{◌≡◌, ◌<◌, ◌==◌, ℕ, List, [], ◌∷◌, Option, None, Some, cond, inl, inr, refl, sym, ap, subst, ◌∙◌, length, map, nat_eq, eq-eqb}
+use Rattle.std.proofs.Common.{◌≡◌, ◌==◌, ℕ, List, [], ◌∷◌, Option, None, Some, cond, inl, inr, refl, sym, ap, subst, ◌∙◌, length, map, nat_eq, eq-eqb}
 use Rattle.std.specs.Map.{lookup}
 use Rattle.std.proofs.lemmas.List.{length-map}
 use Rattle.std.proofs.lemmas.Bool.{eqb-true, false_from_ne_true}

@@ -1,4 +1,4 @@
-use Rattle.std.proofs.Common.{length, ap, subst, ◌∙◌}
+use Rattle.std.proofs.Common.{ap, subst, ◌∙◌}
 use Rattle.name_uses.specs.Gathered.{symbol_in}
 use Rattle.name_uses.specs.Live.{AreOutside, unmarked_from}
 use Rattle.name_uses.specs.Within.{LiveIn}

@@ -1,4 +1,4 @@
-use Rattle.std.proofs.Common.{◌≡◌, ◌<◌, ℕ, List, [], ◌∷◌, ◌++◌, length, sym, ap, ◌∙◌, true, false, arith}
+use Rattle.std.proofs.Common.{◌≡◌, ◌<◌, [], ◌∷◌, ◌++◌, length, sym, ap, ◌∙◌, arith}
 use Rattle.semantic_syntax.specs.Tables.{Tables}
 use Rattle.scoping.specs.Reading.{reference_of}
 use Rattle.name_uses.specs.Gathered.{text_of}
