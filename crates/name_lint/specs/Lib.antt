@@ -1,6 +1,5 @@
-pub mod Uses
-pub mod Live
-pub mod Undeclared
-pub mod Known
-pub mod Gathered
-pub mod Within
+pub mod Codes
+pub mod Lines
+pub mod Words
+pub mod Telling
+pub mod Meaning

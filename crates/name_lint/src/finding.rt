@@ -1,16 +1,16 @@
 //! The names of a program that are unused or undeclared.
 ghost use Rattle.std.specs.Prelude.{◌≡◌, IfOk};
-ghost use Rattle.name_lint.specs.Known.{names_of};
-ghost use Rattle.name_lint.specs.Live.{AreUnused};
-ghost use Rattle.name_lint.specs.Undeclared.{undeclared};
+ghost use Rattle.name_uses.specs.Known.{names_of};
+ghost use Rattle.name_uses.specs.Live.{AreUnused};
+ghost use Rattle.name_uses.specs.Undeclared.{undeclared};
 
-use crate::found_names::{NameReport, names_in};
+use name_uses::{NameReport, names_in};
 use semantic::{SemanticBuilder, SemanticBuilderReturn};
 use semantic_tree::Program;
 use std::alloc::{AllocError, Global};
 
-/// Lets go of an analysis.
-fn let_go(_analysis: SemanticBuilderReturn<'_>) {}
+/// Drops an analysis, out of line: each function that drops one itself is proved anew to drop each of its parts.
+pub(crate) fn drop_analysis(_analysis: SemanticBuilderReturn<'_>) {}
 
 /// The symbols of the program that nothing in use uses, and its free references to names that are neither declared nor
 /// known. A symbol is in use where a reference that does more than write it stands outside of function and class
@@ -23,6 +23,6 @@ pub fn find_names(alloc: Global, p: &Program, known: &[String]) -> Result<NameRe
     let analysis = SemanticBuilder::new().build(alloc, p)?;
     let semantic = &analysis.semantic;
     let found = names_in(alloc, p, semantic.scoping(), semantic.tables(), known);
-    let_go(analysis);
+    drop_analysis(analysis);
     found
 }

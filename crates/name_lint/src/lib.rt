@@ -2,15 +2,13 @@
 #![tactic(auto)]
 
 mod finding;
-mod found_names;
-mod id_lists;
-mod known_names;
-mod liveness;
-mod reference_uses;
-mod scope_questions;
-mod tree_pass;
-mod undeclared_names;
+mod name_lines;
+mod program;
+mod status;
+mod stops;
 
 pub use finding::find_names;
-pub use found_names::NameReport;
-pub use id_lists::{ReferenceIdList, SymbolIdList};
+pub use name_uses::{NameReport, ReferenceIdList, SymbolIdList};
+pub use program::run_names;
+pub use status::NamesStatus;
+pub use stops::{finish, refuse_words, tell};

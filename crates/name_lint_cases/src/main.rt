@@ -1,8 +1,11 @@
-//! Writes what is found in the programs of the folder `programs`, which the file `names` lists: the numbers of the symbols
-//! that nothing in use uses, and of the references to names that are neither declared nor known.
+//! Runs the lint of names over the programs of the folder `programs`, which the file `names` lists, each with the names that
+//! are known beside it, and over ends that fail. It writes what is found and what each run writes and answers.
 #![tactic(auto)]
 
-use name_lint::{NameReport, ReferenceIdList, SymbolIdList, find_names};
+mod failing_ends;
+mod runs;
+
+use name_lint::{NameReport, find_names};
 use std::alloc::{AllocError, Global};
 use std::{fs, io};
 use tree_json::read_program;
@@ -24,47 +27,36 @@ fn found_in(alloc: Global, tree: &str, known: &[String]) -> Result<Option<NameRe
     }
 }
 
-// What is found in the program of the name, with the names that are known beside it.
-fn found_for(rt: &HostRuntime, name: &str) -> io::Result<Option<NameReport>> {
+// Writes how much is found in a tree.
+fn write_found(rt: &HostRuntime, tree: &str, known: &[String]) -> io::Result<()> {
+    match found_in(rt.alloc(), tree, known)? {
+        Some(found) => println!(rt;
+            "{} unused, {} undeclared",
+            found.unused.as_slice().len(),
+            found.undeclared.as_slice().len()
+        ),
+        None => println!(rt; "no program"),
+    }
+}
+
+// Writes what is found in the program of the name, and the run over it.
+fn write_program(rt: &HostRuntime, name: &str) -> io::Result<()> {
     let alloc = rt.alloc();
     let path = format!(in alloc; "programs/{name}.json")?;
     let tree = fs::read_to_string(rt, path.as_str())?;
     let path = format!(in alloc; "programs/{name}.known")?;
     let text = fs::read_to_string(rt, path.as_str())?;
     let known = names_in(alloc, text.as_str())?;
-    Ok(found_in(alloc, tree.as_str(), &known)?)
-}
-
-fn write_unused(rt: &HostRuntime, unused: &SymbolIdList) -> io::Result<()> {
-    for id in unused.as_slice() {
-        println!(rt; "unused {}", id.index())?;
-    }
-    Ok(())
-}
-
-fn write_undeclared(rt: &HostRuntime, undeclared: &ReferenceIdList) -> io::Result<()> {
-    for id in undeclared.as_slice() {
-        println!(rt; "undeclared {}", id.index())?;
-    }
-    Ok(())
-}
-
-// Writes what is found in the program of the name.
-fn write_found(rt: &HostRuntime, name: &str) -> io::Result<()> {
-    println!(rt; "program {name}")?;
-    match found_for(rt, name)? {
-        Some(found) => {
-            write_unused(rt, &found.unused)?;
-            write_undeclared(rt, &found.undeclared)
-        }
-        None => println!(rt; "refused"),
-    }
+    print!(rt; "{name}: ")?;
+    write_found(rt, tree.as_str(), &known)?;
+    runs::write_run(rt, tree.as_str(), &known)
 }
 
 fn main(rt: HostRuntime) -> io::Result<()> {
     let names = fs::read_to_string(&rt, "names")?;
     for name in names.lines() {
-        write_found(&rt, name)?;
+        write_program(&rt, name)?;
     }
-    Ok(())
+    let tree = fs::read_to_string(&rt, "programs/unused-and-undeclared-names.json")?;
+    failing_ends::write_runs(&rt, tree.as_str())
 }

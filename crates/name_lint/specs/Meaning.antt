@@ -1,0 +1,57 @@
+-- What each status of the program means.
+use Rattle.std.specs.Prelude.{◌≡◌, ◌⊎◌, ℕ, List, Option, Result, Ok, Err, String}
+use Rattle.std.specs.declared.alloc.Global.{Global}
+use Rattle.semantic_tree.specs.Tree.{Tree}
+use Rattle.report_ends.specs.Streams.{Writes}
+use Rattle.report_ends.specs.declared.error.ReportError.{ReportError}
+use Rattle.report_ends.specs.declared.error.ReportError.TheVariants as error
+use Rattle.program_ends.specs.Calls.{SourceCall, SinkCall}
+use Rattle.program_ends.specs.Lines.{tree_line}
+use Rattle.program_ends.specs.Meaning.{End, Finds, Answered, Stopped}
+use Rattle.program_ends.specs.Meaning as ends
+use Rattle.program_ends.specs.Reads.{Stands, RefusedFor}
+use Rattle.name_uses.specs.Known.{names_of}
+use Rattle.name_uses.specs.Live.{AreUnused}
+use Rattle.name_uses.specs.Undeclared.{undeclared}
+use Rattle.name_lint.specs.Codes.{end_of, status_for}
+use Rattle.name_lint.specs.Lines.{lines_of}
+use Rattle.name_lint.specs.Telling.{usage_line}
+use Rattle.name_lint.specs.Words.{AreNames}
+use Rattle.name_lint.specs.declared.status.NamesStatus.{NamesStatus}
+
+-- ---- what is answered
+
+-- the text is the lines of the program's unused symbols and of its references to names that nobody declares and that aren't among the
+-- words, and this is the end for it
+pub record Answers (words : List (String Global)) (end : End) (p : Tree) (text : List ℕ) : Type 0 where
+  pub unused : List ℕ
+  pub are_unused : AreUnused p unused
+  pub told : text ≡ lines_of p unused (undeclared (names_of words) p)
+  pub ends : end ≡ end_of (status_for unused (undeclared (names_of words) p))
+
+-- the sink has taken the text, and this is the status for it; or it has taken a prefix
+abbrev pub WritesAll : {K : Type 0} → (K → Option (List ℕ)) → (K → ℕ) → K → K → List ℕ → NamesStatus → Result NamesStatus ReportError → Type 0
+WritesAll held faults old new text status (Ok given) = (given ≡ status) × Writes held faults old new text (Ok tt)
+WritesAll held faults old new text status (Err cause) = Writes held faults old new text (Err cause)
+
+-- the sink has taken the answer about the program, or a prefix of it; or memory was wanting before there was one
+abbrev pub GivesAnswer : {K : Type 0} → (K → Option (List ℕ)) → (K → ℕ) → K → K → List (String Global) → Tree → Result NamesStatus ReportError → Type 0
+GivesAnswer held faults old new words p (Ok status) = (text : List ℕ) × Answers words (end_of status) p text × Writes held faults old new text (Ok tt)
+GivesAnswer held faults old new words p (Err cause) =
+    ((cause ≡ error.Memory) × (held new ≡ held old)) ⊎ ((end : End) × (text : List ℕ) × Answers words end p text × Writes held faults old new text (Err cause))
+
+-- ---- the whole program
+
+-- what becomes of such words, before it is told
+abbrev pub Ends : List (String Global) → SourceCall → SinkCall → Result NamesStatus ReportError → Type 0
+Ends words source out (Ok status) = Answered (Finds Stands) (Answers words) source out (end_of status)
+Ends words source out (Err cause) = Stopped (AreNames words) (Finds Stands) (Answers words) source out cause
+
+-- nothing is refused about a good input
+abbrev pub RefusesNone : Tree → List ℕ → Type 0
+RefusesNone p line = ⊥
+
+-- What the program has done at each status.
+abbrev pub Means : SourceCall → SinkCall → SinkCall → List (String Global) → NamesStatus → Type 0
+Means source out errs words status =
+    ends.Means (AreNames words) usage_line Stands RefusedFor tree_line (Answers words) RefusesNone source out errs (end_of status)

@@ -1,0 +1,52 @@
+//! How the program ends.
+ghost use Rattle.std.specs.Prelude.{◌≡◌};
+ghost use Rattle.name_lint.specs.Codes.{code_of};
+
+use program_ends::Stop;
+
+/// How the program ends.
+#[derive(Clone, Copy, Debug, PartialEq, Eq)]
+pub enum NamesStatus {
+    /// Each symbol is in use, and each name is declared or known.
+    Done,
+    /// The lines on unused symbols and undeclared references are written, and there are some.
+    Found,
+    /// A word is empty.
+    Usage,
+    /// The input is no program.
+    Tree,
+    /// The input is too long.
+    TooLong,
+    /// A call on the source failed.
+    Read,
+    /// A call on the sink failed.
+    Write,
+    /// Memory is wanting.
+    Memory,
+}
+
+impl NamesStatus {
+    /// The exit status, from 0 to 7.
+    pub fn code(self) -> u8
+        ensures { result ≡ code_of self }
+    {
+        self as u8
+    }
+}
+
+impl From<Stop> for NamesStatus {
+    ghost use Rattle.name_lint.specs.Codes.{status_of};
+
+    ghost from_gives = { λ stop status. status ≡ status_of stop };
+
+    fn from(stop: Stop) -> Self {
+        match stop {
+            Stop::Usage => NamesStatus::Usage,
+            Stop::Tree => NamesStatus::Tree,
+            Stop::TooLong => NamesStatus::TooLong,
+            Stop::Read => NamesStatus::Read,
+            Stop::Write => NamesStatus::Write,
+            Stop::Memory => NamesStatus::Memory,
+        }
+    }
+}

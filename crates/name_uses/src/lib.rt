@@ -1,0 +1,16 @@
+//! The names of an analysed program: the symbols that nothing in use uses, and the references to names that nobody
+//! declares.
+#![tactic(auto)]
+
+mod found_names;
+mod id_lists;
+mod known_names;
+mod liveness;
+mod reference_uses;
+mod scope_questions;
+mod tree_pass;
+mod undeclared_names;
+
+pub use found_names::{NameReport, names_by, names_in};
+pub use id_lists::{ReferenceIdList, SymbolIdList};
+pub use tree_pass::TreePass;
