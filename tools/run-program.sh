@@ -1,7 +1,7 @@
 #!/bin/sh
 # Runs the proved program of a crate with the words and the standard input given. Before, if it isn't there or a file of
 # the crates is newer, it proves and builds it and says on standard error how far it is.
-# The exit status is the program's, or 8 if it can't be built.
+# The exit status is the program's, or if it can't be built UNBUILT, which is 8 where it isn't set.
 # usage: tools/run-program.sh CRATE WORD..
 set -eu
 tools="$(cd "$(dirname "$0")" && pwd)"
@@ -16,6 +16,6 @@ newer() {
 }
 
 if [ ! -x "$program" ] || [ -n "$(newer)" ]; then
-    python3 "$tools/build_program.py" "$crate" </dev/null >&2 || exit 8
+    python3 "$tools/build_program.py" "$crate" </dev/null >&2 || exit "${UNBUILT:-8}"
 fi
 exec "$program" "$@"

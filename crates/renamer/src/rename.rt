@@ -7,9 +7,13 @@ ghost use Rattle.semantic_model.specs.TablesOf.{tables_of};
 ghost use Rattle.program_names.specs.Analysis.{analysis_of};
 ghost use Rattle.rename_passes.specs.Told.{told_by};
 ghost use Rattle.rename_model.specs.Alone.{BelongsTo, IsUnused};
+ghost use Rattle.renamer.specs.Answers.{IsAnswer};
 ghost use Rattle.renamer.specs.Outcome.{Comes, Compares, Finds, IsRenaming, IsRefusedFor, NeverDiffers};
+ghost use Rattle.renamer.specs.Requests.{asked_by};
 
 use crate::error::RenameError;
+use crate::refusal::{Refusal, RequestError};
+use crate::request::Request;
 use rename_passes::{Analysed, first_difference, first_fixed, is_bad_name, renamed};
 use semantic::{SemanticBuilder, SemanticBuilderReturn};
 use semantic_syntax::{NodeId, SymbolId};
@@ -20,10 +24,10 @@ use std::alloc::{AllocError, Global};
 fn drop_analysis(_analysis: SemanticBuilderReturn<'_>) {}
 
 /// Drops a program, out of line too.
-fn drop_program(_program: Program) {}
+pub(crate) fn drop_program(_program: Program) {}
 
 /// What an analysis tells of nodes.
-pub(crate) fn analysed_by<'a>(analysis: &'a SemanticBuilderReturn<'_>) -> Analysed<'a>
+fn analysed_by<'a>(analysis: &'a SemanticBuilderReturn<'_>) -> Analysed<'a>
     ensures scoping { result.scoping.now ≡ analysis.now.semantic.scoping }
     ensures tables { result.tables.now ≡ analysis.now.semantic.tables }
 {
@@ -65,7 +69,7 @@ fn compared(alloc: Global, analysed: &Analysed<'_>, made: Program) -> Result<Pro
 }
 
 /// Gives the symbol of an analysed program the name.
-pub(crate) fn rename_analysed(
+fn rename_analysed(
     alloc: Global,
     program: &Program,
     analysed: &Analysed<'_>,
@@ -115,6 +119,39 @@ pub fn rename_program(
     let _root = p.root();
     let analysis = SemanticBuilder::new().build(alloc, p)?;
     let result = rename_analysed(alloc, p, &analysed_by(&analysis), s, new);
+    drop_analysis(analysis);
+    result
+}
+
+/// Gives the symbol that is asked for the name, where the analysed program has that symbol.
+fn rename_known(
+    alloc: Global,
+    program: &Program,
+    analysed: &Analysed<'_>,
+    request: &Request<'_>,
+) -> Result<Program, RequestError>
+    requires analysis { told_by analysed.now ≡ analysis_of program.now }
+    requires tables { analysed.now.scoping.now ≡ tables_of program.now }
+    ensures { IsAnswer (asked_by request.now) program.now result }
+{
+    if request.symbol.index() >= analysed.scoping.symbols_len() {
+        return Err(RequestError::Refused(Refusal::NoSymbol(request.symbol)));
+    }
+    let made = rename_analysed(alloc, program, analysed, request.symbol, request.name)?;
+    Ok(made)
+}
+
+/// The program in which the symbol that is asked for has the name, with the refusals of `rename_program` and one more:
+/// that there is no such symbol.
+pub(crate) fn rename_asked(
+    alloc: Global,
+    program: &Program,
+    request: &Request<'_>,
+) -> Result<Program, RequestError>
+    ensures { IsAnswer (asked_by request.now) program.now result }
+{
+    let analysis = SemanticBuilder::new().build(alloc, program)?;
+    let result = rename_known(alloc, program, &analysed_by(&analysis), request);
     drop_analysis(analysis);
     result
 }
