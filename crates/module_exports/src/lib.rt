@@ -1,6 +1,12 @@
 //! What each import of a set of modules comes to.
 #![tactic(auto)]
 
+mod analysis;
 mod links;
+mod set_targets;
+mod told_links;
 
 pub use links::links_of;
+
+#[cfg(test)]
+mod tried;
