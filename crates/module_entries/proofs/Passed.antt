@@ -7,7 +7,7 @@ use Rattle.semantic_tree.specs.declared.node.Node.{Node}
 use Rattle.link_model.specs.Exports.{Export, star_at}
 use Rattle.link_model.specs.Imports.{Import, import_at}
 use Rattle.link_model.specs.Module.{Below, nodes_below}
-use Rattle.module_entries.specs.Entries.{Entries, no_entries, imports_in, stars_in, with_import, with_star, entered_at, entered_below, with_exports}
+use Rattle.module_entries.specs.Entries.{Entries, no_entries, imports_in, exports_in, stars_in, with_import, with_star, entered_at, entered_below, with_exports}
 
 -- ---- one node
 
@@ -83,3 +83,13 @@ more_exports e xs ys = λ i. record e { exports = append_assoc e.exports xs ys i
 
 pub no_exports : (e : Entries) → with_exports e [] ≡ e
 no_exports e = λ i. record e { exports = append-nil e.exports i }
+
+-- ---- a whole program
+
+pub all_gathered : (root node : Node) (first second third : Entries) → node ≡ root → first ≡ no_entries → second ≡ entered_below node node.children first → third ≡ with_exports second (exports_in node)
+    → third ≡ record { imports = imports_in root; exports = exports_in root; stars = stars_in root }
+all_gathered root node first second third same empty below exported =
+    exported
+    ∙ ap (λ e. with_exports e (exports_in node)) (below ∙ ap (entered_below node node.children) empty)
+    ∙ ap (λ n. with_exports (entered_below n n.children no_entries) (exports_in n)) same
+    ∙ ap (λ e. with_exports e (exports_in root)) (gathered root)

@@ -1,10 +1,11 @@
 -- The imports and exports that stand in a tree.
-use Rattle.std.specs.Prelude.{List, [], ◌∷◌, ◌++◌, Option, Some, None, map, flat_map, filter_map}
+use Rattle.std.specs.Prelude.{Bool, List, [], ◌∷◌, ◌++◌, Option, Some, None, map, flat_map, filter_map}
+use Rattle.std.specs.Option.{is_some}
 use Rattle.semantic_tree.specs.ChildIter.{shown}
 use Rattle.semantic_tree.specs.Forest.{Forest, nothing, tree}
 use Rattle.semantic_tree.specs.declared.node.Node.{Node}
 use Rattle.link_model.specs.Exports.{Export, star_at, exports_of_node, statements_of}
-use Rattle.link_model.specs.Imports.{Import, import_at}
+use Rattle.link_model.specs.Imports.{Import, wanted_by, import_at}
 use Rattle.link_model.specs.Module.{Below, nodes_below}
 use Rattle.module_entries.specs.declared.entries.ModuleEntries.{ModuleEntries}
 use Rattle.module_entries.specs.Views.{shown_import, shown_export}
@@ -40,6 +41,10 @@ with_import (Some i) e = record e { imports = e.imports ++ i ∷ [] }
 abbrev pub with_star : Option Node → Entries → Entries
 with_star None e = e
 with_star (Some s) e = record e { stars = e.stars ++ s ∷ [] }
+
+-- the node is a specifier of an import
+abbrev pub is_specifier : Node → Bool
+is_specifier node = is_some (wanted_by node.kind node)
 
 -- with what the node is
 abbrev pub entered_at : Below → Entries → Entries

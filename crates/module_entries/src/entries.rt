@@ -1,12 +1,12 @@
 //! What a module imports and exports, as it stands in its tree.
-ghost use Rattle.std.specs.Prelude.{◌≡◌, ◌++◌, ◌∷◌, IfOk, OnOk};
+ghost use Rattle.std.specs.Prelude.{◌≡◌, map, IfOk};
 ghost use Rattle.semantic_tree.specs.ChildIter.{shown};
-ghost use Rattle.module_entries.specs.Entries.{Entries, seen, no_entries, imports_in, exports_in, stars_in};
+ghost use Rattle.module_entries.specs.Entries.{seen, no_entries, imports_in, exports_in, stars_in};
 ghost use Rattle.module_entries.specs.Views.{shown_import, shown_export};
 
 use crate::export::ExportEntry;
 use crate::import::ImportEntry;
-use semantic_tree::{AstKind, Program, Role};
+use semantic_tree::{AstKind, Program};
 use std::alloc::{AllocError, Global};
 
 /// What a module imports and exports.
@@ -31,30 +31,6 @@ impl<'a> ModuleEntries<'a> {
             stars: Vec::new(alloc),
         }
     }
-
-    /// Adds an import.
-    pub(crate) fn add_import(&mut self, import: &ImportEntry<'a>) -> Result<(), AllocError>
-        ensures { OnOk result (seen self.new ≡ record (seen self.old) { imports = (seen self.old).imports ++ shown_import import.now ∷ [] }) }
-    {
-        self.imports.push(*import)?;
-        Ok(())
-    }
-
-    /// Adds an export.
-    pub(crate) fn add_export(&mut self, export: &ExportEntry<'a>) -> Result<(), AllocError>
-        ensures { OnOk result (seen self.new ≡ record (seen self.old) { exports = (seen self.old).exports ++ shown_export export.now ∷ [] }) }
-    {
-        self.exports.push(*export)?;
-        Ok(())
-    }
-
-    /// Adds a star export.
-    pub(crate) fn add_star(&mut self, star: AstKind<'a>) -> Result<(), AllocError>
-        ensures { OnOk result (seen self.new ≡ record (seen self.old) { stars = (seen self.old).stars ++ star.entry.node.now ∷ [] }) }
-    {
-        self.stars.push(star)?;
-        Ok(())
-    }
 }
 
 /// What the program of a module imports and exports. Takes time linear in its nodes. The only error is want of memory.
@@ -63,8 +39,9 @@ pub fn entries_of<'a>(alloc: Global, program: &'a Program) -> Result<ModuleEntri
     ensures exports { IfOk result (λ entries. map shown_export entries.exports.items ≡ exports_in program.now.root) }
     ensures stars { IfOk result (λ entries. map shown entries.stars.items ≡ stars_in program.now.root) }
 {
+    let root = program.root().node();
     let mut entries = ModuleEntries::new(alloc);
-    entries.gather_below(program.root())?;
-    entries.gather_exports(program.root())?;
+    entries.gather_below(root)?;
+    entries.gather_exports(root)?;
     Ok(entries)
 }

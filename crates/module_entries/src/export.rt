@@ -1,7 +1,14 @@
 //! Nodes that export names.
+ghost use Rattle.std.specs.Prelude.{◌≡◌, option_map};
+ghost use Rattle.std.specs.Str.{chars};
+ghost use Rattle.semantic_tree.specs.ChildIter.{shown};
+ghost use Rattle.link_model.specs.Exports.{default_name};
+ghost use Rattle.module_entries.specs.Views.{shown_way, shown_export};
 
+use crate::texts;
+use crate::texts::{source_text, text_or_empty};
 use semantic_syntax::NodeId;
-use semantic_tree::AstKind;
+use semantic_tree::{AstKind, AstType, Node, Role};
 
 /// How a name is exported.
 #[derive(Clone, Copy)]
@@ -18,11 +25,62 @@ pub enum ExportWay<'a> {
     ByDefault(Option<AstKind<'a>>),
 }
 
-/// A node that exports a name.
+/// A node that exports a name, and the statement in which it stands, which may be the node itself.
 #[derive(Clone, Copy)]
 pub struct ExportEntry<'a> {
-    pub node: NodeId,
+    pub statement: &'a Node,
+    pub exporting: &'a Node,
+}
+
+/// The name of a function or class that is a default export.
+fn default_name<'a>(declaration: Option<AstKind<'a>>) -> Option<AstKind<'a>>
+    ensures { option_map shown result ≡ default_name (option_map shown declaration.entry) }
+{
+    match declaration {
+        Some(declaration) => match declaration.ty() {
+            AstType::Function | AstType::Class => declaration.child(Role::Id),
+            _ => None,
+        },
+        None => None,
+    }
+}
+
+impl<'a> ExportEntry<'a> {
+    /// The node that exports the name.
+    pub fn node(&self) -> NodeId
+        ensures { result ≡ (shown_export self.now).node }
+    {
+        self.exporting.node_id
+    }
+
     /// The name that others see.
-    pub name: &'a str,
-    pub way: ExportWay<'a>,
+    pub fn name(&self) -> &'a str
+        ensures { chars result.now ≡ (shown_export self.now).name }
+    {
+        let exporting = AstKind::new(self.exporting);
+        match self.statement.kind {
+            AstType::ExportDeclaration => exporting.text().as_str(),
+            AstType::ExportDefaultDeclaration => texts::default_name(),
+            _ => text_or_empty(exporting.child(Role::Exported)),
+        }
+    }
+
+    /// How the name is exported.
+    pub fn way(&self) -> ExportWay<'a>
+        ensures { shown_way result ≡ (shown_export self.now).what }
+    {
+        let exporting = AstKind::new(self.exporting);
+        let source = source_text(AstKind::new(self.statement));
+        match self.statement.kind {
+            AstType::ExportNamedDeclaration => ExportWay::Listed(exporting.child(Role::Local)),
+            AstType::ExportFromDeclaration => {
+                ExportWay::PassedOn(source, text_or_empty(exporting.child(Role::Local)))
+            }
+            AstType::ExportDeclaration => ExportWay::Declared(exporting.node_id()),
+            AstType::ExportDefaultDeclaration => {
+                ExportWay::ByDefault(default_name(exporting.child(Role::Declaration)))
+            }
+            _ => ExportWay::Collected(source),
+        }
+    }
 }

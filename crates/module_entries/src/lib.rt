@@ -6,8 +6,9 @@ mod export;
 mod exporting;
 mod import;
 mod importing;
+mod texts;
 
 pub use entries::{ModuleEntries, entries_of};
 pub use export::{ExportEntry, ExportWay};
 pub use import::{ImportEntry, Wanted};
-pub use importing::source_text;
+pub use texts::{default_name, source_text};
