@@ -1,10 +1,9 @@
 -- What contracts see of the entries of a module.
-use Rattle.std.specs.Prelude.{Option, Some, None, option_map}
+use Rattle.std.specs.Prelude.{Option, Some, None}
 use Rattle.std.specs.Str.{chars}
 use Rattle.semantic_kinds.specs.declared.kind.AstType.{AstType}
 use Rattle.semantic_kinds.specs.declared.kind.AstType.TheVariants as kind
 use Rattle.semantic_kinds.specs.declared.role.Role.TheVariants as role
-use Rattle.semantic_tree.specs.ChildIter.{shown}
 use Rattle.semantic_tree.specs.declared.node.Node.{Node}
 use Rattle.semantic_model.specs.Nodes.{child_of}
 use Rattle.link_model.specs.Exports as model
@@ -35,11 +34,11 @@ abbrev pub shown_import : ImportEntry → Import
 shown_import e = import_of e.statement.now e.specifier.now
 
 abbrev pub shown_way : ExportWay → model.Exported
-shown_way (Listed local) = model.listed (option_map shown local)
+shown_way (Listed specifier) = model.listed (child_of role.Local specifier.now)
 shown_way (PassedOn source name) = model.passed_on (chars source.now) (chars name.now)
 shown_way (Collected source) = model.collected (chars source.now)
-shown_way (Declared id) = model.declared id
-shown_way (ByDefault id) = model.by_default (option_map shown id)
+shown_way (Declared id) = model.declared id.now.node_id
+shown_way (ByDefault statement) = model.by_default (model.default_name (child_of role.Declaration statement.now))
 
 abbrev pub collected_export : Node → Node → model.Export
 collected_export statement x = record { node = x.node_id; name = text_or_empty (child_of role.Exported x); what = model.collected (source_text statement) }

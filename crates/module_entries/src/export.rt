@@ -1,7 +1,9 @@
 //! Nodes that export names.
 ghost use Rattle.std.specs.Prelude.{◌≡◌, option_map};
 ghost use Rattle.std.specs.Str.{chars};
+ghost use Rattle.semantic_kinds.specs.declared.role.Role.TheVariants as role;
 ghost use Rattle.semantic_tree.specs.ChildIter.{shown};
+ghost use Rattle.semantic_model.specs.Nodes.{child_of};
 ghost use Rattle.link_model.specs.Exports.{default_name};
 ghost use Rattle.module_entries.specs.Views.{shown_way, shown_export};
 
@@ -13,16 +15,16 @@ use semantic_tree::{AstKind, AstType, Node, Role};
 /// How a name is exported.
 #[derive(Clone, Copy)]
 pub enum ExportWay<'a> {
-    /// By a specifier without a source, which has this local.
-    Listed(Option<AstKind<'a>>),
+    /// By this specifier without a source.
+    Listed(&'a Node),
     /// From another module, told by its specifier, under the second name.
     PassedOn(&'a str, &'a str),
     /// As all that a module exports, told by its specifier.
     Collected(&'a str),
-    /// As a declared name.
-    Declared(NodeId),
-    /// As the default export, with the name of the function or class if it has one.
-    ByDefault(Option<AstKind<'a>>),
+    /// As this declared name.
+    Declared(&'a Node),
+    /// As the default export, by this statement.
+    ByDefault(&'a Node),
 }
 
 /// A node that exports a name, and the statement in which it stands, which may be the node itself.
@@ -32,11 +34,18 @@ pub struct ExportEntry<'a> {
     pub exporting: &'a Node,
 }
 
-/// The name of a function or class that is a default export.
-fn default_name<'a>(declaration: Option<AstKind<'a>>) -> Option<AstKind<'a>>
-    ensures { option_map shown result ≡ default_name (option_map shown declaration.entry) }
+/// The local of a specifier, if it has one.
+pub fn listed_local<'a>(specifier: &'a Node) -> Option<AstKind<'a>>
+    ensures { option_map shown result ≡ child_of role.Local specifier.now }
 {
-    match declaration {
+    AstKind::new(specifier).child(Role::Local)
+}
+
+/// The name of the function or class that a statement exports as the default, if it has one.
+pub fn default_id<'a>(statement: &'a Node) -> Option<AstKind<'a>>
+    ensures { option_map shown result ≡ default_name (child_of role.Declaration statement.now) }
+{
+    match AstKind::new(statement).child(Role::Declaration) {
         Some(declaration) => match declaration.ty() {
             AstType::Function | AstType::Class => declaration.child(Role::Id),
             _ => None,
@@ -72,14 +81,12 @@ impl<'a> ExportEntry<'a> {
         let exporting = AstKind::new(self.exporting);
         let source = source_text(AstKind::new(self.statement));
         match self.statement.kind {
-            AstType::ExportNamedDeclaration => ExportWay::Listed(exporting.child(Role::Local)),
+            AstType::ExportNamedDeclaration => ExportWay::Listed(self.exporting),
             AstType::ExportFromDeclaration => {
                 ExportWay::PassedOn(source, text_or_empty(exporting.child(Role::Local)))
             }
-            AstType::ExportDeclaration => ExportWay::Declared(exporting.node_id()),
-            AstType::ExportDefaultDeclaration => {
-                ExportWay::ByDefault(default_name(exporting.child(Role::Declaration)))
-            }
+            AstType::ExportDeclaration => ExportWay::Declared(self.exporting),
+            AstType::ExportDefaultDeclaration => ExportWay::ByDefault(self.exporting),
             _ => ExportWay::Collected(source),
         }
     }

@@ -9,6 +9,6 @@ mod importing;
 mod texts;
 
 pub use entries::{ModuleEntries, entries_of};
-pub use export::{ExportEntry, ExportWay};
+pub use export::{ExportEntry, ExportWay, default_id, listed_local};
 pub use import::{ImportEntry, Wanted};
 pub use texts::{default_name, source_text};
