@@ -6,7 +6,7 @@ use Rattle.semantic_model.specs.Nodes.{is}
 use Rattle.link_model.specs.Leads.{Ties}
 use Rattle.link_search.specs.declared.target.Target.{Target}
 use Rattle.link_search.specs.declared.target.Target.TheVariants.{End}
-use Rattle.link_search.specs.declared.terminal.Terminal.TheVariants.{Symbol}
+use Rattle.link_search.specs.declared.terminal.Terminal.TheVariants.{Symbol, Default}
 
 abbrev pub symbol_target : ℕ → ℕ → Option Target → Target
 symbol_target m s None = End (Symbol m s)
@@ -23,3 +23,8 @@ local_target m t imported (Some local) = cond (is kind.IdentifierReference local
 abbrev pub declared_target : ℕ → Option ℕ → Option Target
 declared_target m None = None
 declared_target m (Some s) = Some (End (Symbol m s))
+
+-- the default export, which may have a name
+abbrev pub default_target : ℕ → Ties → Option Node → Option Target
+default_target m t None = Some (End (Default m))
+default_target m t (Some id) = declared_target m (t.declared id.node_id)

@@ -14,4 +14,4 @@ imported_in scope s = get nat_eq scope.imported.now s
 
 -- that is where the imports of the module lead
 abbrev pub ScopeLeads : (names texts : List Name) → ModuleScope → Type 0
-ScopeLeads names texts scope = ImportsLead names texts (ties_in scope.analysed) (imports (analysed_in scope.analysed)) (imported_in scope)
+ScopeLeads names texts scope = ImportsLead names texts (ties_in scope.analysed.now) (imports (analysed_in scope.analysed.now)) (imported_in scope)

@@ -5,7 +5,7 @@ ghost use Rattle.link_model.specs.Imports.{imports};
 ghost use Rattle.link_model.specs.Leads.{exported_ends, starred};
 ghost use Rattle.link_search.specs.Exports.{if_any};
 ghost use Rattle.link_targets.specs.Denoted.{AreDenoted, Grows};
-ghost use Rattle.link_targets.specs.Described.{AreExports};
+ghost use Rattle.link_targets.specs.Described.{IsExport, AreExports};
 ghost use Rattle.module_entries.specs.Views.{shown_way, shown_export};
 ghost use Rattle.module_targets.specs.AnalysedIn.{analysed_in, ties_in};
 ghost use Rattle.module_targets.specs.ScopeOf.{ScopeLeads};
@@ -14,12 +14,13 @@ use crate::module_names::ModuleNames;
 use crate::module_scope::ModuleScope;
 use crate::texts::Texts;
 use crate::wanted_target::wanted_target;
-use link_search::{Target, Terminal};
-use module_entries::{ExportEntry, ExportWay, Wanted, source_text};
+use link_search::Target;
+use module_entries::{ExportEntry, ExportWay, Wanted, default_id, listed_local, source_text};
 use semantic_tree::AstKind;
 use std::alloc::{AllocError, Global};
 
 /// Where a name leads that a module exports in this way, if anywhere.
+#[tactic(auto, using(crate::proofs::LocalStands::stands))]
 fn export_target<'a>(
     names: &ModuleNames<'_>,
     texts: &mut Texts<'a>,
@@ -28,10 +29,10 @@ fn export_target<'a>(
 ) -> Result<Option<Target>, AllocError>
     requires { ScopeLeads names.now texts.old scope.now }
     ensures grows { OnOk result (Grows texts.old texts.new) }
-    ensures stands { IfOk result (λ target. AreDenoted texts.new (if_any target) (exported_ends names.now scope.now.analysed.number (ties_in scope.now.analysed) (imports (analysed_in scope.now.analysed)) (shown_way way.now))) }
+    ensures stands { IfOk result (λ target. AreDenoted texts.new (if_any target) (exported_ends names.now scope.now.analysed.now.number (ties_in scope.now.analysed.now) (imports (analysed_in scope.now.analysed.now)) (shown_way way.now))) }
 {
     match way {
-        ExportWay::Listed(local) => Ok(scope.local_target(local)),
+        ExportWay::Listed(specifier) => Ok(scope.local_target(&listed_local(specifier))),
         ExportWay::PassedOn(source, name) => {
             let target = wanted_target(names, texts, source, &Wanted::One(name))?;
             Ok(Some(target))
@@ -40,13 +41,29 @@ fn export_target<'a>(
             let target = wanted_target(names, texts, source, &Wanted::Whole)?;
             Ok(Some(target))
         }
-        ExportWay::Declared(name) => Ok(scope.declared_target(*name)),
-        ExportWay::ByDefault(Some(name)) => Ok(scope.declared_target(name.node_id())),
-        ExportWay::ByDefault(None) => Ok(Some(Target::End(Terminal::Default(scope.analysed.number)))),
+        ExportWay::Declared(name) => Ok(scope.declared_target(name.node_id)),
+        ExportWay::ByDefault(statement) => Ok(scope.default_target(&default_id(statement))),
     }
 }
 
+/// The number of a name that a module exports, and where it leads.
+fn entry_target<'a>(
+    names: &ModuleNames<'_>,
+    texts: &mut Texts<'a>,
+    scope: &ModuleScope<'_, '_>,
+    export: &ExportEntry<'a>,
+) -> Result<(u32, Option<Target>), AllocError>
+    requires { ScopeLeads names.now texts.old scope.now }
+    ensures grows { OnOk result (Grows texts.old texts.new) }
+    ensures stands { IfOk result (λ target. IsExport names.now texts.new scope.now.analysed.now.number (ties_in scope.now.analysed.now) (imports (analysed_in scope.now.analysed.now)) target (shown_export export.now)) }
+{
+    let target = export_target(names, texts, scope, &export.way())?;
+    let name = texts.number_of(export.name())?;
+    Ok((name, target))
+}
+
 /// The numbers of the names that a module exports, in order, and where each leads.
+#[tactic(auto, using(link_targets::proofs::Growth::grows_same))]
 pub(crate) fn export_targets<'a>(
     alloc: Global,
     names: &ModuleNames<'_>,
@@ -56,12 +73,11 @@ pub(crate) fn export_targets<'a>(
 ) -> Result<Vec<(u32, Option<Target>)>, AllocError>
     requires { ScopeLeads names.now texts.old scope.now }
     ensures grows { OnOk result (Grows texts.old texts.new) }
-    ensures stand { IfOk result (λ targets. AreExports names.now texts.new scope.now.analysed.number (ties_in scope.now.analysed) (imports (analysed_in scope.now.analysed)) targets.items (map shown_export exports.now)) }
+    ensures stand { IfOk result (λ targets. AreExports names.now texts.new scope.now.analysed.now.number (ties_in scope.now.analysed.now) (imports (analysed_in scope.now.analysed.now)) targets.items (map shown_export exports.now)) }
 {
     let mut targets = Vec::new(alloc);
     for export in exports {
-        let target = export_target(names, texts, scope, &export.way)?;
-        let name = texts.number_of(export.name)?;
+        let (name, target) = entry_target(names, texts, scope, export)?;
         targets.push((name, target))?;
     }
     Ok(targets)

@@ -14,6 +14,3 @@ pub use analysed_module::AnalysedModule;
 pub use module_names::ModuleNames;
 pub use module_targets::{ModuleTargets, targets_of};
 pub use texts::Texts;
-
-#[test]
-fn t(rt: HostRuntime) {}

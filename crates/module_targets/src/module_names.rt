@@ -1,8 +1,8 @@
 //! The modules that specifiers name.
-ghost use Rattle.std.specs.Prelude.{◌≡◌, ◌≤◌, length, IfOk};
+ghost use Rattle.std.specs.Prelude.{◌≡◌, ◌≤◌, ℕ, List, length, IfOk, OnOk};
 ghost use Rattle.std.specs.Str.{chars};
 ghost use Rattle.link_model.specs.Module.{named};
-ghost use Rattle.module_targets.specs.Names.{names_of};
+ghost use Rattle.module_targets.specs.Names.{names_of, number_in, noted};
 
 use crate::texts::spell;
 use indexmap::IndexMap;
@@ -29,6 +29,20 @@ impl<'a> Model for ModuleNames<'a> {
     ghost invariant = { λ n. AreFirsts (names_of n.modules.now) n.numbers };
 }
 
+/// Notes the number of a name, unless one is noted.
+fn note<'a>(
+    numbers: &mut IndexMap<&'a str, u32>,
+    name: &'a str,
+    number: u32,
+) -> Result<(), AllocError>
+    ensures { OnOk result ((text : List ℕ) → number_in numbers.new text ≡ noted name.now number (number_in numbers.old text) text) }
+{
+    if !numbers.contains_key(&name) {
+        numbers.insert(name, number)?;
+    }
+    Ok(())
+}
+
 impl<'a> ModuleNames<'a> {
     /// The names of these modules. Takes time linear in their number.
     pub fn of(alloc: Global, modules: &'a [Module]) -> Result<ModuleNames<'a>, AllocError>
@@ -37,10 +51,7 @@ impl<'a> ModuleNames<'a> {
     {
         let mut numbers = IndexMap::new(alloc);
         for (number, module) in modules.iter().enumerate() {
-            let name = module.name.as_str();
-            if !numbers.contains_key(&name) {
-                numbers.insert(name, number as u32)?;
-            }
+            note(&mut numbers, module.name.as_str(), number as u32)?;
         }
         Ok(ModuleNames { modules, numbers })
     }

@@ -35,7 +35,7 @@ fn nodes_of(alloc: Global, imports: &[ImportEntry<'_>]) -> Result<Vec<NodeId>, A
 {
     let mut nodes = Vec::new(alloc);
     for import in imports {
-        nodes.push(import.node)?;
+        nodes.push(import.node())?;
     }
     Ok(nodes)
 }
@@ -48,14 +48,17 @@ fn exports_of<'a>(
     scope: &ModuleScope<'_, 'a>,
 ) -> Result<ModuleExports, AllocError>
     requires leads { ScopeLeads names.now texts.old scope.now }
-    requires entries { AreEntriesOf (analysed_in scope.now.analysed) scope.now.entries.now }
+    requires entries { AreEntriesOf (analysed_in scope.now.analysed.now) scope.now.entries.now }
     ensures grows { OnOk result (Grows texts.old texts.new) }
-    ensures exports { IfOk result (λ made. IsModuleExports names.now texts.new scope.now.analysed.number (analysed_in scope.now.analysed) made) }
+    ensures exports { IfOk result (λ made. IsModuleExports names.now texts.new scope.now.analysed.now.number (analysed_in scope.now.analysed.now) made) }
 {
-    let targets = export_targets(alloc, names, texts, scope, &scope.entries.exports)?;
+    let exports = scope.entries.exports.as_slice();
+    let targets = export_targets(alloc, names, texts, scope, exports)?;
+    let exported = firsts(alloc, targets.as_slice())?;
+    let stars = starred(alloc, names, scope.entries.stars.as_slice())?;
     Ok(ModuleExports {
-        names: firsts(alloc, &targets)?,
-        stars: starred(alloc, names, &scope.entries.stars)?,
+        names: exported,
+        stars,
     })
 }
 
@@ -73,12 +76,12 @@ fn entry_targets<'a>(
     ensures targets { IfOk result (λ made. AreDenoted texts.new made.targets.items (map (import_end names.now) (imports (analysed_in analysed.now)))) }
     ensures exports { IfOk result (λ made. IsModuleExports names.now texts.new analysed.now.number (analysed_in analysed.now) made.exports) }
 {
-    let nodes = nodes_of(alloc, &entries.imports)?;
-    let ImportTargets { targets, bound } =
-        import_targets(alloc, names, texts, analysed, &entries.imports)?;
-    let imported = firsts(alloc, &bound)?;
+    let imports = entries.imports.as_slice();
+    let nodes = nodes_of(alloc, imports)?;
+    let ImportTargets { targets, bound } = import_targets(alloc, names, texts, analysed, imports)?;
+    let imported = firsts(alloc, bound.as_slice())?;
     let scope = ModuleScope {
-        analysed: *analysed,
+        analysed,
         entries,
         imported: &imported,
     };

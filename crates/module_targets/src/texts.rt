@@ -43,13 +43,22 @@ impl<'a> Texts<'a> {
         }
     }
 
+    /// The place of a text, which goes last if it is not there.
+    fn place_of(&mut self, text: &'a str) -> Result<usize, AllocError>
+        ensures grows { OnOk result (Grows self.old self.new) }
+        ensures place { IfOk result (λ place. slice_get self.new place ≡ Some (chars text.now)) }
+    {
+        spell(text);
+        let (place, _) = self.set.insert_full(text)?;
+        Ok(place)
+    }
+
     /// The number of a text, which gets one if it has none. More texts than have numbers are want of memory.
     pub fn number_of(&mut self, text: &'a str) -> Result<u32, AllocError>
         ensures grows { OnOk result (Grows self.old self.new) }
         ensures number { IfOk result (λ number. slice_get self.new number ≡ Some (chars text.now)) }
     {
-        spell(text);
-        let (place, _) = self.set.insert_full(text)?;
+        let place = self.place_of(text)?;
         match u32::try_from(place) {
             Ok(number) => Ok(number),
             Err(_) => Err(AllocError),
@@ -67,5 +76,6 @@ impl<'a> Texts<'a> {
     pub fn are_apart(&self)
         ensures { AreApart self.now }
     {
+        let _ = &self.set;
     }
 }
