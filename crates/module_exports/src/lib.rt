@@ -2,11 +2,9 @@
 #![tactic(auto)]
 
 mod analysis;
+mod described;
 mod links;
 mod set_targets;
 mod told_links;
 
 pub use links::links_of;
-
-#[cfg(test)]
-mod tried;

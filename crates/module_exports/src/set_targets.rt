@@ -1,8 +1,7 @@
 //! Where the imports and exports of all modules lead.
-ghost use Rattle.std.specs.Prelude.{◌≡◌, ◌≤◌, ◌++◌, ◌∷◌, length, map, IfOk, OnOk};
+ghost use Rattle.std.specs.Prelude.{◌≡◌, ◌≤◌, [], ◌∷◌, ◌++◌, length, IfOk, OnOk};
 ghost use Rattle.link_targets.specs.Denoted.{Grows};
-ghost use Rattle.module_exports.specs.SetTargets.{AreSetTargets, origins_from};
-ghost use Rattle.module_targets.specs.Names.{names_of};
+ghost use Rattle.module_exports.specs.SetTold.{places_in, AreSetTargets};
 
 use crate::analysis::module_targets;
 use link_search::{ModuleExports, Target};
@@ -33,7 +32,7 @@ impl SetTargets {
     /// Adds the import specifiers of a module.
     fn add_places(&mut self, number: u32, nodes: &[NodeId]) -> Result<(), AllocError>
         ensures exports { OnOk result (self.new.exports ≡ self.old.exports) }
-        ensures places { OnOk result (self.new.places.items ≡ self.old.places.items ++ places_of number nodes.now) }
+        ensures places { OnOk result (self.new.places.items ≡ self.old.places.items ++ places_in number nodes.now) }
         ensures targets { OnOk result (self.new.targets ≡ self.old.targets) }
     {
         for node in nodes {
@@ -48,7 +47,7 @@ impl SetTargets {
     /// Adds a module.
     fn add(&mut self, number: u32, made: ModuleTargets) -> Result<(), AllocError>
         ensures exports { OnOk result (self.new.exports.items ≡ self.old.exports.items ++ made.exports ∷ []) }
-        ensures places { OnOk result (self.new.places.items ≡ self.old.places.items ++ places_of number made.nodes.items) }
+        ensures places { OnOk result (self.new.places.items ≡ self.old.places.items ++ places_in number made.nodes.items) }
         ensures targets { OnOk result (self.new.targets.items ≡ self.old.targets.items ++ made.targets.items) }
     {
         self.add_places(number, &made.nodes)?;
@@ -59,13 +58,14 @@ impl SetTargets {
 }
 
 /// Where the imports and exports of all modules lead. Texts that have no numbers get them.
+#[tactic(auto, using(link_targets::proofs::Growth::grows_same))]
 pub(crate) fn set_targets<'a>(
     alloc: Global,
     names: &ModuleNames<'_>,
     texts: &mut Texts<'a>,
     modules: &'a [Module],
 ) -> Result<SetTargets, AllocError>
-    requires few { length modules.now ≤ 4294967294 }
+    requires { length modules.now ≤ 4294967294 }
     ensures grows { OnOk result (Grows texts.old texts.new) }
     ensures made { IfOk result (λ made. AreSetTargets names.now texts.new modules.now made) }
 {

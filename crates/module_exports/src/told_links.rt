@@ -1,7 +1,7 @@
 //! Links, by what was found.
-ghost use Rattle.std.specs.Prelude.{◌≡◌, length, IfOk};
+ghost use Rattle.std.specs.Prelude.{◌≡◌, IfOk};
 ghost use Rattle.link_targets.specs.Followed.{outcome_of, terminal_outcome};
-ghost use Rattle.module_exports.specs.ToldLinks.{links_by};
+ghost use Rattle.module_exports.specs.LinksBy.{links_by};
 
 use crate::set_targets::ImportPlace;
 use link_model::{Link, LinkOutcome};
