@@ -1,5 +1,5 @@
 -- From where imports lead to the links.
-use Rattle.std.proofs.Common.{◌≡◌, ◌<◌, ℕ, List, [], ◌∷◌, Option, Some, None, refl, sym, ap, subst, ◌∙◌, slice_get, length, map}
+use Rattle.std.proofs.Common.{◌≡◌, ◌<◌, ◌⊎◌, inl, inr, ℕ, List, [], ◌∷◌, ◌++◌, append-nil, Option, Some, None, refl, sym, ap, subst, ◌∙◌, slice_get, length, map}
 use Rattle.std.proofs.lemmas.List.{length-map}
 use Rattle.std.proofs.lemmas.List.Quantifiers.{position-Some}
 use Rattle.std.proofs.lemmas.Option.{slice_get_within}
@@ -92,3 +92,13 @@ pub linked : (modules : List Module) (made : Described) (d : IsDescribed modules
 linked modules made d wanted places found told links same_targets same_places same_found are is =
     subst (AreLinks modules) (sym (is ∙ ap (λ ps. links_by ps told) (same_places ∙ d.places) ∙ ap (links_by (map place_of (all_imports (all_analysed modules)))) same_found))
     (links_all d.texts d.apart modules made.exports d.exports made.targets.items found d.targets (subst (λ ts. AreFound (leads_of made.exports) ts found) same_targets are))
+
+-- ---- nothing is left of places, or of what was found
+
+no_links : (ps : List ImportPlace) → links_by ps [] ≡ []
+no_links [] = refl
+no_links (p ∷ ps) = refl
+
+pub links_end : (done all : List Link) (ps : List ImportPlace) (fs : List Found) → (ps ≡ []) ⊎ (fs ≡ []) → done ++ links_by ps fs ≡ all → done ≡ all
+links_end done all ps fs (inl e) h = sym (append-nil done) ∙ ap (λ xs. done ++ links_by xs fs) (sym e) ∙ h
+links_end done all ps fs (inr e) h = sym (append-nil done) ∙ ap (λ ls. done ++ ls) (sym (no_links ps)) ∙ ap (λ xs. done ++ links_by ps xs) (sym e) ∙ h

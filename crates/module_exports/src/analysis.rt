@@ -1,5 +1,5 @@
 //! Where the imports and exports of a module lead.
-ghost use Rattle.std.specs.Prelude.{map, IfOk, OnOk};
+ghost use Rattle.std.specs.Prelude.{◌≡◌, map, IfOk, OnOk};
 ghost use Rattle.link_model.specs.Imports.{imports};
 ghost use Rattle.link_model.specs.Leads.{import_end};
 ghost use Rattle.link_model.specs.Module.{analysed};

@@ -14,8 +14,8 @@ returns c =
     let told : seen_by m c.scoping.result.now c.tables.result.now ≡ analysed m =
     analysed_told m c.scoping.result.now c.in_ok-analysis.analysis.semantic.scoping c.tables.result.now c.in_ok-analysis.analysis.semantic.tables c.in_ok-analysis.analysis.diagnostics c.scoping.ensures c.tables.ensures c.in_ok-analysis.ensures.analysis c.in_ok-analysis.ensures.nodes in
     record {
-      grows = c.targets_of.ensures.grows;
-      nodes = subst (λ (x : Analysed). IfOk c.targets_of.result (λ made. made.nodes.items ≡ nodes_of (imports x))) told c.targets_of.ensures.nodes;
-      targets = subst (λ (x : Analysed). IfOk c.targets_of.result (λ made. AreDenoted c.targets_of.new.texts made.targets.items (map (import_end c.args.names.now) (imports x)))) told c.targets_of.ensures.targets;
-      exports = subst (λ (x : Analysed). IfOk c.targets_of.result (λ made. IsModuleExports c.args.names.now c.targets_of.new.texts c.args.number x made.exports)) told c.targets_of.ensures.exports;
+      grows = c.targets_of-made.ensures.grows;
+      nodes = subst (λ (x : Analysed). IfOk c.targets_of-made.result (λ made. made.nodes.items ≡ nodes_of (imports x))) told c.targets_of-made.ensures.nodes;
+      targets = subst (λ (x : Analysed). IfOk c.targets_of-made.result (λ made. AreDenoted c.targets_of-made.new.texts made.targets.items (map (import_end c.args.names.now) (imports x)))) told c.targets_of-made.ensures.targets;
+      exports = subst (λ (x : Analysed). IfOk c.targets_of-made.result (λ made. IsModuleExports c.args.names.now c.targets_of-made.new.texts c.args.number x made.exports)) told c.targets_of-made.ensures.exports;
     }
