@@ -1,0 +1,3 @@
+pub mod AnalysisTold
+pub mod SetSteps
+pub mod Ending

@@ -1,0 +1,2 @@
+pub mod SetTold
+pub mod LinksBy

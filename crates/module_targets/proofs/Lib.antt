@@ -1,0 +1,6 @@
+pub mod Continuing
+pub mod Interning
+pub mod NamesFound
+pub mod ImportSteps
+pub mod LocalStands
+pub mod ExportSteps
