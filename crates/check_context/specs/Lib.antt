@@ -1,3 +1,4 @@
 pub mod Handed
 pub mod Tells
 pub mod Shown
+pub mod Grandchildren

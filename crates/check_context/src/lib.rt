@@ -3,10 +3,12 @@
 
 pub mod context;
 mod entries;
+mod grandchildren;
 mod links;
 mod nodes;
 
 pub use context::CheckContext;
 pub use entries::one_before_last;
+pub use grandchildren::Grandchildren;
 pub use links::Links;
 pub use nodes::{first_bytes, has_child, is_child_in, is_same, node_of};
