@@ -1,0 +1,7 @@
+pub mod UnderNamespaces
+pub mod EnumMembers
+pub mod UnmarkedSpans
+pub mod GlobalWord
+pub mod GoodSpans
+pub mod Suggestions
+pub mod CountsOn
