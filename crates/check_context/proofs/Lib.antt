@@ -2,3 +2,6 @@ pub mod Outward
 pub mod Declared
 pub mod Telling
 pub mod CurrentClass
+pub mod SoundSpans
+pub mod FreeReferences
+pub mod Stopping

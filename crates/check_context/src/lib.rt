@@ -3,9 +3,11 @@
 
 pub mod context;
 mod entries;
+mod free_references;
 mod grandchildren;
 mod links;
 mod nodes;
+mod source_text;
 
 pub use context::CheckContext;
 pub use entries::one_before_last;

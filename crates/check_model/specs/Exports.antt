@@ -17,11 +17,11 @@ use Rattle.check_model.specs.Surroundings.{is_module, is_typescript}
 use Rattle.check_model.specs.Assignments.{export_assignment_rows}
 
 -- an exported name is not free
-abbrev local_rows : Sight → Node → List Diagnostic
+abbrev pub local_rows : Sight → Node → List Diagnostic
 local_rows s local = row_if (is_kind kinds.IdentifierReference local && list_any (λ node. node == local.node_id) s.unresolved) (undefined_export local.text local.span)
 
 -- the same of each name of an export
-abbrev export_rows : Sight → Node → List Diagnostic
+abbrev pub export_rows : Sight → Node → List Diagnostic
 export_rows s statement = rows_if (is_kind kinds.ExportNamedDeclaration statement) (flat_map (λ specifier. rows_of_some (local_rows s) (child_in roles.Local specifier)) (all_in roles.Specifiers statement))
 
 -- a module in JavaScript exports what it declares (ECMAScript 16.2.1.1, ExportedBindings)
@@ -34,16 +34,16 @@ is_import_value flags =
     meets flags symbol.Import.bits && meets flags (union symbol.Variable.bits (union symbol.Class.bits symbol.Function.bits))
 
 -- the first declaration and the last, where there are two or more
-abbrev first_and_last_rows : Name → List Redeclaration → List Diagnostic
+abbrev pub first_and_last_rows : Name → List Redeclaration → List Diagnostic
 first_and_last_rows name entries =
     rows_if (nat_lt 1 (length entries)) (rows_of_some (λ one. rows_of_some (λ two. redeclaration name one.span two.span ∷ []) (last entries)) (first entries))
 
 -- an import that is a value too is declared once
-abbrev import_rows : Symbol → List Diagnostic
+abbrev pub import_rows : Symbol → List Diagnostic
 import_rows y = rows_if (is_import_value y.flags.bits) (first_and_last_rows y.name (entries_in (Some y)))
 
 -- the rows of each symbol, numbered from one on, for each time that it is bound
-abbrev bound_rows : List ℕ → ℕ → List Symbol → List Diagnostic
+abbrev pub bound_rows : List ℕ → ℕ → List Symbol → List Diagnostic
 bound_rows bound number [] = []
 bound_rows bound number (y ∷ rest) = flat_map (λ same. import_rows y) (filter (λ other. other == number) bound) ++ bound_rows bound (number + 1) rest
 

@@ -1,5 +1,7 @@
 //! Early errors of JavaScript, and those that TypeScript shares with it.
 
+pub use class_checks::{check_class, check_class_redeclaration, check_duplicate_class_elements};
+pub use module_checks::{check_import_value_redeclarations, check_unresolved_exports};
 pub use name_checks::{
     check_binding_identifier, check_directive, check_identifier, check_identifier_reference,
     check_number_literal, check_private_identifier_outside_class, check_string_literal,

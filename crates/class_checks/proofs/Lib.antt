@@ -1,0 +1,5 @@
+pub mod Predecessors
+pub mod SpelledNames
+pub mod EachElement
+pub mod AroundClasses
+pub mod EachClass
