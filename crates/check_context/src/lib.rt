@@ -2,14 +2,17 @@
 #![tactic(auto)]
 
 pub mod context;
+mod declared_function;
 mod entries;
 mod free_references;
 mod grandchildren;
 mod links;
 mod nodes;
+mod outer_class;
 mod source_text;
 
 pub use context::CheckContext;
+pub use declared_function::{is_declared_function, is_function_decl_part_of_if_statement};
 pub use entries::one_before_last;
 pub use grandchildren::Grandchildren;
 pub use links::Links;

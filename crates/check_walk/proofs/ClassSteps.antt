@@ -10,7 +10,7 @@ use Rattle.class_table.proofs.Parents.{stand_before}
 use Rattle.class_table.proofs.Entering.{entered_outward, left_outward}
 use Rattle.check_model.specs.Context.{seen_class, classes_from}
 
-map_same : {A B : Type 0} (P : A → Type 0) (f g : A → B) (xs : List A) → AllByRecursion P xs → ((x : A) → P x → f x ≡ g x) → map f xs ≡ map g xs
+pub map_same : {A B : Type 0} (P : A → Type 0) (f g : A → B) (xs : List A) → AllByRecursion P xs → ((x : A) → P x → f x ≡ g x) → map f xs ≡ map g xs
 map_same P f g [] h k = refl
 map_same P f g (x ∷ xs) h k = λ i. k x h.0 i ∷ map_same P f g xs h.1 k i
 
@@ -22,7 +22,7 @@ all_below ps n (suc k) c before l = (l, by (parent_in ps c) (before c) (λ p h. 
     by None h f = tt
     by (Some p) h f = f p h
 
-from_below : (ps : List (ℕ × ℕ)) (n : ℕ) (current : Option ℕ) → StandBefore ps → IfSome current (λ c. c < n) → AllByRecursion (λ i. i < n) (outward_from ps current)
+pub from_below : (ps : List (ℕ × ℕ)) (n : ℕ) (current : Option ℕ) → StandBefore ps → IfSome current (λ c. c < n) → AllByRecursion (λ i. i < n) (outward_from ps current)
 from_below ps n None before h = tt
 from_below ps n (Some c) before h = all_below ps n (suc c) c before h
 

@@ -6,8 +6,9 @@ use Rattle.semantic_model.specs.Place.{Place, innermost}
 use Rattle.semantic_model.specs.Ambient.{ambient_inside}
 use Rattle.walk_model.specs.Standing.{Standing}
 use Rattle.walk_model.specs.Shown.{ShowsChain}
-use Rattle.check_model.specs.Context.{Context, classes_from, uses_from, unresolved_by}
-use Rattle.check_model.specs.SightOf.{standing_in, classes_at, uses_at, elements_at}
+use Rattle.check_model.specs.Context.{Context, unresolved_by}
+use Rattle.check_model.specs.SightOf.{standing_in, elements_at}
+use Rattle.check_walk.specs.Showing.{ShowsClasses}
 use Rattle.check_walk.specs.WalkSight.{unresolved_in}
 
 -- the context of a walk at a place
@@ -22,7 +23,6 @@ pub record IsContextAt (c : Context) (source : List ℕ) (w : Standing) (p : Pla
   -- the scopes of the place have rows in the tables
   pub chain_shown : ShowsChain w.tables (standing_in p)
   -- the classes: on leaving a class it is still the current one; all are there when the program is left
-  pub classes : classes_from c.classes c.current_class ≡ classes_at p.node p.path
-  pub uses : is kind.Class p.node ≡ true → uses_from c.classes c.current_class ≡ uses_at p.node
+  pub classes : ShowsClasses c.classes c.current_class p
   pub references : is kind.Program p.node ≡ true → unresolved_by w.nodes w.tables ≡ unresolved_in w.tables
   pub elements : is kind.Program p.node ≡ true → c.classes.elements ≡ elements_at p.node

@@ -8,8 +8,7 @@ ghost use Rattle.check_model.specs.Bodies as rows;
 ghost use Rattle.check_context.specs.Handed.{around, sight, IsContext, IsHanded};
 ghost use Rattle.check_context.specs.Tells.{Tells};
 
-use check_context::{CheckContext, first_bytes};
-use node_rules::questions::reads;
+use check_context::{CheckContext, first_bytes, is_declared_function};
 use node_store::AncestorKinds;
 use semantic_diagnostics::Diagnostics;
 use semantic_diagnostics::makers::{
@@ -17,13 +16,6 @@ use semantic_diagnostics::makers::{
 };
 use semantic_tree::{AstKind, AstType};
 use std::alloc::{AllocError, Global};
-
-/// Whether the node is a function that is declared.
-fn is_declared_function(kind: AstKind<'_>) -> bool
-    ensures { result ≡ rows.is_declared_function kind.entry.node.now }
-{
-    kind.ty() == AstType::Function && (reads(kind, "declaration") || reads(kind, "ts-declare"))
-}
 
 /// A declared function is no body of a statement, except under `if` in sloppy code (ECMAScript 14.6, 14.7, Annex
 /// B.3.3). The node is the body, and the context that of its statement.
@@ -122,12 +114,4 @@ pub fn check_with_statement<'a>(
     } else {
         Ok(())
     }
-}
-
-/// Whether the node is a function that is declared as a branch of an `if` in sloppy code (ECMAScript, Annex B.3.3).
-pub fn is_function_decl_part_of_if_statement(kind: AstKind<'_>, ctx: &CheckContext<'_, '_>) -> bool
-    requires { IsContext ctx.now }
-    ensures { result ≡ rows.is_function_decl_part_of_if_statement (sight kind.entry.node.now ctx.now) }
-{
-    is_declared_function(kind) && !ctx.is_strict() && ctx.is_under(AstType::IfStatement)
 }

@@ -8,7 +8,7 @@ mod variables;
 
 pub use bodies::{
     check_function_declaration, check_function_declaration_in_labeled_statement,
-    check_with_statement, is_function_decl_part_of_if_statement,
+    check_with_statement,
 };
 pub use jumps::{check_break_statement, check_continue_statement};
 pub use labels::check_labeled_statement;

@@ -1,0 +1,147 @@
+-- In a program without a fault classes have their shape.
+use Rattle.std.proofs.Common.{◌≡◌, ℕ, List, [], ◌∷◌, ◌++◌, Bool, true, false, not, ◌&&◌, cond, take, drop, length, refl, sym, subst, ◌∙◌, inl, inr, ◌==◌, arith, None}
+use Rattle.std.specs.List.{list_all}
+use Rattle.std.proofs.lemmas.Bool.{cases_Bool}
+use Rattle.std.proofs.lemmas.Bool.Decides.{eqb_tells}
+use Rattle.std.proofs.lemmas.List.{take-append-drop}
+use Rattle.semantic_kinds.specs.Kinds.{same_kind}
+use Rattle.semantic_kinds.specs.Roles.{same_role}
+use Rattle.semantic_kinds.specs.Classes.{is_of}
+use Rattle.semantic_kinds.specs.Parts.{parts}
+use Rattle.semantic_kinds.specs.declared.kind.AstType.{AstType}
+use Rattle.semantic_kinds.specs.declared.kind.AstType.TheVariants as kind
+use Rattle.semantic_kinds.specs.declared.role.Role.{Role}
+use Rattle.semantic_kinds.specs.declared.role.Role.TheVariants as role
+use Rattle.semantic_kinds.specs.declared.class.Class.{Class}
+use Rattle.semantic_kinds.specs.declared.class.Class.TheVariants as class
+use Rattle.semantic_kinds.specs.declared.part.Part.{Part}
+use Rattle.semantic_tree.specs.Forest.{Forest, nothing, tree}
+use Rattle.semantic_tree.specs.Tree.{Tree}
+use Rattle.semantic_tree.specs.Nodes.{trees}
+use Rattle.semantic_tree.specs.Fit.{lead, all_of, is_run, fit}
+use Rattle.semantic_tree.specs.Place.{root_place, child_place, placed_below}
+use Rattle.semantic_tree.specs.Faults.{first_fault}
+use Rattle.semantic_tree.specs.declared.node.Node.{Node}
+use Rattle.semantic_tree.specs.declared.place.Place.{Place}
+use Rattle.semantic_model.proofs.Clauses.{kind_is, role_is, first_holds, second_holds, both_hold}
+use Rattle.semantic_model.proofs.ParameterShape.{lead_in_role}
+use Rattle.semantic_model.proofs.Shape.{NoneMisshapen, first_formed, rest_formed, table_kept, fit_kept, none_misshapen}
+use Rattle.class_table.specs.Bodies.{end_rightly, all_end_rightly}
+use Rattle.class_table.proofs.BodiesStand.{bodies_stand}
+use Rattle.check_walk.specs.Shaped.{has_own_role, have_own_role, is_class_shape, are_class_shapes}
+
+-- the class has class bodies alone
+is_body_class : Class → Bool
+is_body_class (class.Only k) = same_kind k kind.ClassBody
+is_body_class _ = false
+
+-- the part is that of class bodies, or takes none
+takes_rightly : AstType → List ℕ → Part → Bool
+takes_rightly parent text part =
+    cond (same_kind parent kind.Class) (cond (same_role part.role role.Body) (is_body_class part.class) (not (is_of part.class kind.ClassBody text))) true
+
+all_parts : (k : AstType) (text : List ℕ) → list_all (takes_rightly k text) (parts k) ≡ true
+unfolding takes_rightly is_body_class
+all_parts kind.Program text = refl
+all_parts _ text = refl
+
+body_of_class : (c : Class) (k : AstType) (text : List ℕ) → is_body_class c ≡ true → is_of c k text ≡ true → same_kind k kind.ClassBody ≡ true
+unfolding is_body_class
+body_of_class (class.Only k2) k text h i = subst (λ q. same_kind k q ≡ true) (kind_is k2 kind.ClassBody h) i
+body_of_class _ k text h i = absurd cc
+
+part_own : (parent : AstType) (part : Part) (r : Role) (k : AstType) (text : List ℕ) → takes_rightly parent text part ≡ true → same_role r part.role ≡ true → is_of part.class k text ≡ true → has_own_role parent r k ≡ true
+unfolding takes_rightly
+part_own parent part r k text h s i = elim (cases_Bool (same_kind parent kind.Class)) [
+  | inl e ↦
+      (let taken : cond (same_role part.role role.Body) (is_body_class part.class) (not (is_of part.class kind.ClassBody text)) ≡ true = rw e at h in
+      rw e (elim (cases_Bool (same_role part.role role.Body)) [
+        | inl f ↦
+            (let own : same_role r role.Body ≡ true = subst (λ q. same_role q role.Body ≡ true) (sym (role_is r part.role s)) f in
+            rw (own, body_of_class part.class k text (rw f at taken) i) refl)
+        | inr f ↦
+            (let own : same_role r role.Body ≡ false = subst (λ q. same_role q role.Body ≡ false) (sym (role_is r part.role s)) f in
+            let none : not (is_of part.class kind.ClassBody text) ≡ true = rw f at taken in
+            rw own (elim (cases_Bool (same_kind k kind.ClassBody)) [
+              | inl g ↦
+                  (let is_body : is_of part.class kind.ClassBody text ≡ true = subst (λ q. is_of part.class q text ≡ true) (kind_is k kind.ClassBody g) i in
+                  let q : false ≡ true = rw is_body at none in absurd cc)
+              | inr g ↦ rw g refl
+            ]))
+      ]))
+  | inr e ↦ rw e refl
+]
+
+abbrev all_own : AstType → List (Role × Node) → Bool
+all_own parent cs = list_all (λ c. has_own_role parent c.0 c.1.kind) cs
+
+run_own : (parent : AstType) (part : Part) (own : List (Role × Node)) → ((text : List ℕ) → takes_rightly parent text part ≡ true) → list_all (λ c. same_role c.0 part.role) own ≡ true → all_of part.class own ≡ true → all_own parent own ≡ true
+run_own parent part [] h s i = refl
+run_own parent part (c ∷ cs) h s i =
+    both_hold (has_own_role parent c.0 c.1.kind) (all_own parent cs)
+    (part_own parent part c.0 c.1.kind c.1.text (h c.1.text) (first_holds (same_role c.0 part.role) _ s) (first_holds (is_of part.class c.1.kind c.1.text) _ i))
+    (run_own parent part cs h (second_holds (same_role c.0 part.role) _ s) (second_holds (is_of part.class c.1.kind c.1.text) _ i))
+
+own_append : (parent : AstType) (xs ys : List (Role × Node)) → all_own parent xs ≡ true → all_own parent ys ≡ true → all_own parent (xs ++ ys) ≡ true
+own_append parent [] ys h i = i
+own_append parent (x ∷ xs) ys h i =
+    both_hold (has_own_role parent x.0 x.1.kind) (all_own parent (xs ++ ys)) (first_holds (has_own_role parent x.0 x.1.kind) _ h) (own_append parent xs ys (second_holds (has_own_role parent x.0 x.1.kind) _ h) i)
+
+is_number : (m n : ℕ) → (m == n) ≡ true → m ≡ n
+is_number m n h = elim (eqb_tells m n) [ inl k ↦ k.1 | inr k ↦ (let q : false ≡ true = sym k.0 ∙ h in absurd cc) ]
+
+fit_own : (parent : AstType) (ps : List Part) (cs : List (Role × Node)) → ((text : List ℕ) → list_all (takes_rightly parent text) ps ≡ true) → fit ps cs ≡ true → all_own parent cs ≡ true
+fit_own parent [] [] h f = refl
+fit_own parent [] (c ∷ cs) h f = let q : length (c ∷ cs) ≡ 0 = is_number (length (c ∷ cs)) 0 f in absurd (omega arith)
+fit_own parent (p ∷ ps) cs h f =
+    let n : ℕ = lead p.role cs in
+    let run : is_run p (take n cs) ≡ true = first_holds (is_run p (take n cs)) _ f in
+    subst (λ xs. all_own parent xs ≡ true) (take-append-drop n cs)
+    (own_append parent (take n cs) (drop n cs)
+    (run_own parent p (take n cs) (λ text. first_holds (takes_rightly parent text p) _ (h text)) (lead_in_role p.role cs) (second_holds _ (all_of p.class (take n cs)) run))
+    (fit_own parent ps (drop n cs) (λ text. second_holds (takes_rightly parent text p) _ (h text)) (second_holds (is_run p (take n cs)) _ f)))
+
+-- the tests on lists are those on forests
+own_forest : (parent : AstType) (f : Forest) → all_own parent (trees f) ≡ true → have_own_role parent f ≡ true
+own_forest parent nothing h = refl
+own_forest parent (tree r k span text marks below id after) h =
+    both_hold (has_own_role parent r k) (have_own_role parent after) (first_holds (has_own_role parent r k) _ h) (own_forest parent after (second_holds (has_own_role parent r k) _ h))
+
+-- the children of a node that keeps the table
+kept_own : (k : AstType) (f : Forest) → fit (parts k) (trees f) ≡ true → have_own_role k f ≡ true
+kept_own k f h = own_forest k f (fit_own k (parts k) (trees f) (all_parts k) h)
+
+forest_shapes : (place : Place) (k : AstType) (f : Forest) → NoneMisshapen (placed_below place k f) → all_end_rightly f ≡ true → are_class_shapes f ≡ true
+forest_shapes place k nothing h e = refl
+forest_shapes place k (tree r k2 span text marks below id after) h e =
+    let node : Node = record { kind = k2; span = span; text = text; marks = marks; children = below; node_id = id } in
+    let here : Place = child_place place k r in
+    let q = first_formed (here, node) (placed_below here k2 below ++ placed_below place k after) h in
+    let w : NoneMisshapen (placed_below here k2 below) × NoneMisshapen (placed_below place k after) = rest_formed (placed_below here k2 below) (placed_below place k after) q.1 in
+    let ends : end_rightly k2 below ≡ true = first_holds (end_rightly k2 below) _ e in
+    let rest : (all_end_rightly below && all_end_rightly after) ≡ true = second_holds (end_rightly k2 below) _ e in
+    both_hold (is_class_shape k2 below) (are_class_shapes below && are_class_shapes after)
+    (both_hold (end_rightly k2 below) (have_own_role k2 below) ends (kept_own k2 below (fit_kept node (table_kept here node q.0))))
+    (both_hold (are_class_shapes below) (are_class_shapes after)
+    (forest_shapes here k2 below w.0 (first_holds (all_end_rightly below) _ rest))
+    (forest_shapes place k after w.1 (second_holds (all_end_rightly below) _ rest)))
+
+-- the root of a program, and the nodes below it
+pub classes_formed : (p : Tree) → first_fault p ≡ None → (is_class_shape p.root.kind p.root.children ≡ true) × (are_class_shapes p.root.children ≡ true)
+classes_formed p h =
+    let all : NoneMisshapen ((root_place, p.root) ∷ placed_below root_place p.root.kind p.root.children) = none_misshapen p h in
+    let q = first_formed (root_place, p.root) (placed_below root_place p.root.kind p.root.children) all in
+    let stand = bodies_stand p h in
+    let ends : end_rightly p.root.kind p.root.children ≡ true = subst (λ k. end_rightly k p.root.children ≡ true) (sym stand.0) stand.1 in (
+      both_hold (end_rightly p.root.kind p.root.children) (have_own_role p.root.kind p.root.children) ends (kept_own p.root.kind p.root.children (fit_kept p.root (table_kept root_place p.root q.0))),
+      forest_shapes root_place p.root.kind p.root.children q.1 stand.2,
+    )
+
+-- so classes end with their bodies
+pub shapes_end : (f : Forest) → are_class_shapes f ≡ true → all_end_rightly f ≡ true
+shapes_end nothing h = refl
+shapes_end (tree r k span text marks below id after) h =
+    let own : is_class_shape k below ≡ true = first_holds (is_class_shape k below) _ h in
+    let rest : (are_class_shapes below && are_class_shapes after) ≡ true = second_holds (is_class_shape k below) _ h in
+    both_hold (end_rightly k below) (all_end_rightly below && all_end_rightly after) (first_holds (end_rightly k below) _ own)
+    (both_hold (all_end_rightly below) (all_end_rightly after) (shapes_end below (first_holds (are_class_shapes below) _ rest)) (shapes_end after (second_holds (are_class_shapes below) _ rest)))

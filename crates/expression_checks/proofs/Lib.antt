@@ -1,0 +1,3 @@
+pub mod BeforeEnd
+pub mod BeforeLast
+pub mod Searched

@@ -1,0 +1,4 @@
+pub mod ProtoKeys
+pub mod Verdicts
+pub mod Ways
+pub mod Searches
