@@ -26,10 +26,6 @@ last_of_more earlier node text =
     ∙ by_text (bytes_eq node.text text) node (find_last (λ other. bytes_eq other.text text) earlier)
 
 module _ {S : Type 0} (seen : HashMap (Bor (List ℕ)) Span S) where
-  -- nothing is noted in a map that is empty
-  pub none_seen : IsEmpty seen → HasLast [] seen
-  none_seen h = record { spans = λ name u. ap (lookup (λ key. bytes_eq name key.now)) h }
-
   -- what the map has of a name
   pub seen_before : (earlier : List Node) (node : Node) (name : List ℕ) → HasLast earlier seen → IsUtf8 name → chars name ≡ node.text → get_by (λ key. bytes_eq name key.now) seen ≡ last_span earlier node
   seen_before earlier node name h u is = h.spans name u ∙ ap (last_span_of earlier) is
