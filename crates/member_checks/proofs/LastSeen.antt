@@ -1,9 +1,8 @@
 -- The last node of each name, once one more is noted.
 use Rattle.std.proofs.Common.{◌≡◌, ℕ, List, [], ◌∷◌, ◌++◌, Bool, true, false, Option, Some, None, cond, if◌then◌else◌, option_map, refl, sym, ap, ◌∙◌}
 use Rattle.std.specs.Borrow.{Bor}
-use Rattle.std.specs.HashMap.{HashMap, get_by, UpdatesBy, IsEmpty}
+use Rattle.std.specs.HashMap.{HashMap, get_by, UpdatesBy}
 use Rattle.std.specs.List.{find}
-use Rattle.std.specs.Map.{lookup}
 use Rattle.std.specs.Str.{chars, bytes_eq, IsUtf8}
 use Rattle.std.proofs.lemmas.List.{reverse-append}
 use Rattle.std.proofs.lemmas.Map.Text.{hash_map_updates_str}
