@@ -1,9 +1,8 @@
 -- The last node of each name, once one more is noted.
 use Rattle.std.proofs.Common.{◌≡◌, ℕ, List, [], ◌∷◌, ◌++◌, Bool, true, false, Option, Some, None, cond, if◌then◌else◌, option_map, refl, sym, ap, ◌∙◌}
 use Rattle.std.specs.Borrow.{Bor}
-use Rattle.std.specs.HashMap.{HashMap, get_by, UpdatesBy, IsEmpty}
+use Rattle.std.specs.HashMap.{HashMap, get_by, UpdatesBy}
 use Rattle.std.specs.List.{find}
-use Rattle.std.specs.Map.{lookup}
 use Rattle.std.specs.Str.{chars, bytes_eq, IsUtf8}
 use Rattle.std.proofs.lemmas.List.{reverse-append}
 use Rattle.std.proofs.lemmas.Map.Text.{hash_map_updates_str}
@@ -26,10 +25,6 @@ last_of_more earlier node text =
     ∙ by_text (bytes_eq node.text text) node (find_last (λ other. bytes_eq other.text text) earlier)
 
 module _ {S : Type 0} (seen : HashMap (Bor (List ℕ)) Span S) where
-  -- nothing is noted in a map that is empty
-  pub none_seen : IsEmpty seen → HasLast [] seen
-  none_seen h = record { spans = λ name u. ap (lookup (λ key. bytes_eq name key.now)) h }
-
   -- what the map has of a name
   pub seen_before : (earlier : List Node) (node : Node) (name : List ℕ) → HasLast earlier seen → IsUtf8 name → chars name ≡ node.text → get_by (λ key. bytes_eq name key.now) seen ≡ last_span earlier node
   seen_before earlier node name h u is = h.spans name u ∙ ap (last_span_of earlier) is

@@ -1,4 +1,4 @@
--- A loop that tells of repeated names: it begins, goes on, stops for want of memory, and ends.
+-- A loop that tells of repeated names: it goes on, and it stops for want of memory.
 use Rattle.std.proofs.Common.{◌≡◌, ℕ, List, [], ◌∷◌, ◌++◌, Option, Result, Ok, Err, ap, subst, ◌∙◌}
 use Rattle.std.specs.Borrow.{Bor}
 use Rattle.std.specs.HashMap.{HashMap}
@@ -9,16 +9,9 @@ use Rattle.semantic_diagnostics.specs.declared.diagnostic.Diagnostic.{Diagnostic
 use Rattle.check_model.specs.Methods.{repeated_rows}
 use Rattle.check_model.specs.Search.{each_after}
 use Rattle.check_context.specs.Tells.{IsBegun, IsTelling, Tells}
-use Rattle.check_context.proofs.Telling.{begins, goes_on, stops, ends}
+use Rattle.check_context.proofs.Telling.{goes_on, stops}
 use Rattle.member_checks.specs.Repeats.{last_span, rows_after, HasLast, IsRepeating}
 use Rattle.member_checks.proofs.LastSeen.{rows_are_after}
-
-pub begun : {S : Type 0} (names left : List Node) (seen : HashMap (Bor (List ℕ)) Span S) (before : List Diagnostic) → left ≡ names → HasLast [] seen → IsRepeating (each_after repeated_rows [] names) left seen before before
-begun names left seen before is h = record {
-  earlier = [];
-  last = h;
-  telling = subst (λ l. IsTelling (each_after repeated_rows [] l) (each_after repeated_rows [] left) before before) is (begins (each_after repeated_rows [] left) before);
-}
 
 -- the rows of a name stand in front of those that are left
 next_is : (rows : List Diagnostic) (earlier left rest : List Node) (name : Node) (before mid : List Diagnostic) → left ≡ name ∷ rest → IsTelling rows (each_after repeated_rows earlier left) before mid → IsTelling rows (repeated_rows earlier name ++ each_after repeated_rows (earlier ++ name ∷ []) rest) before mid
@@ -46,10 +39,3 @@ stopped P (Err want) rows left rest name was seen before mid now e h is at k =
     stops rows (repeated_rows h.earlier name) (each_after repeated_rows (h.earlier ++ name ∷ []) rest) before mid now
     (next_is rows h.earlier left rest name before mid is h.telling)
     (subst (λ l. IsBegun l mid now) (same_rows h.earlier name was at) k)
-
-pub unnoted : {A E S : Type 0} (P : E → Type 0) (r : Result A E) (rows : List Diagnostic) (left : List Node) (seen : HashMap (Bor (List ℕ)) Span S) (before now : List Diagnostic) → IsErrAnd r P → IsRepeating rows left seen before now → Tells r rows before now
-unnoted P (Ok done) rows left seen before now e h = absurd e
-unnoted P (Err want) rows left seen before now e h = record { told = h.telling.told; left = each_after repeated_rows h.earlier left; are_first = h.telling.are_first; are_last = h.telling.are_last }
-
-pub finished : {S : Type 0} (rows : List Diagnostic) (left : List Node) (seen : HashMap (Bor (List ℕ)) Span S) (before now : List Diagnostic) → left ≡ [] → IsRepeating rows left seen before now → now ≡ before ++ rows
-finished rows left seen before now none h = ends rows before now (subst (λ l. IsTelling rows (each_after repeated_rows h.earlier l) before now) none h.telling)

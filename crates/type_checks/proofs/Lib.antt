@@ -2,6 +2,5 @@ pub mod UnderNamespaces
 pub mod EnumMembers
 pub mod UnmarkedSpans
 pub mod GlobalWord
-pub mod GoodSpans
 pub mod Suggestions
 pub mod CountsOn

@@ -8,5 +8,3 @@ use Rattle.semantic_diagnostics.proofs.AsciiTexts.{ascii_chars}
 -- an ASCII text behind another
 pub chars_before : (text after : List ℕ) → IsUtf8 text → IsTrue (is_ascii after) → chars (text ++ after) ≡ chars text ++ after
 chars_before text after u h = chars-append text after u ∙ ap (λ l. chars text ++ l) (ascii_chars after h)
-
-pub ruleset suggestions = (chars_before)

@@ -34,7 +34,6 @@ fn unmarked_text<'a>(kind: AstKind<'_>, mark: char, source: &'a str) -> &'a str
 }
 
 /// What TypeScript has for a `?` type.
-#[tactic(auto, using(crate::proofs::Suggestions::suggestions))]
 fn nullable_text(alloc: Global, text: &str) -> Result<String, AllocError>
     ensures { IfOk result (λ made. chars (string_bytes made) ≡ chars text.now ++ codes " | null | undefined") }
 {

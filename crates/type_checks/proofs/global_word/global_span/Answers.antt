@@ -11,7 +11,7 @@ pub returns-in-Some : goal.returns-in-Some
 returns-in-Some c =
     let span = c.args.kind.node.now.span in
     let source = c.args.ctx.now.source_text.now in
-    let ends : span.end ≤ length source = (sound_end source span c.requires.span).0 in
+    let ends : span.end ≤ length source = sound_end source span c.requires.span in
     c.sized.ensures
     ∙ ap (λ (s : Span). span_at s (Some c.in-Some.at)) c.span-span.ensures
     ∙ ap (span_at span) (sym c.in-Some.is)
@@ -22,7 +22,7 @@ pub returns-in-None : goal.returns-in-None
 returns-in-None c =
     let span = c.args.kind.node.now.span in
     let source = c.args.ctx.now.source_text.now in
-    let ends : span.end ≤ length source = (sound_end source span c.requires.span).0 in
+    let ends : span.end ≤ length source = sound_end source span c.requires.span in
     c.span-span.ensures
     ∙ ap (span_at span) (sym c.in-None.is)
     ∙ word_is span (drop span.start source) (sound_order source span c.requires.span) (omega (arith, length-drop span.start source)) c.find.result
