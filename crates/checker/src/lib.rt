@@ -2,7 +2,11 @@
 //! to tell at the end of a list of diagnostics.
 #![tactic(auto)]
 
+mod by_kind;
 pub mod javascript;
+mod parts;
+mod program;
 pub mod typescript;
 
+pub use by_kind::check;
 pub use check_context::CheckContext;

@@ -1,0 +1,3 @@
+pub mod LastSeen
+pub mod Repeating
+pub mod NextMembers

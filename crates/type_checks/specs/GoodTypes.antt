@@ -1,0 +1,15 @@
+-- Annotations whose types stand in the source.
+use Rattle.std.specs.Prelude.{◌≡◌, true, IfSome}
+use Rattle.semantic_kinds.specs.declared.role.Role.TheVariants as roles
+use Rattle.semantic_tree.specs.Sound.{has_good_span}
+use Rattle.semantic_tree.specs.Views.{child_in}
+use Rattle.semantic_tree.specs.declared.node.Node.{Node}
+use Rattle.check_context.specs.declared.context.CheckContext.{CheckContext}
+
+-- the node stands in the source, on characters, and a JSDoc type shows its mark there
+abbrev pub HasGoodSpan : CheckContext → Node → Type 0
+HasGoodSpan ctx node = has_good_span ctx.source_text.now node ≡ true
+
+-- the same of the type that an annotation has
+abbrev pub HasGoodType : Node → CheckContext → Type 0
+HasGoodType node ctx = IfSome (child_in roles.Element node) (HasGoodSpan ctx)

@@ -1,0 +1,2 @@
+pub mod GoodTypes
+pub mod Places

@@ -1,0 +1,72 @@
+//! Early errors of `infer`.
+ghost use Rattle.std.specs.Prelude.{◌≡◌};
+ghost use Rattle.std.specs.List.{list_any};
+ghost use Rattle.semantic_kinds.specs.declared.role.Role.TheVariants as roles;
+ghost use Rattle.semantic_tree.specs.Views.{whose};
+ghost use Rattle.node_store.specs.PathLeft.{path_left};
+ghost use Rattle.check_model.specs.Types as rows;
+ghost use Rattle.check_context.specs.Handed.{sight, IsContext};
+ghost use Rattle.check_context.specs.Tells.{Tells};
+
+use check_context::CheckContext;
+use node_store::AncestorKinds;
+use semantic_diagnostics::Diagnostics;
+use semantic_diagnostics::makers::infer_declaration_only_permitted_in_extends_clause;
+use semantic_syntax::Span;
+use semantic_tree::{AstKind, AstType, Role};
+use std::alloc::{AllocError, Global};
+
+/// Whether the outer span holds the inner one.
+fn holds(outer: Span, inner: Span) -> bool
+    ensures { result ≡ rows.holds outer inner }
+{
+    outer.contains_inclusive(inner)
+}
+
+/// Whether what a node extends is around the span.
+fn has_extended_over(span: Span, kind: AstKind<'_>) -> bool
+    ensures { result ≡ whose roles.Extends (λ extended. rows.holds extended.span span) kind.entry.node.now }
+{
+    match kind.child(Role::Extends) {
+        Some(extended) => holds(extended.span(), span),
+        None => false,
+    }
+}
+
+/// Whether the node is a conditional type that extends something around the span.
+fn extends_over(span: Span, kind: AstKind<'_>) -> bool
+    ensures { result ≡ rows.extends_over span kind.entry.node.now }
+{
+    kind.ty() == AstType::TSConditionalType && has_extended_over(span, kind)
+}
+
+/// Whether a conditional type of a path extends something around the span.
+fn is_extended_over(span: Span, above: AncestorKinds<'_, '_>) -> bool
+    ensures { result ≡ list_any (rows.extends_over span) (path_left above.entry) }
+{
+    let mut left = above;
+    while let Some(kind) = left.next() {
+        if extends_over(span, kind) {
+            return true;
+        }
+    }
+    false
+}
+
+/// `infer` stands in what a conditional type extends (TypeScript 1338).
+#[tactic(auto, using(check_context::proofs::Telling::telling))]
+pub fn check_ts_infer_type<'a>(
+    alloc: Global,
+    kind: AstKind<'a>,
+    ctx: &CheckContext<'a, '_>,
+    out: &mut Diagnostics,
+) -> Result<(), AllocError>
+    requires { IsContext ctx.now }
+    ensures { Tells result (rows.check_ts_infer_type (sight kind.entry.node.now ctx.now)) out.old out.new }
+{
+    if is_extended_over(kind.span(), ctx.above()) {
+        Ok(())
+    } else {
+        out.push(infer_declaration_only_permitted_in_extends_clause(alloc, kind.span())?)
+    }
+}
