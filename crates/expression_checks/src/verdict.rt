@@ -1,5 +1,7 @@
 //! What a function decides about the `super` in it.
 ghost use Rattle.std.specs.Prelude.{◌≡◌, ◌<◌, ◌==◌, ◌||◌, if◌then◌else◌, Some, None, codes, length, not, option_map, find};
+ghost use Rattle.semantic_syntax.specs.Sets.{meets};
+ghost use Rattle.semantic_syntax.specs.declared.scope_flags.TheConstants.ScopeFlags as scope;
 ghost use Rattle.semantic_tree.specs.ChildIter.{shown};
 ghost use Rattle.semantic_tree.specs.Views.{has_text};
 ghost use Rattle.semantic_tree.specs.declared.node.Node.{Node};
@@ -12,7 +14,7 @@ ghost use Rattle.expression_checks.specs.Verdicts.{verdict_shown};
 
 use check_context::{CheckContext, Links, is_child_in};
 use node_rules::questions::reads;
-use semantic_syntax::{NodeId, ScopeId};
+use semantic_syntax::{NodeId, ScopeFlags, ScopeId};
 use semantic_tree::{AstKind, AstType, Mark, Role};
 
 /// What a scope decides about the `super` in it.
@@ -140,6 +142,13 @@ fn scope_function_verdict<'a>(
     }
 }
 
+/// Whether the search for what decides goes on past a scope with the flags: one of an arrow, or of no function.
+fn is_passed(flags: ScopeFlags) -> bool
+    ensures { result ≡ (not (meets flags.bits scope.Function.bits) || meets flags.bits scope.Arrow.bits) }
+{
+    !flags.is_function() || flags.is_arrow()
+}
+
 /// What a scope decides that is no class's, if anything: static blocks allow `super`, and functions other than arrows
 /// decide by where they stand.
 pub(crate) fn scope_verdict<'a>(
@@ -155,7 +164,7 @@ pub(crate) fn scope_verdict<'a>(
     if flags.is_class_static_block() {
         return Some(Verdict::AllowedUnlessCall);
     }
-    if !flags.is_function() || flags.is_arrow() {
+    if is_passed(flags) {
         return None;
     }
     Some(scope_function_verdict(scope, kind, ctx))
