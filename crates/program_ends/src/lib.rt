@@ -5,4 +5,4 @@ mod input;
 mod stops;
 
 pub use input::read_program_from;
-pub use stops::{Stop, numbered_line, tell, tell_line, tell_stop};
+pub use stops::{Stop, numbered_line, tell, tell_line, tell_stop, tree_line};

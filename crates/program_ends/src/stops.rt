@@ -78,7 +78,7 @@ fn span_line(alloc: Global, fault: SpanFault) -> Result<String, AllocError>
 }
 
 /// The line on a refused tree.
-fn tree_line(alloc: Global, cause: &TreeError) -> Result<String, AllocError>
+pub fn tree_line(alloc: Global, cause: &TreeError) -> Result<String, AllocError>
     ensures { IfOk result (λ line. string_bytes line ≡ tree_line cause.now) }
 {
     match cause {
