@@ -7,7 +7,7 @@ set -eu
 cd "$(dirname "$0")/.."
 exec python3 - "${1:-bin/module_linker}" "${2:-1000}" <<'SOURCE'
 import json
-import os
+import resource
 import subprocess
 import sys
 import tempfile
@@ -100,6 +100,12 @@ def stars_in_a_ring(n):
     return trees
 
 
+def used():
+    """The processor time of the programs that were run so far, in seconds."""
+    children = resource.getrusage(resource.RUSAGE_CHILDREN)
+    return children.ru_utime + children.ru_stime
+
+
 def seconds(program, trees):
     """The least processor time of some runs over the set, and how many lines the program writes."""
     modules = [{"name": f"m{i}", "tree": tree.text()} for i, tree in enumerate(trees)]
@@ -110,12 +116,11 @@ def seconds(program, trees):
             given.seek(0)
             told.seek(0)
             told.truncate()
-            before = os.times()
+            before = used()
             status = subprocess.run([program], stdin=given, stdout=told).returncode
-            after = os.times()
+            time = used() - before
             if status not in (0, 1):
                 sys.exit(f"bench: {program} ended with status {status}")
-            time = after.children_user + after.children_system - before.children_user - before.children_system
             best = time if best is None else min(best, time)
         told.seek(0)
         return best, told.read().count(b"\n")
@@ -129,6 +134,6 @@ for family in (chain, ring, star, stars_in_a_ring):
     ratio = more / once
     slow = slow or ratio > MOST
     name = family.__name__.replace("_", " ")
-    print(f"{name}, {n} modules: {1000 * once:.0f} ms, {lines} lines; {4 * n} modules: {1000 * more:.0f} ms, ratio {ratio:.1f} (wanted at most {MOST:.0f})")
+    print(f"{name}, {n} modules: {1000 * once:.1f} ms, {lines} lines; {4 * n} modules: {1000 * more:.1f} ms, ratio {ratio:.1f} (wanted at most {MOST:.0f})")
 sys.exit(1 if slow else 0)
 SOURCE

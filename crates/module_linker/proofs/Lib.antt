@@ -1,0 +1,4 @@
+pub mod Inputs
+pub mod Answering
+pub mod Loose
+pub mod Meanings

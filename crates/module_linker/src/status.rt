@@ -1,0 +1,52 @@
+//! How the program ends.
+ghost use Rattle.std.specs.Prelude.{◌≡◌};
+ghost use Rattle.module_linker.specs.Codes.{code_of};
+
+use program_ends::Stop;
+
+/// How the program ends.
+#[derive(Clone, Copy, Debug, PartialEq, Eq)]
+pub enum LinkStatus {
+    /// The links are written, and each import comes to something.
+    Done,
+    /// The links are written, and some import comes to nothing, or to things that differ.
+    Found,
+    /// There are words.
+    Usage,
+    /// The input is no set of modules, or they can't be linked.
+    Tree,
+    /// The input is too long.
+    TooLong,
+    /// A call on the source failed.
+    Read,
+    /// A call on the sink failed.
+    Write,
+    /// Memory is wanting.
+    Memory,
+}
+
+impl LinkStatus {
+    /// The exit status, from 0 to 7.
+    pub fn code(self) -> u8
+        ensures { result ≡ code_of self }
+    {
+        self as u8
+    }
+}
+
+impl From<Stop> for LinkStatus {
+    ghost use Rattle.module_linker.specs.Codes.{status_of};
+
+    ghost from_gives = { λ stop status. status ≡ status_of stop };
+
+    fn from(stop: Stop) -> Self {
+        match stop {
+            Stop::Usage => LinkStatus::Usage,
+            Stop::Tree => LinkStatus::Tree,
+            Stop::TooLong => LinkStatus::TooLong,
+            Stop::Read => LinkStatus::Read,
+            Stop::Write => LinkStatus::Write,
+            Stop::Memory => LinkStatus::Memory,
+        }
+    }
+}

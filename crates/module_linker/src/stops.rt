@@ -1,0 +1,134 @@
+//! Tells why the program stopped.
+ghost use Rattle.std.specs.Prelude.{◌≡◌, IfOk, string_bytes};
+ghost use Rattle.program_ends.specs.Calls.{sink_call};
+ghost use Rattle.program_ends.specs.Lines.{memory_line};
+ghost use Rattle.module_linker.specs.Lines.{place_line, module_line, tree_refused_line, cause_line, usage_line};
+ghost use Rattle.module_linker.specs.Telling.{stop_of_refusal, failure_line, failure_stop, Tells, Finishes};
+
+use crate::failure::LinkFailure;
+use crate::status::LinkStatus;
+use module_set::LinkError;
+use program_ends::{Stop, numbered_line, tell, tell_stop, tree_line};
+use report_ends::{ReportError, Sink, WriteFault};
+use semantic_syntax::NodeId;
+use semantic_tree::TreeError;
+use std::alloc::{AllocError, Global};
+
+/// A text, with the numbers of a module and of one of its nodes behind it, as a line.
+#[tactic(auto, unfolding(crate::specs::Lines::place_line))]
+fn place_line(alloc: Global, text: &str, number: u32, node: NodeId) -> Result<String, AllocError>
+    ensures { IfOk result (λ line. string_bytes line ≡ place_line text.now number node) }
+{
+    let place = node.index();
+    format!(in alloc; "{text}{number} {place}\n")
+}
+
+/// A line behind the number of a module.
+#[tactic(auto, unfolding(crate::specs::Lines::module_line))]
+fn module_line(alloc: Global, number: u32, line: &str) -> Result<String, AllocError>
+    ensures { IfOk result (λ whole. string_bytes whole ≡ module_line number line.now) }
+{
+    format!(in alloc; "link: module {number}: {line}")
+}
+
+/// The line on a module whose tree is refused.
+fn tree_refused_line(alloc: Global, number: u32, cause: &TreeError) -> Result<String, AllocError>
+    ensures { IfOk result (λ line. string_bytes line ≡ tree_refused_line number cause.now) }
+{
+    let line = tree_line(alloc, cause)?;
+    module_line(alloc, number, &line)
+}
+
+/// The line on a refusal.
+fn cause_line(alloc: Global, error: &LinkError) -> Result<String, AllocError>
+    ensures { IfOk result (λ line. string_bytes line ≡ cause_line error.now) }
+{
+    match error {
+        LinkError::NotJson => String::from_str(alloc, "link: not JSON\n"),
+        LinkError::Shape => String::from_str(alloc, "link: shape\n"),
+        LinkError::Tree(number, cause) => tree_refused_line(alloc, *number, cause),
+        LinkError::NotModule(number) => {
+            numbered_line(alloc, "link: not a module ", *number as usize)
+        }
+        LinkError::Twice(number) => numbered_line(alloc, "link: name twice ", *number as usize),
+        LinkError::TwoExports(number, node) => {
+            place_line(alloc, "link: export twice ", *number, *node)
+        }
+        LinkError::UnknownStar(number, node) => {
+            place_line(alloc, "link: unknown star ", *number, *node)
+        }
+        LinkError::Memory(_) => String::from_str(alloc, "out of memory\n"),
+    }
+}
+
+/// At which stop a refusal ends the program.
+fn stop_of_refusal(error: &LinkError) -> Stop
+    ensures { result ≡ stop_of_refusal error.now }
+{
+    match error {
+        LinkError::Memory(_) => Stop::Memory,
+        _ => Stop::Tree,
+    }
+}
+
+/// Tells a refusal's line.
+fn tell_refusal<E: Sink>(alloc: Global, error: &LinkError, errs: &mut E) -> LinkStatus
+    ensures { Tells (sink_call E.held E.faults errs.old errs.new) (cause_line error.now) (stop_of_refusal error.now) result }
+{
+    match cause_line(alloc, error) {
+        Ok(line) => LinkStatus::from(tell_stop(&line, stop_of_refusal(error), errs)),
+        Err(_) => LinkStatus::Memory,
+    }
+}
+
+/// Tells the line on why no links are written, or not to their end, and answers its status, or that memory is wanting.
+/// The sink has taken a prefix of the line then, and also where it failed.
+pub(crate) fn tell_failure<E: Sink>(
+    alloc: Global,
+    failure: &LinkFailure,
+    errs: &mut E,
+) -> LinkStatus
+    ensures { Tells (sink_call E.held E.faults errs.old errs.new) (failure_line failure.now) (failure_stop failure.now) result }
+{
+    match failure {
+        LinkFailure::Refused(error) => tell_refusal(alloc, error, errs),
+        LinkFailure::Stopped(error) => LinkStatus::from(tell(alloc, error, errs)),
+    }
+}
+
+const USAGE: &str = "usage: module_linker\n";
+
+/// Answers words, for which there is no use.
+pub fn refuse_words<E: Sink>(errs: &mut E) -> LinkStatus
+    ensures { Tells (sink_call E.held E.faults errs.old errs.new) usage_line Stop.Usage result }
+{
+    LinkStatus::from(tell_stop(USAGE, Stop::Usage, errs))
+}
+
+/// Tells that memory is wanting.
+pub fn tell_memory<E: Sink>(alloc: Global, errs: &mut E) -> LinkStatus
+    ensures { Tells (sink_call E.held E.faults errs.old errs.new) memory_line Stop.Memory result }
+{
+    LinkStatus::from(tell(alloc, &ReportError::Memory, errs))
+}
+
+/// The status once the last bytes that a buffer kept are handed on. A fault in that is told where all went well before,
+/// and gives `Write`, or `Memory`.
+pub fn finish<E: Sink>(
+    alloc: Global,
+    status: LinkStatus,
+    flushed: Result<(), WriteFault>,
+    errs: &mut E,
+) -> LinkStatus
+    ensures { Finishes (sink_call E.held E.faults errs.old errs.new) status flushed result }
+{
+    match flushed {
+        Ok(()) => status,
+        Err(fault) => match status {
+            LinkStatus::Done | LinkStatus::Found => {
+                LinkStatus::from(tell(alloc, &ReportError::from(fault), errs))
+            }
+            other => other,
+        },
+    }
+}
