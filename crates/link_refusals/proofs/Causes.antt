@@ -1,8 +1,6 @@
 -- The order of the causes.
-use Rattle.std.proofs.Common.{◌≡◌, Option, Some, None, refl, sym, ap, ◌∙◌}
-use Rattle.std.specs.Result.{IsErrAnd, IfErr}
+use Rattle.std.proofs.Common.{◌≡◌, Option, Some, None, ap}
 use Rattle.module_set.specs.declared.error.LinkError.{LinkError}
-use Rattle.module_set.specs.Outcome.{IsWantOfMemory}
 use Rattle.link_model.specs.Refusal.{or_later}
 
 -- the first cause is the refusal

@@ -1,12 +1,11 @@
 -- One module, or one export, more.
-use Rattle.std.proofs.Common.{◌≡◌, ◌<◌, ◌≤◌, ℕ, ◌+◌, List, [], ◌∷◌, ◌++◌, Bool, true, false, cond, Option, Some, None, length, map, drop, get_or, refl, sym, ap, ◌∙◌, bytes_eq}
+use Rattle.std.proofs.Common.{◌≡◌, ◌<◌, ◌≤◌, ℕ, ◌+◌, List, [], ◌∷◌, ◌++◌, true, false, cond, Some, None, length, map, drop, get_or, ap, ◌∙◌, bytes_eq}
 use Rattle.std.specs.Prelude.{is_none}
 use Rattle.std.specs.List.{list_any}
 use Rattle.std.proofs.lemmas.List.{at_drop_more, at_drop_all}
 use Rattle.semantic_syntax.specs.Tables.{Name}
 use Rattle.semantic_tree.specs.ChildIter.{shown}
 use Rattle.semantic_tree.specs.declared.view.AstKind.{AstKind}
-use Rattle.module_set.specs.declared.error.LinkError.{LinkError}
 use Rattle.module_set.specs.declared.error.LinkError.TheVariants.{NotModule, Twice, TwoExports, UnknownStar}
 use Rattle.module_set.specs.declared.modules.Module.{Module}
 use Rattle.link_model.specs.Exports.{exports, stars}

@@ -70,7 +70,6 @@ links_told texts s ms apart follow (i ∷ is) (t ∷ ts) (f ∷ fs) h k = (here,
 
 -- ---- the exports of a set, and what they give
 
-
 module _ (texts : List Name) (apart : AreApart texts) (modules : List Module) (s : SetExports) (are : AreSetExports texts (all_analysed modules) s) where
   pub stays : StaysWithin s
   stays p q i = set_within texts (all_analysed modules) s apart are p q i

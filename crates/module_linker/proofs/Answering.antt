@@ -1,5 +1,5 @@
 -- What is given of modules, and what becomes of an input.
-use Rattle.std.proofs.Common.{◌≡◌, ◌⊎◌, inl, inr, ℕ, List, [], Option, Some, None, Result, Ok, Err, subst, sym, ap, ◌∙◌, refl}
+use Rattle.std.proofs.Common.{◌≡◌, inl, inr, ℕ, List, Option, Some, None, Result, Ok, Err, subst, sym, ap, ◌∙◌, refl}
 use Rattle.std.specs.Result.{IsErrAnd, IfErr}
 use Rattle.report_ends.specs.Streams.{Writes}
 use Rattle.report_ends.specs.declared.error.ReportError.{ReportError}

@@ -1,5 +1,5 @@
 -- What is read of an input.
-use Rattle.std.proofs.Common.{◌≡◌, ℕ, List, [], Option, Some, None, Result, Ok, Err, subst, sym, ap, ◌∙◌}
+use Rattle.std.proofs.Common.{◌≡◌, ℕ, List, Option, Some, Result, Ok, Err, subst, sym}
 use Rattle.std.specs.Result.{IsErrAnd, IfOk, IfErr}
 use Rattle.report_ends.specs.Causes.{Rose}
 use Rattle.report_ends.specs.Streams.{IsReadWhole, HadAtMost, HadMoreThan, ReadCause}
@@ -7,7 +7,6 @@ use Rattle.report_ends.specs.declared.error.ReportError.{ReportError}
 use Rattle.report_ends.specs.declared.error.ReportError.TheVariants as error
 use Rattle.program_ends.specs.Calls.{SourceCall}
 use Rattle.program_ends.specs.Meaning.{Finds}
-use Rattle.program_ends.specs.Meaning as ends
 use Rattle.module_set.specs.Outcome.{IsWantOfMemory, IsReadAs}
 use Rattle.module_set.specs.Reading.{StandsForSet, RefusesSet}
 use Rattle.module_set.specs.declared.error.LinkError.{LinkError}

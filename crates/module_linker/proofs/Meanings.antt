@@ -1,15 +1,14 @@
 -- What the program has done at its end.
-use Rattle.std.proofs.Common.{◌≡◌, ◌⊎◌, inl, inr, ℕ, ◌<◌, List, [], Bool, true, false, Option, Ok, Err, length, subst, sym, ap, ◌∙◌, refl, arith, String, ◌==◌, ◌∷◌}
+use Rattle.std.proofs.Common.{◌≡◌, ◌⊎◌, inl, inr, ℕ, ◌<◌, List, [], Bool, true, false, Ok, Err, length, subst, sym, ap, ◌∙◌, refl, arith, String, ◌==◌, ◌∷◌}
 use Rattle.std.proofs.lemmas.Bool.{eqb-true}
 use Rattle.std.specs.Prelude.{if◌then◌else◌}
 use Rattle.std.specs.List.{list_any}
 use Rattle.std.specs.declared.alloc.Global.{Global}
 use Rattle.report_ends.specs.Streams.{HadMoreThan, AppendsPrefix}
-use Rattle.report_ends.specs.declared.error.ReportError.{ReportError}
 use Rattle.report_ends.specs.declared.error.ReportError.TheVariants as error
 use Rattle.program_ends.specs.Calls.{SourceCall, SinkCall, Unread, Untouched}
 use Rattle.program_ends.specs.Completeness.{IsDoneOrMemory, IsUsageOrMemory}
-use Rattle.program_ends.specs.Lines.{line_of, memory_line}
+use Rattle.program_ends.specs.Lines.{memory_line}
 use Rattle.program_ends.specs.Meaning.{End, Finds, Answered, AnsweredPart, MayTell, of_usage, of_input, of_length, of_reading, of_writing, of_memory, end_of_stop}
 use Rattle.program_ends.specs.Meaning as ends
 use Rattle.program_ends.specs.Telling as telling
@@ -18,7 +17,7 @@ use Rattle.program_ends.specs.declared.stops.Stop.TheVariants as stop
 use Rattle.program_ends.proofs.Meanings.{part_told}
 use Rattle.module_set.specs.declared.error.LinkError.{LinkError}
 use Rattle.module_set.specs.declared.error.LinkError.TheVariants as refusal
-use Rattle.module_linker.specs.Codes.{end_of, status_of, status_for, is_loose}
+use Rattle.module_linker.specs.Codes.{end_of, status_of, is_loose}
 use Rattle.module_linker.specs.Failing.{IsNotRefused}
 use Rattle.module_linker.specs.Lines.{cause_line, usage_line}
 use Rattle.module_linker.specs.Meaning.{StandsLinked, RefusedFor, Answers, RefusesNone, Fails, Ends, Means, IsClear}

@@ -1,8 +1,6 @@
 -- Why no links of an input are written.
-use Rattle.std.specs.Prelude.{ℕ, List}
 use Rattle.report_ends.specs.Causes.{Rose}
 use Rattle.report_ends.specs.Streams.{HadMoreThan}
-use Rattle.report_ends.specs.declared.error.ReportError.{ReportError}
 use Rattle.report_ends.specs.declared.error.ReportError.TheVariants as error
 use Rattle.program_ends.specs.Calls.{SourceCall}
 use Rattle.program_ends.specs.Meaning as ends
