@@ -3,6 +3,7 @@ ghost use Rattle.std.specs.Prelude.{◌≡◌, ◌∷◌, ◌++◌, ◌+◌, [],
 ghost use Rattle.std.specs.Prelude.{IfSome};
 ghost use Rattle.std.specs.Str.{encode_utf8_all};
 ghost use Rattle.semantic_kinds.specs.declared.kind.AstType.{AstType};
+ghost use Rattle.semantic_kinds.specs.declared.kind.AstType.TheVariants.{Program as program_kind};
 ghost use Rattle.semantic_kinds.specs.declared.role.Role.{Role};
 ghost use Rattle.semantic_tree.specs.Nodes.{trees, nodes_in, first_of};
 ghost use Rattle.semantic_tree.specs.Sound.{has_good_span};
@@ -27,6 +28,7 @@ ghost use Rattle.check_model.specs.Rows.{rows_of};
 ghost use Rattle.check_model.specs.Context.{Context, sight_shown, unresolved_by};
 ghost use Rattle.check_model.specs.SightOf.{classes_around, elements_at, standing_in};
 ghost use Rattle.check_walk.specs.Context.{IsContextAt};
+ghost use Rattle.check_walk.specs.Leaving.{IsHandedAt};
 ghost use Rattle.check_walk.specs.Ready.{IsReadyAt, IsReadyBetween};
 ghost use Rattle.check_walk.specs.Shaped.{is_class_shape, are_class_shapes};
 ghost use Rattle.check_walk.specs.Showing.{ShowsClasses, IsInClasses, ShowsAround, ShowsBetween};
@@ -156,4 +158,13 @@ pub fn a_recursion_meets_what_checks_ask()
     ensures behind { (source : List ℕ) (w v : Standing) (b : ClassTableBuilder) (p : Place) (r : Role) (here : Node) (after : Forest) →
         IsReadyBetween source w b p (tree r here.kind here.span here.text here.marks here.children here.node_id after) → HasApart v →
         IsReadyBetween source v (left here.kind (noted_below here.kind here.node_id here.children (entered p.node.kind p.node.node_id here b))) p after }
+{}
+
+/// What a walk hands to a check when it leaves a node shows the rows of the walk: below the root from the scopes that
+/// the recursion knows, and at the root once all references are settled.
+pub fn a_walk_hands_what_its_rows_look_at()
+    ensures inside { (c : Context) (source : List ℕ) (w : Standing) (p : Place) → IsHandedAt c source w p → HasVar p.chain → ShowsChain w.tables p.chain → (p.node.kind ≡ program_kind → ⊥) →
+        rows_of (sight_shown p.node c) ≡ rows_of (sight_in source w p) }
+    ensures root { (c : Context) (p : Tree) → first_fault p ≡ None → IsNumbered p.root → IsHandedAt c (encode_utf8_all p.source) (walked p) (root_place p) → c.classes.elements ≡ elements_at p.root →
+        rows_of (sight_shown p.root c) ≡ rows_of (sight_in (encode_utf8_all p.source) (walked p) (root_place p)) }
 {}
