@@ -18,7 +18,7 @@ use Rattle.check_model.specs.DiagnosticsOf.{told}
 use Rattle.check_model.proofs.ConflictsGrow.{More}
 use Rattle.check_walk.specs.Telling.{IsQuiet, noted_since, told_over}
 use Rattle.check_walk.specs.SoFar.{Telling, so_far, IsCounted}
-use Rattle.check_walk.specs.TellingAlong.{telling_past, telling_along, making, AreUntold, telling_over}
+use Rattle.check_walk.specs.TellingAlong.{telling_past, telling_left, telling_along, making, AreUntold, telling_over}
 use Rattle.check_walk.proofs.Noting.{keeps_steps, quiet_step, leaving_step, told-append, more_so_far}
 
 -- what is made doesn't depend on checks
@@ -33,6 +33,15 @@ past_makes false source ds t step = refl
 pub along_makes : (checks : Bool) (source : List ℕ) (ds : List Declaration) (t : Telling) (ss : List Step) → (telling_along checks source ds t ss).made ≡ walk.after_all ds t.made ss
 along_makes checks source ds t [] = refl
 along_makes checks source ds t (s ∷ ss) = along_makes checks source ds (telling_past checks source ds t s) ss ∙ ap (λ (w : Standing). walk.after_all ds w ss) (past_makes checks source ds t s)
+
+-- what is made may be said by the steps alone
+pub along_parts : (checks : Bool) (source : List ℕ) (ds : List Declaration) (t : Telling) (ss : List Step) → record (telling_along checks source ds t ss) { made = walk.after_all ds t.made ss } ≡ telling_along checks source ds t ss
+along_parts checks source ds t ss = λ i. record (telling_along checks source ds t ss) { made = sym (along_makes checks source ds t ss) i }
+
+-- leaving a node makes nothing
+pub leaving_parts : (checks : Bool) (source : List ℕ) (ds : List Declaration) (t : Telling) (p : Place) → record (telling_left checks source t p) { made = t.made } ≡ telling_past checks source ds t (leaving p)
+leaving_parts true source ds t p = refl
+leaving_parts false source ds t p = refl
 
 -- with checks off nothing is told
 pub unchecked : (source : List ℕ) (ds : List Declaration) (t : Telling) (ss : List Step) → telling_along false source ds t ss ≡ making ds t ss

@@ -1,5 +1,5 @@
 -- What a walker has made and told along steps.
-use Rattle.std.specs.Prelude.{◌≡◌, ℕ, List, [], ◌∷◌, Bool, true, Some, None}
+use Rattle.std.specs.Prelude.{◌≡◌, ℕ, List, [], ◌∷◌, Bool, true, false, Some, None}
 use Rattle.std.specs.Str.{encode_utf8_all}
 use Rattle.semantic_tree.specs.Tree.{Tree}
 use Rattle.semantic_model.specs.Cursor.{on_entering}
@@ -18,6 +18,11 @@ use Rattle.check_walk.specs.Telling.{rows_in}
 abbrev pub telling_past : (checks : Bool) → (source : List ℕ) → List Declaration → Telling → Step → Telling
 telling_past true source ds t (leaving p) = telling t (rows_in true source t.made (leaving p))
 telling_past checks source ds t step = record t { made = after ds t.made step }
+
+-- the same of leaving a place alone, whatever is declared
+abbrev pub telling_left : (checks : Bool) → (source : List ℕ) → Telling → Place → Telling
+telling_left true source t p = telling t (rows_in true source t.made (leaving p))
+telling_left false source t p = t
 
 -- steps are done in order
 abbrev pub telling_along : (checks : Bool) → (source : List ℕ) → List Declaration → Telling → List Step → Telling

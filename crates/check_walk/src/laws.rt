@@ -35,7 +35,7 @@ ghost use Rattle.check_walk.specs.Showing.{ShowsClasses, IsInClasses, ShowsAroun
 ghost use Rattle.check_walk.specs.SoFar.{Telling, so_far, IsCounted, telling};
 ghost use Rattle.check_walk.specs.Apart.{HasApart};
 ghost use Rattle.check_walk.specs.Sound.{HaveGoodSpans, IsInSource, AreAllSound};
-ghost use Rattle.check_walk.specs.TellingAlong.{telling_along, making, telling_over, telling_whole};
+ghost use Rattle.check_walk.specs.TellingAlong.{telling_past, telling_left, telling_along, making, telling_over, telling_whole};
 ghost use Rattle.check_walk.specs.Telling.{IsQuiet, rows_in, steps_within, told_over, told_walking};
 ghost use Rattle.check_walk.specs.WalkSight.{sight_in, unresolved_in};
 
@@ -99,6 +99,9 @@ pub fn a_walker_tells_along_steps()
     ensures tells { (checks : Bool) (source : List ℕ) (ds : List Declaration) (t : Telling) (ss : List Step) → IsCounted t →
         so_far (telling_along checks source ds t ss) ≡ so_far t ++ told_over checks source ds t.made ss }
     ensures makes { (checks : Bool) (source : List ℕ) (ds : List Declaration) (t : Telling) (ss : List Step) → (telling_along checks source ds t ss).made ≡ after_all ds t.made ss }
+    ensures parts { (checks : Bool) (source : List ℕ) (ds : List Declaration) (t : Telling) (ss : List Step) →
+        record (telling_along checks source ds t ss) { made = after_all ds t.made ss } ≡ telling_along checks source ds t ss }
+    ensures leaves { (checks : Bool) (source : List ℕ) (ds : List Declaration) (t : Telling) (p : Place) → record (telling_left checks source t p) { made = t.made } ≡ telling_past checks source ds t (leaving p) }
     ensures counts { (checks : Bool) (source : List ℕ) (ds : List Declaration) (t : Telling) (ss : List Step) → IsCounted t → IsCounted (telling_along checks source ds t ss) }
     ensures unchecked { (source : List ℕ) (ds : List Declaration) (t : Telling) (ss : List Step) → telling_along false source ds t ss ≡ making ds t ss }
 {}
