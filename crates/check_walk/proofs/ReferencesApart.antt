@@ -23,7 +23,7 @@ others q k v (e ∷ es) apart all = by (nat_eq k e.0) (others q k v es apart all
     by true rest = all
     by false rest = (all.0, rest)
 
-one_more : (k v : ℕ) (es : List (ℕ × ℕ)) → IsDistinct nat_eq (keys_of es) → IsDistinct nat_eq (keys_of (insert_entry nat_eq es k v))
+pub one_more : (k v : ℕ) (es : List (ℕ × ℕ)) → IsDistinct nat_eq (keys_of es) → IsDistinct nat_eq (keys_of (insert_entry nat_eq es k v))
 one_more k v [] d = IsDistinct-cons nat_eq k [] tt d
 one_more k v (e ∷ es) d =
     by (nat_eq k e.0)
@@ -38,7 +38,7 @@ from_entries : (es : List (ℕ × ℕ)) (bs : List Belongs) → IsDistinct nat_e
 from_entries es [] d = d
 from_entries es (b ∷ bs) d = from_entries (with_entry es b) bs (one_more b.node b.number es d)
 
-no_keys : IsDistinct nat_eq []
+pub no_keys : IsDistinct nat_eq []
 unfolding IsDistinct
 no_keys = tt
 
