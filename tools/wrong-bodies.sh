@@ -8,7 +8,7 @@ cd "$(dirname "$0")/.."
 scratch="$(mktemp -d)"
 trap 'rm -rf "$scratch"' EXIT
 git init --quiet "$scratch"
-cp -r crates crates.txt HANDLES "$scratch"
+tar -cf - --exclude='crates/*/out' crates crates.txt HANDLES | tar -xf - -C "$scratch"
 rm -rf "$scratch"/crates/*/must-fail
 for crate in "$@"; do
     mv "$scratch/crates/$crate/wrong-bodies" "$scratch/crates/$crate/must-fail"
