@@ -32,7 +32,7 @@ pub record TellSame (s : Source) (m : model.Source) : Type 0 where
   pub way : (r : ℕ) → s.way r ≡ m.way r
 
 -- what a scope answers, by the model's source
-abbrev answer_by : model.Source → Name → ℕ → lookups.Asked
+abbrev pub answer_by : model.Source → Name → ℕ → lookups.Asked
 answer_by m x c = record {
   scope = c;
   flags = m.scope_flags c;
@@ -47,12 +47,12 @@ outcome_or other lookups.unanswered = other
 abbrev waits_outside : model.Source → ℕ → model.Outcome
 waits_outside m c = option_map_or model.waits (m.parent c) model.is_free
 
-up_to-same : (last : ℕ) (ss : List ℕ) → up_to last ss ≡ model.up_to last ss
+pub up_to-same : (last : ℕ) (ss : List ℕ) → up_to last ss ≡ model.up_to last ss
 unfolding up_to
 up_to-same last [] = refl
 up_to-same last (s ∷ ss) = rw (up_to-same last ss) refl
 
-within-same : (c : ℕ) (ss : List ℕ) → list_any (λ s. s == c) ss ≡ contains ss c
+pub within-same : (c : ℕ) (ss : List ℕ) → list_any (λ s. s == c) ss ≡ contains ss c
 within-same c [] = refl
 within-same c (s ∷ ss) = rw (within-same c ss) refl
 
@@ -66,7 +66,7 @@ module _ (s : Source) (m : model.Source) (same : TellSame s m) where
       by None further = refl
       by (Some p) further = further p
 
-  chain_of-same : (c : ℕ) → chain_within s.parent s.scopes c ≡ model.chain m c
+  pub chain_of-same : (c : ℕ) → chain_within s.parent s.scopes c ≡ model.chain m c
   chain_of-same c = rw same.scopes (chain-same m.scopes c)
 
   module _ (x : Name) (w : ℕ) where

@@ -6,5 +6,6 @@ pub mod Growing
 pub mod Waiting
 pub mod Settling
 pub mod Bridging
+pub mod Asking
 pub mod Outside
 pub mod EachName

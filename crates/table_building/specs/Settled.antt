@@ -1,6 +1,6 @@
 -- Outcomes that name what exists, in the words of the definitions, and what they settle.
 use Rattle.std.specs.Prelude.{◌≡◌, ℕ, ◌<◌, false, List, [], ◌++◌, take, drop, Option, None, Some}
-use Rattle.std.specs.List.{AllByRecursion}
+use Rattle.std.specs.List.{AllByRecursion, sum_by}
 use Rattle.resolver.specs.declared.outcomes.Outcome.{Outcome}
 use Rattle.resolver.specs.declared.outcomes.Outcome.TheVariants.{Tied, Free, Pending}
 use Rattle.semantic_model.specs.Outcome as model
@@ -33,6 +33,10 @@ settled_from w start outcomes = record w {
   tables = settle w.tables (drop start w.waiting) outcomes;
   waiting = take start w.waiting ++ staying (drop start w.waiting) outcomes;
 }
+
+-- how many scopes the end of the scope's header asks for the references that wait from a place on
+abbrev pub asked_from : Standing → (start scope : ℕ) → ℕ
+asked_from w start c = sum_by (model.header_asks (model.source_of w.tables) c) (drop start w.waiting)
 
 -- the references wait neither in the scope nor below it
 abbrev pub AreOutside : model.Source → ℕ → List model.Pending → Type 0

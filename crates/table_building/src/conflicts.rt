@@ -1,6 +1,6 @@
 //! Names that are declared although they may not be.
 
-ghost use Rattle.std.specs.Prelude.{◌≡◌, [], ◌∷◌, ◌++◌, length, map, IfOk, OnOk, OnErr};
+ghost use Rattle.std.specs.Prelude.{◌≡◌, [], ◌∷◌, ◌++◌, length, map, drop, OnOk, OnErr};
 ghost use Rattle.std.specs.Str.{chars};
 ghost use Rattle.table_building.specs.Conflicting.{told};
 
@@ -60,15 +60,29 @@ impl<'a> Conflicts<'a> {
         }
     }
 
-    /// A diagnostic for each.
-    pub fn diagnostics(&self, alloc: Global) -> Result<Diagnostics, AllocError>
-        ensures { IfOk result (λ made. made ≡ map told self.now) }
+    /// How many there are.
+    pub fn len(&self) -> usize
+        ensures { result ≡ length self.now }
     {
-        let mut diagnostics = Diagnostics::new(alloc);
-        for conflict in self.entries.as_slice() {
+        self.entries.len()
+    }
+
+    /// Adds a diagnostic for each from a position on, at the end of the list.
+    pub fn tell_from(
+        &self,
+        alloc: Global,
+        from: usize,
+        out: &mut Diagnostics,
+    ) -> Result<(), AllocError>
+        ensures { OnOk result (out.new ≡ out.old ++ map told (drop from self.now)) }
+    {
+        let entries = self.entries.as_slice();
+        let mut next = from;
+        while let Some(conflict) = entries.get(next) {
             let diagnostic = redeclaration(alloc, conflict.name, conflict.earlier, conflict.later)?;
-            diagnostics.push(diagnostic)?;
+            out.push(diagnostic)?;
+            next += 1;
         }
-        Ok(diagnostics)
+        Ok(())
     }
 }

@@ -1,6 +1,6 @@
 //! What the walk has made so far, and how one more declaration comes to its symbol.
 
-ghost use Rattle.std.specs.Prelude.{◌≡◌, ◌<◌, None, length, map, option_map, fold, IfSome, IfOk, OnOk};
+ghost use Rattle.std.specs.Prelude.{◌≡◌, ◌<◌, ◌++◌, None, length, map, drop, option_map, fold, IfSome, IfOk, OnOk};
 ghost use Rattle.std.specs.Str.{bytes_eq};
 ghost use Rattle.std.specs.Map.{lookup};
 ghost use Rattle.scoping.specs.Names.{name_of};
@@ -103,11 +103,25 @@ impl<'a> Declared<'a> {
         &self.scoping
     }
 
-    /// A diagnostic for each conflict.
-    pub fn diagnostics(&self) -> Result<Diagnostics, AllocError>
-        ensures { IfOk result (λ made. made ≡ map told self.now.conflicts) }
+    /// What belongs to each node.
+    pub fn tables(&self) -> &NodeTables
+        ensures { result.now ≡ self.now.nodes }
     {
-        self.conflicts.diagnostics(self.alloc)
+        &self.tables
+    }
+
+    /// How many conflicts there are.
+    pub fn conflicts_len(&self) -> usize
+        ensures { result ≡ length self.now.conflicts }
+    {
+        self.conflicts.len()
+    }
+
+    /// Adds a diagnostic for each conflict from a position on, at the end of the list.
+    pub fn tell_from(&self, from: usize, out: &mut Diagnostics) -> Result<(), AllocError>
+        ensures { OnOk result (out.new ≡ out.old ++ map told (drop from self.now.conflicts)) }
+    {
+        self.conflicts.tell_from(self.alloc, from, out)
     }
 
     /// The tables, and what belongs to each node.

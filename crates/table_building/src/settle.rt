@@ -1,11 +1,13 @@
 //! References that are settled.
 
-ghost use Rattle.std.specs.Prelude.{◌≡◌, ◌+◌, ◌<◌, ◌≤◌, length, map, take, drop, slice_index_or, All, IfOk, OnOk};
-ghost use Rattle.semantic_model.specs.Outcome.{source_of, header_outcome, last_outcome};
+ghost use Rattle.std.specs.Prelude.{◌≡◌, ◌+◌, ◌<◌, ◌≤◌, length, map, take, drop, slice_index_or, All, IfOk, OnOk, OnErr};
+ghost use Rattle.std.specs.List.{sum_by};
+ghost use Rattle.semantic_syntax.specs.Counts.{raised};
+ghost use Rattle.semantic_model.specs.Outcome.{source_of, header_outcome, last_outcome, last_asks};
 ghost use Rattle.walk_model.specs.Settles as walked;
 ghost use Rattle.table_building.specs.Growth.{Grows};
 ghost use Rattle.table_building.specs.Made.{pending_of};
-ghost use Rattle.table_building.specs.Settled.{IsOutcomeWithin, outcome_of, settled_from, no_pending, AreOutside};
+ghost use Rattle.table_building.specs.Settled.{IsOutcomeWithin, outcome_of, settled_from, asked_from, no_pending, AreOutside};
 
 use crate::declared::Declared;
 use resolver::{Outcome, Outcomes, UnresolvedReference, resolve_all, resolve_header, settled};
@@ -114,6 +116,9 @@ impl<'a> Declared<'a> {
         ensures outcomes { IfOk result (λ o. map outcome_of o ≡ map (header_outcome (source_of self.now.tables) scope) (drop start self.now.waiting)) }
         ensures within { IfOk result (λ o. All (IsOutcomeWithin (length self.now.tables.symbols) (length self.now.tables.scopes)) o) }
         ensures count { IfOk result (λ o. start + length o ≡ length self.now.waiting) }
+        ensures cost { OnOk result (steps.new ≡ raised steps.old (asked_from self.now start scope)) }
+        ensures risen { steps.old ≤ steps.new }
+        ensures given_up { OnErr result (steps.new ≤ raised steps.old (asked_from self.now start scope)) }
     {
         self.scoping.attest();
         resolve_header(
@@ -131,12 +136,17 @@ impl<'a> Declared<'a> {
         ensures outcomes { IfOk result (λ o. map outcome_of o ≡ map (last_outcome (source_of self.now.tables)) self.now.waiting) }
         ensures within { IfOk result (λ o. All (IsOutcomeWithin (length self.now.tables.symbols) (length self.now.tables.scopes)) o) }
         ensures count { IfOk result (λ o. length o ≡ length self.now.waiting) }
+        ensures cost { OnOk result (steps.new ≡ raised steps.old (sum_by (last_asks (source_of self.now.tables)) self.now.waiting)) }
+        ensures risen { steps.old ≤ steps.new }
+        ensures given_up { OnErr result (steps.new ≤ raised steps.old (sum_by (last_asks (source_of self.now.tables)) self.now.waiting)) }
     {
         self.scoping.attest();
         resolve_all(self.alloc, &self.pending, &self.scoping, steps)
     }
 
     /// At the end of a header the references that wait since its start are looked up as far as its scope.
+    ///
+    /// A step is taken for each scope that is asked. After want of memory at most as many steps have been taken.
     #[tactic(auto, using(crate::proofs::Growing::growing, crate::proofs::Outside::outside))]
     pub fn end_header<L>(
         &mut self,
@@ -150,15 +160,23 @@ impl<'a> Declared<'a> {
         ensures whole { AreOutside (source_of self.old.tables) scope (take start self.old.waiting) → OnOk result (self.new ≡ walked.end_header self.old scope) }
         ensures grows { Grows self.old.tables self.new.tables }
         ensures waiting { OnOk result (start ≤ length self.new.waiting) }
+        ensures cost { OnOk result (steps.new ≡ raised steps.old (asked_from self.old start scope)) }
+        ensures risen { steps.old ≤ steps.new }
+        ensures given_up { OnErr result (steps.new ≤ raised steps.old (asked_from self.old start scope)) }
     {
         let outcomes = self.header_outcomes(scope, start, steps)?;
         self.settle(start, &outcomes)
     }
 
     /// After the walk every reference that waits is settled.
+    ///
+    /// A step is taken for each scope that is asked. After want of memory at most as many steps have been taken.
     pub fn settle_rest<L>(&mut self, steps: &mut Steps<L>) -> Result<(), AllocError>
         ensures made { OnOk result (self.new ≡ walked.settle_rest self.old) }
         ensures grows { Grows self.old.tables self.new.tables }
+        ensures cost { OnOk result (steps.new ≡ raised steps.old (sum_by (last_asks (source_of self.old.tables)) self.old.waiting)) }
+        ensures risen { steps.old ≤ steps.new }
+        ensures given_up { OnErr result (steps.new ≤ raised steps.old (sum_by (last_asks (source_of self.old.tables)) self.old.waiting)) }
     {
         let outcomes = self.last_outcomes(steps)?;
         self.settle(0, &outcomes)

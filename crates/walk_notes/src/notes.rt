@@ -1,6 +1,7 @@
 //! Classes and labels as a walk notes them, node by node.
 ghost use Rattle.std.specs.Prelude.{◌≡◌, OnOk, OnErr};
 ghost use Rattle.node_rules.specs.Seen.{path_of};
+ghost use Rattle.class_table.specs.Building.{IsCurrent};
 ghost use Rattle.class_table.specs.NotedSteps.{entered_under};
 ghost use Rattle.walk_notes.specs.NoteLists.{nothing_noted, noting, leaving, has_label_kind, is_noted, is_noted_behind};
 
@@ -115,6 +116,14 @@ impl<'a> Notes<'a> {
         self.labels.leave(kind)?;
         self.classes.leave(kind.ty());
         Ok(())
+    }
+
+    /// The classes so far, and which is current.
+    pub fn classes(&self) -> &ClassTableBuilder<'a>
+        ensures value { result.now ≡ self.now.classes }
+        ensures current { IsCurrent result.now }
+    {
+        &self.classes
     }
 
     /// The classes, and the nodes of the labelled statements that no jump names.

@@ -1,4 +1,11 @@
-use Rattle.std.proofs.Common.{◌≡◌, ◌<◌, ◌∙◌, ap, length, List, map, drop, All}
+use Rattle.std.proofs.Common.{◌≡◌, ◌<◌, ◌≤◌, ◌∙◌, ap, subst, length, List, map, drop, All}
+use Rattle.std.specs.List.{sum_by}
+use Rattle.std.proofs.lemmas.Result.{on_ok_weaker, on_err_weaker}
+use Rattle.semantic_syntax.specs.Counts.{raised}
+use Rattle.resolver.specs.Settling.{header_asks}
+use Rattle.semantic_model.specs.Outcome as model
+use Rattle.table_building.proofs.Asking.{headers-asked}
+use Rattle.table_building.proofs.declared.Declared.header_outcomes.Given as given
 use Rattle.std.proofs.lemmas.List.Elements.{All-drop}
 use Rattle.scoping.specs.Told.{source_of as told_of}
 use Rattle.resolver.specs.declared.outcomes.Outcome.{Outcome}
@@ -36,3 +43,17 @@ returns-clause-within g c =
     (header-within (told_of t) c.attest.ensures.source c.args.scope (drop c.args.start c.self.inside.pending) (rw (← c.self.view_is) at c.requires.scope)
     (All-drop (λ (u : UnresolvedReference). u.lookup_scope_id < length t.scopes) c.args.start c.self.inside.pending
     (scopes_exist t c.self.inside.pending c.self.invariant.waiting))))
+
+module _ (g : given.Over) (c : goal.After-resolve_header g) where
+  -- what the look-ups ask, in the words of the definitions
+  asks : sum_by (header_asks (told_of c.self.inside.scoping) c.args.scope) (drop c.args.start c.self.inside.pending)
+      ≡ sum_by (model.header_asks (source_of c.self.inside.scoping) c.args.scope) (drop c.args.start (map pending_of c.self.inside.pending))
+  asks = headers-asked _ _ (tell_same c.self.inside.scoping) c.args.scope (drop c.args.start c.self.inside.pending)
+      ∙ ap (sum_by (model.header_asks (source_of c.self.inside.scoping) c.args.scope)) (drop_same c.args.start c.self.inside.pending)
+
+pub returns-clause-cost : goal.returns-clause-cost
+returns-clause-cost g c = rw (← c.self.view_is) (on_ok_weaker c.resolve_header.result (λ e. e ∙ ap (raised c.args.steps.now) (asks g c)) c.resolve_header.ensures.cost)
+
+pub returns-clause-given_up : goal.returns-clause-given_up
+returns-clause-given_up g c =
+    rw (← c.self.view_is) (on_err_weaker c.resolve_header.result (λ l. subst (λ n. c.resolve_header.new.steps ≤ raised c.args.steps.now n) (asks g c) l) c.resolve_header.ensures.given_up)

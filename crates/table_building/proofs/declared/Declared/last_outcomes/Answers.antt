@@ -1,4 +1,11 @@
-use Rattle.std.proofs.Common.{◌≡◌, length, List, map, All}
+use Rattle.std.proofs.Common.{◌≡◌, ◌≤◌, ◌∙◌, ap, subst, length, List, map, All}
+use Rattle.std.specs.List.{sum_by}
+use Rattle.std.proofs.lemmas.Result.{on_ok_weaker, on_err_weaker}
+use Rattle.semantic_syntax.specs.Counts.{raised}
+use Rattle.resolver.specs.Settling.{last_asks}
+use Rattle.semantic_model.specs.Outcome as model
+use Rattle.table_building.proofs.Asking.{lasts-asked}
+use Rattle.table_building.proofs.declared.Declared.last_outcomes.Given as given
 use Rattle.scoping.specs.Told.{source_of as told_of}
 use Rattle.resolver.specs.declared.outcomes.Outcome.{Outcome}
 use Rattle.semantic_model.specs.Outcome.{source_of, last_outcome}
@@ -27,3 +34,15 @@ returns-clause-within g c =
     rw (← c.self.view_is)
     (if_ok_is c.resolve_all.result (All (IsOutcomeWithin (length t.symbols) (length t.scopes))) _ c.resolve_all.ensures.outcomes
     (last-within (told_of t) c.attest.ensures.source c.self.inside.pending (scopes_exist t c.self.inside.pending c.self.invariant.waiting)))
+
+module _ (g : given.Over) (c : goal.After-resolve_all g) where
+  -- what the look-ups ask, in the words of the definitions
+  asks : sum_by (last_asks (told_of c.self.inside.scoping)) c.self.inside.pending ≡ sum_by (model.last_asks (source_of c.self.inside.scoping)) (map pending_of c.self.inside.pending)
+  asks = lasts-asked _ _ (tell_same c.self.inside.scoping) c.self.inside.pending
+
+pub returns-clause-cost : goal.returns-clause-cost
+returns-clause-cost g c = rw (← c.self.view_is) (on_ok_weaker c.resolve_all.result (λ e. e ∙ ap (raised c.args.steps.now) (asks g c)) c.resolve_all.ensures.cost)
+
+pub returns-clause-given_up : goal.returns-clause-given_up
+returns-clause-given_up g c =
+    rw (← c.self.view_is) (on_err_weaker c.resolve_all.result (λ l. subst (λ n. c.resolve_all.new.steps ≤ raised c.args.steps.now n) (asks g c) l) c.resolve_all.ensures.given_up)
