@@ -2,4 +2,5 @@ pub mod Nested
 pub mod Marks
 pub mod Closing
 pub mod Descending
-pub mod Entered
+pub mod FoundStates
+pub mod NoNamespaces

@@ -1,4 +1,4 @@
 pub mod Chains
 pub mod InstanceStates
 pub mod Rounds
-pub mod Descents
+pub mod StatesByMarks

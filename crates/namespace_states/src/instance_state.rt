@@ -1,18 +1,19 @@
 //! Whether a namespace is more than types.
 
-ghost use Rattle.std.specs.Prelude.{◌≡◌, ◌<◌, [], length, drop, map, filter, reverse, option_map, IfOk, OnOk, IfSome};
+ghost use Rattle.std.specs.Prelude.{◌≡◌, ◌<◌, [], length, drop, map, filter, reverse, IfOk, OnOk, IfSome};
 ghost use Rattle.semantic_tree.specs.ChildIter.{shown};
-ghost use Rattle.semantic_tree.specs.Tree.{IsPreorder};
+ghost use Rattle.semantic_tree.specs.Tree.{Tree, IsNumbered};
 ghost use Rattle.semantic_model.specs.Entries.{Among};
 ghost use Rattle.semantic_model.specs.Place.{Place};
 ghost use Rattle.semantic_model.specs.Step.{entering, steps};
 ghost use Rattle.semantic_model.specs.Namespace.{non_instantiated, instance_state, nodes_around, is_list, statements, reached_within, greatest};
 ghost use Rattle.namespace_states.specs.Chains.{chain_at};
-ghost use Rattle.namespace_states.specs.Descents.{last_up_to, LeadsTo};
+ghost use Rattle.namespace_laws.specs.Reaches.{IsGreatestReached, standing_at};
 ghost use Rattle.namespace_states.specs.InstanceStates.{state_of};
 ghost use Rattle.namespace_states.specs.Rounds.{FollowsAll, states_of};
 
 use crate::reaching::Reaching;
+use crate::states::NamespaceStates;
 use node_rules::questions::is_statement_list;
 use semantic_syntax::NodeId;
 use semantic_tree::{AstKind, Program};
@@ -84,14 +85,17 @@ impl<'a> Reaching<'a> {
 }
 
 /// The state of a namespace, given the nodes above it, root first and maybe the namespace itself last, and the number
-/// of nodes.
+/// of nodes: the greatest state that a statement counts as which it reaches in any number of steps. The only error is
+/// want of memory.
 pub fn instance_state<'a>(
     alloc: Global,
     namespace: AstKind<'a>,
     path: &[AstKind<'a>],
     bound: u32,
 ) -> Result<ModuleInstanceState, AllocError>
-    ensures { IfOk result (λ s. state_of s ≡ instance_state namespace.entry.node.now (reverse (map shown path.now)) bound) }
+    ensures searched { IfOk result (λ s. state_of s ≡ instance_state namespace.entry.node.now (reverse (map shown path.now)) bound) }
+    ensures reached { (program : Tree) (p : Place) → IsNumbered program.root → Among (entering p) (steps program) → p.node ≡ namespace.entry.node.now → p.path ≡ reverse (map shown path.now) → nodes_around p.node p.path ≡ bound →
+        IfOk result (λ s. IsGreatestReached (standing_at p) (state_of s)) }
 {
     let mut reaching = Reaching::new(alloc);
     let list = reaching.add_lists(path)?;
@@ -99,59 +103,19 @@ pub fn instance_state<'a>(
     reaching.state_within(bound)
 }
 
-/// A node, and the nodes above it, root first.
-#[derive(Drop)]
-struct Descent<'a> {
-    above: Vec<AstKind<'a>>,
-    node: AstKind<'a>,
-}
-
-/// The last child whose id is at most this one: the one below which, or as which, the node with the id stands.
-fn child_towards<'a>(kind: AstKind<'a>, id: NodeId) -> Option<AstKind<'a>>
-    ensures { option_map shown result ≡ last_up_to id kind.entry.node.now.children }
-{
-    let mut towards = None;
-    for (_, child) in kind.node().children.as_slice() {
-        if child.node_id <= id {
-            towards = Some(AstKind::new(child));
-        }
-    }
-    towards
-}
-
-/// From the root down to the node with the id.
-fn descend<'a>(alloc: Global, root: AstKind<'a>, id: NodeId) -> Result<Descent<'a>, AllocError>
-    requires { IsPreorder root.node.now }
-    ensures { IfOk result (λ d. LeadsTo root.entry.node.now id (map shown d.above.items) d.node.node.now) }
-{
-    let mut above = Vec::new(alloc);
-    let mut node = root;
-    while node.node_id() != id {
-        match child_towards(node, id) {
-            Some(child) => {
-                above.push(node)?;
-                node = child;
-            }
-            None => break,
-        }
-    }
-    Ok(Descent { above, node })
-}
-
-/// The state of the namespace with the id: whether it is more than types. The only error is want of memory.
+/// The state of the namespace with the id: whether it is more than types. It is the greatest state that a statement
+/// counts as which the namespace reaches in any number of steps. Takes time linear in the program: for several
+/// namespaces ask `NamespaceStates`. The only error is want of memory.
 pub fn module_instance_state(
     alloc: Global,
     p: &Program,
     n: NodeId,
 ) -> Result<ModuleInstanceState, AllocError>
-    ensures { (place : Place) → Among (entering place) (steps p.now) → place.node.node_id ≡ n →
+    ensures reached { (place : Place) → Among (entering place) (steps p.now) → place.node.node_id ≡ n →
+        IfOk result (λ s. IsGreatestReached (standing_at place) (state_of s)) }
+    ensures searched { (place : Place) → Among (entering place) (steps p.now) → place.node.node_id ≡ n →
         IfOk result (λ s. state_of s ≡ instance_state place.node place.path (nodes_around place.node place.path)) }
 {
-    let descent = descend(alloc, p.root(), n)?;
-    instance_state(
-        alloc,
-        descent.node,
-        descent.above.as_slice(),
-        p.node_count(),
-    )
+    let states = NamespaceStates::of(alloc, p)?;
+    Ok(states.state(n))
 }

@@ -1,10 +1,12 @@
 //! Whether a namespace is more than types.
 #![tactic(auto)]
 
-pub mod following;
+mod following;
 pub mod instance_state;
 pub mod namespace_row;
-pub mod reaching;
-pub mod statement_lists;
+mod reaching;
+mod statement_lists;
+mod states;
 
 pub use instance_state::{ModuleInstanceState, module_instance_state};
+pub use states::NamespaceStates;

@@ -1,5 +1,5 @@
 -- The nodes of a program, as its steps enter them, stand below those on their paths.
-use Rattle.std.proofs.Common.{◌≡◌, ℕ, ◌+◌, List, [], ◌∷◌, ◌++◌, Bool, true, false, cond, ◌&&◌, not, Option, None, Some, ◌⊎◌, inl, inr, reverse, refl, sym, subst}
+use Rattle.std.proofs.Common.{◌≡◌, ℕ, ◌+◌, List, [], ◌∷◌, ◌++◌, Bool, true, false, cond, ◌&&◌, not, Option, None, Some, inl, inr, reverse, refl, sym, subst}
 use Rattle.std.proofs.lemmas.List.{reverse-append}
 use Rattle.semantic_kinds.specs.declared.role.Role.{Role}
 use Rattle.semantic_tree.specs.Forest.{Forest, nothing, tree}
@@ -12,12 +12,8 @@ use Rattle.semantic_model.specs.Inside.{opens, is_inside, any_inside, header_rol
 use Rattle.semantic_model.specs.ScopeKind.{opened_scope}
 use Rattle.semantic_model.specs.Cursor.{on_entering}
 use Rattle.semantic_model.specs.Step.{Step, entering, opening, header_ending, closing, leaving, steps, steps_below, root_place, opening_at, ending_after, opening_last, scope_at, next_at, child_place, cursor_past}
-use Rattle.namespace_states.specs.Descents.{heads, StandsBelow}
-
-among-append : {A : Type 0} (x : A) (xs ys : List A) → Among x (xs ++ ys) → Among x xs ⊎ Among x ys
-among-append x [] ys a = inr a
-among-append x (y ∷ xs) ys (inl e) = inl (inl e)
-among-append x (y ∷ xs) ys (inr a) = elim (among-append x xs ys a) [ inl b ↦ inl (inr b) | inr b ↦ inr b ]
+use Rattle.namespace_laws.specs.Descents.{heads, StandsBelow}
+use Rattle.namespace_laws.proofs.Lists.{among-append}
 
 -- no step of these enters a node
 abbrev NoEntering : List Step → Type 0

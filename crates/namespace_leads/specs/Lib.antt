@@ -1,0 +1,4 @@
+pub mod FirstNames
+pub mod Entries
+pub mod OpenBlocks
+pub mod Led
