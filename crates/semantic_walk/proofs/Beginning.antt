@@ -1,27 +1,32 @@
 -- The walk over a program begins at the root, and ends with the tables of the definitions.
-use Rattle.std.proofs.Common.{◌≡◌, ℕ, List, [], ◌∷◌, ◌++◌, Some, None, Bool, true, false, IfSome, option_map, length, refl, sym, ap, subst, ◌∙◌, inr, arith, Result, Ok, Err, IfOk}
+use Rattle.std.proofs.Common.{◌≡◌, ℕ, ◌≤◌, List, [], ◌∷◌, ◌++◌, Some, None, Bool, true, false, IfSome, option_map, length, refl, sym, ap, subst, ◌∙◌, inl, inr, Result, Ok, Err, IfOk}
 use Rattle.std.specs.Prelude.{◌||◌}
+use Rattle.std.specs.Str.{encode_utf8_all}
+use Rattle.std.proofs.Math.Bool.{or-true}
 use Rattle.std.specs.Int.Bits.{or_zero_r}
 use Rattle.semantic_kinds.specs.declared.kind.AstType.TheVariants as kind
 use Rattle.semantic_syntax.specs.Sets.{union}
 use Rattle.semantic_syntax.specs.SourceTypes.{is_module, is_typescript_definition}
 use Rattle.semantic_syntax.specs.declared.scope_flags.TheConstants.ScopeFlags as flag
 use Rattle.semantic_syntax.specs.declared.source_type.SourceType.{SourceType}
-use Rattle.semantic_tree.specs.Children.{node_count}
 use Rattle.semantic_tree.specs.declared.node.Node.{Node}
 use Rattle.semantic_model.specs.ScopeKind.{flags_of_kind, opened_scope, strict_if}
 use Rattle.semantic_model.specs.Nodes.{has_use_strict}
 use Rattle.semantic_tree.specs.Forest.{Forest, nothing, tree}
 use Rattle.semantic_tree.specs.Faults.{first_fault}
+use Rattle.semantic_tree.specs.Limits.{source_limit}
+use Rattle.semantic_tree.specs.Shaped.{IsShaped}
 use Rattle.semantic_tree.specs.Tree.{Tree, IsNumbered}
 use Rattle.semantic_tree.proofs.Preorder.{root_in_preorder}
+use Rattle.semantic_tree.proofs.ShapedLaws.{IsShaped-no_fault}
+use Rattle.semantic_model.specs.Namespace.{InstanceState}
 use Rattle.semantic_model.specs.Place.{Place, at}
 use Rattle.semantic_model.specs.Cursor.{on_entering}
 use Rattle.semantic_model.specs.Declaration.{Declaration}
 use Rattle.semantic_model.specs.Event.{written_declarations}
 use Rattle.semantic_model.specs.Step.{Step, entering, opening, leaving, steps_below, root_place, steps}
 use Rattle.semantic_model.specs.TablesOf.{tables_of}
-use Rattle.walk_model.specs.Agreement.{HasDeclared, NotesOnce}
+use Rattle.walk_model.specs.Agreement.{NotesOnce}
 use Rattle.walk_model.specs.NamedScopes.{AllNamed}
 use Rattle.walk_model.specs.Opens.{open_in, open_scope}
 use Rattle.walk_model.specs.Recursion.{IsBetween}
@@ -29,24 +34,29 @@ use Rattle.walk_model.specs.Settles.{settle_rest}
 use Rattle.walk_model.specs.Standing.{Standing, nothing_made}
 use Rattle.walk_model.specs.Walks.{after, after_all, walked}
 use Rattle.walk_model.specs.WrittenNames.{Written}
-use Rattle.walk_model.proofs.Agreed.{has_declared}
 use Rattle.walk_model.proofs.GivesTables.{gives_tables}
 use Rattle.walk_model.proofs.NamesStand.{names_stand}
 use Rattle.walk_model.proofs.NotedOnce.{notes_once}
 use Rattle.walk_model.proofs.RootSteps.{root_enters, root_scope, root_made, root_walked}
 use Rattle.walk_model.proofs.Seats.{root_is_program}
 use Rattle.walk_model.proofs.WalkTurns.{root_between}
-use Rattle.semantic_walk.specs.AtPlace.{IsComing, entered, walked_over}
-use Rattle.semantic_walk.specs.Begun.{begun, conflicts_of, AreNamesOf, BelongsToNodes}
+use Rattle.semantic_walk.specs.AtPlace.{IsComing, entered, walked_within, left_at, walked_over}
+use Rattle.semantic_walk.specs.Begun.{begun, notes_classes, IsBegun, BelongsToNodes}
 use Rattle.node_store.specs.NodeList.{no_nodes}
 use Rattle.semantic_walk.specs.Listed.{IsNext, listed, all_listed, kept_from, list_kept, kept_nodes}
 use Rattle.semantic_model.specs.NodeTable.{NodeEntry, nodes as entered_nodes}
+use Rattle.semantic_walk.specs.Stated.{AllStated}
 use Rattle.semantic_walk.specs.Walker.{Walker}
+use Rattle.semantic_walk.specs.declared.settings.Settings.{Settings}
 use Rattle.semantic_model.specs.Label.{unused_labels}
-use Rattle.walk_notes.specs.NoteLists.{NoteLists, nothing_noted, noted_over, classes_noted}
+use Rattle.walk_notes.specs.NoteLists.{NoteLists, nothing_noted, classes_noted}
 use Rattle.walk_notes.proofs.WholeProgram.{program_classes, program_labels}
 use Rattle.unused_labels.specs.LabelStack.{LabelLists}
 use Rattle.semantic_walk.proofs.Listing.{nodes_within, last_without}
+use Rattle.check_walk.specs.Ready.{IsReadyAt}
+use Rattle.check_walk.proofs.Readiness.{ready_begins}
+use Rattle.check_walk.proofs.ReferencesApart.{no_keys}
+use Rattle.semantic_walk.proofs.Visiting.{left_is, stated_left}
 
 named_left : (ds : List Declaration) (ws : List Written) (xs ys : List Step) → AllNamed ds ws (xs ++ ys) → AllNamed ds ws xs
 named_left ds ws [] ys h = tt
@@ -60,6 +70,16 @@ root_named ds ws p cursor (tree r k span text marks below id after) e h =
   where
     opens_first : steps_below p None 0 cursor (tree r k span text marks below id after) ≡ opening p (root_scope p) ∷ steps_below p (Some (root_scope p)) 1 cursor (tree r k span text marks below id after)
     opens_first = rw e refl
+
+root_stated : (states : List InstanceState) (p : Place) (cursor : ℕ) (f : Forest) → p.node.kind ≡ kind.Program → AllStated states (steps_below p None 0 cursor f) → AllStated states (steps_below p (Some (root_scope p)) 1 cursor f)
+root_stated states p cursor nothing e h = λ q among. absurd among
+root_stated states p cursor (tree r k span text marks below id after) e h = λ q among. parted q (inr among)
+  where
+    opens_first : steps_below p None 0 cursor (tree r k span text marks below id after) ≡ opening p (root_scope p) ∷ steps_below p (Some (root_scope p)) 1 cursor (tree r k span text marks below id after)
+    opens_first = rw e refl
+
+    parted : AllStated states (opening p (root_scope p) ∷ steps_below p (Some (root_scope p)) 1 cursor (tree r k span text marks below id after))
+    parted = subst (AllStated states) opens_first h
 
 -- with the root's scope nothing is declared
 made_is : (ds : List Declaration) (p : Place) → p.node.kind ≡ kind.Program → root_made ds p ≡ open_scope nothing_made p (root_scope p)
@@ -82,43 +102,61 @@ root_next : (program : Tree) → IsNumbered program.root → (keeps : Bool) → 
 root_next program numbered false = tt
 root_next program numbered true = record { next = ap (λ (x : Node). x.node_id) numbered; above = ap (λ (id : ℕ). (record { node = program.root; scope = at (root_place program); parent = id }) ∷ []) (sym (ap (λ (x : Node). x.node_id) numbered)); order = root_in_preorder program.root numbered; parents = refl }
 
+-- with checks on, what they ask holds there
+root_ready : (program : Tree) → first_fault program ≡ None → IsNumbered program.root → (on : Bool) → on ≡ true
+    → IsReadyAt (encode_utf8_all program.source) (open_scope nothing_made (root_place program) (opened_scope (root_place program) 0)) (nothing_noted on).classes (root_place program)
+root_ready program fits numbered on noted =
+    let opened : Standing = open_scope nothing_made (root_place program) (opened_scope (root_place program) 0) in
+    subst (λ (b : Bool). IsReadyAt (encode_utf8_all program.source) opened (nothing_noted b).classes (root_place program)) (sym noted) (ready_begins program fits numbered opened no_keys)
+
 -- the walk comes to the root
-root_comes_at : (ds : List Declaration) (program : Tree) (ws : List Written) (keeps on : Bool) → program.root.kind ≡ kind.Program → IsNumbered program.root
+root_comes_at : (ds : List Declaration) (program : Tree) (states : List InstanceState) (ws : List Written) (keeps on checks : Bool) → first_fault program ≡ None → IsNumbered program.root → (checks ≡ true → on ≡ true) → length (encode_utf8_all program.source) ≤ source_limit
     → IsBetween (root_made ds (root_place program)) (root_place program) (Some (root_scope (root_place program))) 1 (on_entering program.root.kind 0) 0 program.root.children
-    → AllNamed ds ws (steps program) → IsComing ds (begun program ws keeps on) (root_place program) (Some (root_scope (root_place program))) 1
-root_comes_at ds program ws keeps on e numbered h named = record {
-  comes = record { source_type = refl; path = refl; current = refl; cursor = refl; is_ambient = refl; count = omega arith };
-  shown = record { chain = tt; grounded = inr e; named = named.0 };
-  root = (e, refl);
-  between = between (root_place program) (on_entering program.root.kind 0) program.root.children (root_made ds (root_place program)) (entered ds (begun program ws keeps on) (root_place program))
-      (entered_is ds (root_place program) e) (none_waits ds (root_place program) e) h;
-  named = root_named ds ws (root_place program) (on_entering program.root.kind 0) program.root.children e
-      (named_left ds ws (steps_below (root_place program) None 0 (on_entering program.root.kind 0) program.root.children) (leaving (root_place program) ∷ []) named.1);
-  kept = root_next program numbered keeps;
-}
+    → AllNamed ds ws (steps program) → AllStated states (steps program) → IsComing ds (begun program states ws keeps on checks) (root_place program) (Some (root_scope (root_place program))) 1
+root_comes_at ds program states ws keeps on checks fits numbered noted limit h named stated =
+    let e : program.root.kind ≡ kind.Program = root_is_program program fits in
+    record {
+      comes = record { source_type = refl; path = refl; current = refl; cursor = refl; is_ambient = refl };
+      shown = record { chain = tt; grounded = inr e; named = named.0; stated = stated (root_place program) (inl refl) };
+      root = (e, refl);
+      between = between (root_place program) (on_entering program.root.kind 0) program.root.children (root_made ds (root_place program)) (entered ds (begun program states ws keeps on checks) (root_place program))
+          (entered_is ds (root_place program) e) (none_waits ds (root_place program) e) h;
+      named = root_named ds ws (root_place program) (on_entering program.root.kind 0) program.root.children e
+          (named_left ds ws (steps_below (root_place program) None 0 (on_entering program.root.kind 0) program.root.children) (leaving (root_place program) ∷ []) named.1);
+      stated = root_stated states (root_place program) (on_entering program.root.kind 0) program.root.children e
+          (stated_left states (steps_below (root_place program) None 0 (on_entering program.root.kind 0) program.root.children) (leaving (root_place program) ∷ []) (λ q among. stated q (inr among)));
+      kept = root_next program numbered keeps;
+      ready = λ told. root_ready program fits numbered on (noted told);
+      limit = limit;
+    }
 
-pub root_comes : (program : Tree) → first_fault program ≡ None → IsNumbered program.root → (ws : List Written) → (keeps on : Bool) → (ds : List Declaration) → AllNamed ds ws (steps program) → IsComing ds (begun program ws keeps on) (root_place program) (Some (root_scope (root_place program))) 1
-root_comes program fits numbered ws keeps on ds named = root_comes_at ds program ws keeps on (root_is_program program fits) numbered (root_between ds program fits) named
+pub root_comes : (program : Tree) → first_fault program ≡ None → IsNumbered program.root → (states : List InstanceState) (ws : List Written) → (keeps on checks : Bool) → (checks ≡ true → on ≡ true) → length (encode_utf8_all program.source) ≤ source_limit → (ds : List Declaration) → AllNamed ds ws (steps program) → AllStated states (steps program) → IsComing ds (begun program states ws keeps on checks) (root_place program) (Some (root_scope (root_place program))) 1
+root_comes program fits numbered states ws keeps on checks noted limit ds named stated = root_comes_at ds program states ws keeps on checks fits numbered noted limit (root_between ds program fits) named stated
 
--- and has made, behind the root, all that the steps do
-pub root_done : (ds : List Declaration) (program : Tree) (ws : List Written) (keeps on : Bool) → program.root.kind ≡ kind.Program
-    → (walked_over ds (begun program ws keeps on) (root_place program) (Some (root_scope (root_place program))) 1).made
+-- all below the root is walked
+abbrev pub root_within : Tree → Walker → Walker
+root_within program w = walked_within (written_declarations (steps program)) w (root_place program) (Some (root_scope (root_place program))) 1
+
+-- and the root is left
+abbrev pub root_over : Tree → Walker → Walker
+root_over program w = walked_over (written_declarations (steps program)) w (root_place program) (Some (root_scope (root_place program))) 1
+
+-- the walk has made, behind the root, all that the steps do
+pub root_done : (ds : List Declaration) (program : Tree) (states : List InstanceState) (ws : List Written) (keeps on checks : Bool) → program.root.kind ≡ kind.Program
+    → (walked_within ds (begun program states ws keeps on checks) (root_place program) (Some (root_scope (root_place program))) 1).made
     ≡ after_all ds (root_made ds (root_place program)) (steps_below (root_place program) (Some (root_scope (root_place program))) 1 (on_entering program.root.kind 0) program.root.children)
-root_done ds program ws keeps on e =
+root_done ds program states ws keeps on checks e =
     ap (λ (v : Standing). after_all ds v (steps_below (root_place program) (Some (root_scope (root_place program))) 1 (on_entering program.root.kind 0) program.root.children)) (entered_is ds (root_place program) e)
 
 -- which is the walk over the program
-pub root_walks : (program : Tree) → first_fault program ≡ None → (ws : List Written) (keeps on : Bool) → (made : Standing)
-    → made ≡ (walked_over (written_declarations (steps program)) (begun program ws keeps on) (root_place program) (Some (root_scope (root_place program))) 1).made → settle_rest made ≡ walked program
-root_walks program fits ws keeps on made is =
-    ap settle_rest (is ∙ root_done (written_declarations (steps program)) program ws keeps on (root_is_program program fits)) ∙ sym (root_walked program (root_is_program program fits))
+pub root_walks : (program : Tree) → first_fault program ≡ None → (states : List InstanceState) (ws : List Written) (keeps on checks : Bool) → (made : Standing)
+    → made ≡ (root_within program (begun program states ws keeps on checks)).made → settle_rest made ≡ walked program
+root_walks program fits states ws keeps on checks made is =
+    ap settle_rest (is ∙ root_done (written_declarations (steps program)) program states ws keeps on checks (root_is_program program fits)) ∙ sym (root_walked program (root_is_program program fits))
 
 -- so it has the tables of the program
 pub root_tables : (program : Tree) → first_fault program ≡ None → (made : Standing) → made ≡ walked program → made.tables ≡ tables_of program
 root_tables program fits made e = ap (λ (v : Standing). v.tables) e ∙ gives_tables program fits
-
-pub root_conflicts : (program : Tree) → first_fault program ≡ None → (made : Standing) → made ≡ walked program → made.conflicts ≡ conflicts_of program
-root_conflicts program fits made e = let d : HasDeclared program (walked program) = has_declared program fits in ap (λ (v : Standing). v.conflicts) e ∙ d.conflicts
 
 pub root_nodes : (program : Tree) → first_fault program ≡ None → IsNumbered program.root → (made : Standing) → made ≡ walked program → BelongsToNodes program made.nodes
 root_nodes program fits numbered made e =
@@ -138,26 +176,31 @@ made_first program k d made root from flags none is typed e first =
     all = e ∙ (λ i. union flag.Top.bits (strict_if (is_module (typed i) || has_use_strict (is i)))) ∙ sym top
 
 -- a walk that has done no more
-pub begins : (program : Tree) (w : Walker) (keeps on : Bool) → w.made ≡ open_scope nothing_made (root_place program) (root_scope (root_place program)) → w.source_type ≡ program.source_type → w.node_count ≡ node_count program.root
-    → w.path ≡ [] → w.current ≡ 0 → w.cursor ≡ 0 → w.is_ambient ≡ is_typescript_definition program.source_type → w.nodes ≡ kept_from keeps → w.notes ≡ nothing_noted on → w ≡ begun program w.namesakes keeps on
-begins program w keeps on made from count path current cursor ambient nodes notes =
-    λ i. record { made = made i; source_type = from i; node_count = count i; namesakes = w.namesakes; path = path i; current = current i; cursor = cursor i; is_ambient = ambient i; nodes = nodes i; notes = notes i }
+pub begins : (program : Tree) (w : Walker) (keeps on checks : Bool) → w.made ≡ open_scope nothing_made (root_place program) (root_scope (root_place program)) → w.source_type ≡ program.source_type → w.path ≡ [] → w.current ≡ 0 → w.cursor ≡ 0 → w.is_ambient ≡ is_typescript_definition program.source_type → w.nodes ≡ kept_from keeps → w.notes ≡ nothing_noted on
+    → w.source ≡ encode_utf8_all program.source → w.checks ≡ checks → w.said ≡ [] → w.counted ≡ 0 → w ≡ begun program w.states w.namesakes keeps on checks
+begins program w keeps on checks made from path current cursor ambient nodes notes source told said counted =
+    λ i. record { made = made i; source_type = from i; states = w.states; namesakes = w.namesakes; path = path i; current = current i; cursor = cursor i; is_ambient = ambient i; nodes = nodes i; notes = notes i; source = source i; checks = told i; said = said i; counted = counted i }
 
--- the walk comes to the root with the names of the program
-pub walk_comes : (program : Tree) → first_fault program ≡ None → IsNumbered program.root → (keeps on : Bool) (w : Walker) → w ≡ begun program w.namesakes keeps on → AreNamesOf program w.namesakes
+-- for checks classes are noted
+pub checks_note : (settings : Settings) → settings.checks ≡ true → notes_classes settings ≡ true
+checks_note settings e = ap (λ (b : Bool). settings.class_table || b) e ∙ or-true settings.class_table
+
+-- the walk comes to the root with the names of the program and the states of its namespaces
+pub walk_comes : (program : Tree) → IsShaped program → IsNumbered program.root → (settings : Settings) (w : Walker) → IsBegun settings w program
     → IsComing (written_declarations (steps program)) w (root_place program) (Some (root_scope (root_place program))) 1
-walk_comes program fits numbered keeps on w first names =
-    subst (λ (v : Walker). IsComing (written_declarations (steps program)) v (root_place program) (Some (root_scope (root_place program))) 1) (sym first)
-    (root_comes program fits numbered w.namesakes keeps on (written_declarations (steps program)) (names_stand program fits numbered w.namesakes names))
+walk_comes program shaped numbered settings w b =
+    let fits : first_fault program ≡ None = IsShaped-no_fault program shaped in
+    subst (λ (v : Walker). IsComing (written_declarations (steps program)) v (root_place program) (Some (root_scope (root_place program))) 1) (sym b.first)
+    (root_comes program fits numbered w.states w.namesakes settings.build_nodes (notes_classes settings) settings.checks (checks_note settings) shaped.bytes (written_declarations (steps program))
+    (names_stand program fits numbered w.namesakes b.names) b.states)
 
 -- and in the end it has made what the definition of the walk says
-pub walk_ends : (program : Tree) → first_fault program ≡ None → (keeps on : Bool) (w v u : Walker) → w ≡ begun program w.namesakes keeps on
-    → v ≡ walked_over (written_declarations (steps program)) w (root_place program) (Some (root_scope (root_place program))) 1 → u ≡ record v { made = settle_rest v.made } → u.made ≡ walked program
-walk_ends program fits keeps on w v u first over last =
+pub walk_ends : (program : Tree) → first_fault program ≡ None → (settings : Settings) (w v u : Walker) → IsBegun settings w program
+    → v ≡ root_within program w → u ≡ record v { made = settle_rest v.made } → u.made ≡ walked program
+walk_ends program fits settings w v u b over last =
     ap (λ (x : Walker). x.made) last
-    ∙ root_walks program fits w.namesakes keeps on v.made
-    (ap (λ (x : Walker). x.made) over
-    ∙ ap (λ (x : Walker). (walked_over (written_declarations (steps program)) x (root_place program) (Some (root_scope (root_place program))) 1).made) first)
+    ∙ root_walks program fits w.states w.namesakes settings.build_nodes (notes_classes settings) settings.checks v.made
+    (ap (λ (x : Walker). x.made) over ∙ ap (λ (x : Walker). (root_within program x).made) b.first)
 
 -- the root's scope may be open before, or not: the same nodes are entered
 root_entered : (p : Place) (cursor : ℕ) (f : Forest) → p.node.kind ≡ kind.Program → entered_nodes (steps_below p None 0 cursor f) ≡ entered_nodes (steps_below p (Some (root_scope p)) 1 cursor f)
@@ -178,30 +221,29 @@ root_listed program e true =
     (ap (λ (ns : List NodeEntry). entered_nodes (entering p ∷ []) ++ ns) (sym (root_entered p (on_entering program.root.kind 0) program.root.children e))
     ∙ sym (nodes_within p p (steps_below p None 0 (on_entering program.root.kind 0) program.root.children)))
 
+-- once the root is left, nodes and notes are as behind each node
+pub walk_leaves : (program : Tree) (w v u x : Walker) → IsComing (written_declarations (steps program)) w (root_place program) (Some (root_scope (root_place program))) 1
+    → v ≡ root_within program w → u ≡ record v { made = settle_rest v.made } → x ≡ left_at u (root_place program)
+    → (x.nodes ≡ (root_over program w).nodes) × (x.notes ≡ (root_over program w).notes)
+walk_leaves program w v u x coming within last left =
+    let same : left_at v (root_place program) ≡ root_over program w =
+    ap (λ (y : Walker). left_at y (root_place program)) within ∙ left_is (written_declarations (steps program)) w (root_place program) (Some (root_scope (root_place program))) 1 coming in
+    let so : x ≡ left_at (record v { made = settle_rest v.made }) (root_place program) = left ∙ ap (λ (y : Walker). left_at y (root_place program)) last in
+    (ap (λ (y : Walker). y.nodes) so ∙ ap (λ (y : Walker). y.nodes) same, ap (λ (y : Walker). y.notes) so ∙ ap (λ (y : Walker). y.notes) same)
+
 -- so these are kept in the end, if nodes are
-pub walk_lists : (program : Tree) → first_fault program ≡ None → (keeps on : Bool) (w v u : Walker) → w ≡ begun program w.namesakes keeps on
-    → v ≡ walked_over (written_declarations (steps program)) w (root_place program) (Some (root_scope (root_place program))) 1 → u ≡ record v { made = settle_rest v.made } → list_kept u.nodes ≡ kept_nodes keeps program
-walk_lists program fits keeps on w v u first over last =
-    ap (λ (x : Walker). list_kept x.nodes) (last ∙ ap (λ (x : Walker). record x { made = settle_rest x.made }) over)
-    ∙ ap (λ (x : Walker). list_kept (walked_over (written_declarations (steps program)) x (root_place program) (Some (root_scope (root_place program))) 1).nodes) first
-    ∙ root_listed program (root_is_program program fits) keeps
+pub walk_lists : (program : Tree) → first_fault program ≡ None → (settings : Settings) (w x : Walker) → IsBegun settings w program → x.nodes ≡ (root_over program w).nodes → list_kept x.nodes ≡ kept_nodes settings.build_nodes program
+walk_lists program fits settings w x b over =
+    ap list_kept (over ∙ ap (λ (y : Walker). (root_over program y).nodes) b.first) ∙ root_listed program (root_is_program program fits) settings.build_nodes
 
--- what is noted in the end is what a walk from the root notes
-notes_last : (program : Tree) (keeps on : Bool) (w v u : Walker) → w ≡ begun program w.namesakes keeps on
-    → v ≡ walked_over (written_declarations (steps program)) w (root_place program) (Some (root_scope (root_place program))) 1 → u ≡ record v { made = settle_rest v.made } → u.notes ≡ noted_over [] program.root (nothing_noted on)
-notes_last program keeps on w v u first over last =
-    ap (λ (x : Walker). x.notes) last ∙ ap (λ (x : Walker). x.notes) over ∙ ap (λ (x : Walker). noted_over [] program.root x.notes) first
+-- and the walk has the program's classes, if it notes them, and its unused labels
+pub walk_classes : (program : Tree) → first_fault program ≡ None → (settings : Settings) (w x : Walker) → IsBegun settings w program → x.notes ≡ (root_over program w).notes → x.notes.classes.classes ≡ classes_noted (notes_classes settings) program
+walk_classes program fits settings w x b over =
+    ap (λ (y : NoteLists). y.classes.classes) (over ∙ ap (λ (y : Walker). (root_over program y).notes) b.first) ∙ program_classes (notes_classes settings) program fits
 
--- so it has the program's classes, if it notes them, and its unused labels
-pub walk_classes : (program : Tree) → first_fault program ≡ None → (keeps on : Bool) (w v u : Walker) → w ≡ begun program w.namesakes keeps on
-    → v ≡ walked_over (written_declarations (steps program)) w (root_place program) (Some (root_scope (root_place program))) 1 → u ≡ record v { made = settle_rest v.made } → u.notes.classes.classes ≡ classes_noted on program
-walk_classes program fits keeps on w v u first over last =
-    ap (λ (x : NoteLists). x.classes.classes) (notes_last program keeps on w v u first over last) ∙ program_classes on program fits
-
-pub walk_labels : (program : Tree) → first_fault program ≡ None → (keeps on : Bool) (w v u : Walker) → w ≡ begun program w.namesakes keeps on
-    → v ≡ walked_over (written_declarations (steps program)) w (root_place program) (Some (root_scope (root_place program))) 1 → u ≡ record v { made = settle_rest v.made } → u.notes.labels.unused ≡ unused_labels program.root
-walk_labels program fits keeps on w v u first over last =
-    ap (λ (x : NoteLists). x.labels.unused) (notes_last program keeps on w v u first over last) ∙ ap (λ (x : LabelLists). x.unused) (program_labels on program fits)
+pub walk_labels : (program : Tree) → first_fault program ≡ None → (settings : Settings) (w x : Walker) → IsBegun settings w program → x.notes ≡ (root_over program w).notes → x.notes.labels.unused ≡ unused_labels program.root
+walk_labels program fits settings w x b over =
+    ap (λ (y : NoteLists). y.labels.unused) (over ∙ ap (λ (y : Walker). (root_over program y).notes) b.first) ∙ ap (λ (y : LabelLists). y.unused) (program_labels (notes_classes settings) program fits)
 
 -- what is answered, if anything is
 pub of_answer : {A B : Type 0} (r : Result A B) (P Q : A → Type 0) → ((x : A) → P x → Q x) → IfOk r P → IfOk r Q

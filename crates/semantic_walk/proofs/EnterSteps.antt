@@ -72,11 +72,10 @@ module _ (ds : List Declaration) (w : Walker) (p : Place) (comes : ComesTo w p) 
     source_type = comes.source_type;
     path = ap (λ (xs : List Node). xs ++ p.node ∷ []) comes.path ∙ sym (reverse-append (p.node ∷ []) p.path);
     current = comes.current;
-    count = comes.count;
   }
 
   shown_noted : IsShown ds noted p
-  shown_noted = record { chain = chain_kept w.made.tables noted.made.tables p.chain (prepare_rows w.made (entering p)) shown.chain; grounded = shown.grounded; named = shown.named }
+  shown_noted = record { chain = chain_kept w.made.tables noted.made.tables p.chain (prepare_rows w.made (entering p)) shown.chain; grounded = shown.grounded; named = shown.named; stated = shown.stated }
 
   -- what the node declares outside comes next
   pub enters : (node : Node) (now then_ last : Walker) → p.node ≡ node → now ≡ cond (is kind.IdentifierReference node) (referring (stepped node) node) (stepped node)

@@ -6,7 +6,13 @@ pub mod Beginning
 pub mod Opening
 pub mod TurnEnds
 pub mod Listing
+pub mod Told
+pub mod Readying
 pub mod Visiting
+pub mod Leaves
+pub mod Root
+pub mod Counting
+pub mod RootCount
 pub mod RowActs
 pub mod PlaceDeclares
 pub mod PlaceRows

@@ -1,7 +1,6 @@
 -- The nodes that a walk has entered are those of the steps that it has done.
 use Rattle.std.proofs.Common.{◌≡◌, ℕ, ◌+◌, List, [], ◌∷◌, ◌++◌, Bool, true, false, ◌&&◌, not, cond, Option, Some, None, IfSome, option_map, map, length, append_assoc, append-nil, length-append, slice_index, refl, sym, ap, subst, ◌∙◌, arith}
 use Rattle.std.proofs.lemmas.List.{map-append, length-map, get_or_push, get_or_append_left}
-use Rattle.std.proofs.lemmas.Option.{none-some, same_Some}
 use Rattle.semantic_kinds.specs.declared.kind.AstType.{AstType}
 use Rattle.semantic_kinds.specs.declared.role.Role.{Role}
 use Rattle.semantic_kinds.specs.declared.marks.Marks.{Marks}
@@ -223,22 +222,35 @@ same_parent p m n a b = ap parent_first (sym a ∙ b)
     parent_first [] = 0
     parent_first (n ∷ ns) = n.parent
 
-module _ (p : Place) (steps last : List Step) (without : entered_nodes last ≡ []) where
-  -- what is left is at the parent again
-  left_one : (d e : Entered) → IsAmong p nothing d → IsNext p e → all_listed last d ≡ all_listed steps (entered_at p e) → store.leaving d ≡ all_listed (entering p ∷ steps) e
-  left_one d e among next same =
-      λ i. record {
-        list = (sym (ap (listed d.list) without ∙ listed_none d.list)
-            ∙ ap (λ (x : Entered). x.list) same
-            ∙ ap (λ (l : NodeList). listed l (entered_nodes steps)) (entered_lists p e next)
-            ∙ listed_on e.list (entered_nodes (entering p ∷ [])) (entered_nodes steps)) i;
-        current = (ap (slice_index d.list.parents) among.current ∙ same_parent p (slice_index d.list.parents p.node.node_id) e.current among.parent next.above) i;
-      }
+-- once all below it is walked, no child of the node is left
+below_among : (p : Place) (f : Forest) (steps : List Step) (e : Entered) → IsAmong p f e → IsAmong p nothing (all_listed steps e)
+below_among p f steps e h =
+    let more : List NodeEntry = entered_nodes steps in
+    let grown : length (listed e.list more).nodes ≡ length e.list.nodes + length more = listed_count e.list more in
+    record {
+      order = refl;
+      inside = omega (arith, grown, h.inside);
+      current = h.current;
+      parent = subst (IsBelow p) (sym (get_or_append_left e.list.parents (map (λ (n : NodeEntry). n.parent) more) 0 p.node.node_id (omega (arith, h.inside, h.parents)))) h.parent;
+      parents = listed_parents e.list more h.parents;
+    }
 
-  pub left_kept : (now first : Option Entered) → IfSome now (IsAmong p nothing) → IfSome first (IsNext p)
-      → option_map (all_listed last) now ≡ option_map (all_listed steps) (option_map (entered_at p) first)
-      → option_map store.leaving now ≡ option_map (all_listed (entering p ∷ steps)) first
-  left_kept None None among next same = refl
-  left_kept None (Some e) among next same = absurd (none-some (all_listed steps (entered_at p e)) same)
-  left_kept (Some d) None among next same = absurd (none-some (all_listed last d) (sym same))
-  left_kept (Some d) (Some e) among next same = ap (λ (x : Entered). Some x) (left_one d e among next (same_Some (all_listed last d) (all_listed steps (entered_at p e)) same))
+-- and once the node is left, the walk is at its parent again
+left_one : (p : Place) (steps : List Step) (e : Entered) → IsNext p e → store.leaving (all_listed steps (entered_at p e)) ≡ all_listed (entering p ∷ steps) e
+left_one p steps e next =
+    let d : Entered = all_listed steps (entered_at p e) in
+    let among : IsAmong p nothing d = below_among p p.node.children steps (entered_at p e) (entered_among p e next) in
+    λ i. record {
+      list = (ap (λ (l : NodeList). listed l (entered_nodes steps)) (entered_lists p e next) ∙ listed_on e.list (entered_nodes (entering p ∷ [])) (entered_nodes steps)) i;
+      current = (ap (slice_index d.list.parents) among.current ∙ same_parent p (slice_index d.list.parents p.node.node_id) e.current among.parent next.above) i;
+    }
+
+pub left_kept : (p : Place) (steps : List Step) (o : Option Entered) → IfSome o (IsNext p)
+    → option_map store.leaving (option_map (all_listed steps) (option_map (entered_at p) o)) ≡ option_map (all_listed (entering p ∷ steps)) o
+left_kept p steps None next = refl
+left_kept p steps (Some e) next = ap (λ (x : Entered). Some x) (left_one p steps e next)
+
+-- steps that enter no node keep the list
+pub still_kept : (steps : List Step) → entered_nodes steps ≡ [] → (o : Option Entered) → option_map (all_listed steps) o ≡ o
+still_kept steps without None = refl
+still_kept steps without (Some e) = ap (λ (l : NodeList). Some (record e { list = l })) (ap (listed e.list) without ∙ listed_none e.list)

@@ -150,7 +150,7 @@ module _ (w : Walker) (p : Place) (r : Role) (node : Node) (same : p.node ≡ no
         takes ∙ (λ i. cond (is_catch_body (place_in (opens i) r node)) (taking_over (opens i) (number i)) (opens i)) ∙ takes_here in
         let went : gone ≡ record w { made = taken; current = count } = goes ∙ (λ i. record (took i) { current = number i }) in
         let inside : IsWithin gone p (own ∷ []) =
-        subst (λ (v : Walker). IsWithin v p (own ∷ [])) (sym went) (record { source_type = h.source_type; path = h.path; current = refl; count = h.count }) in
+        subst (λ (v : Walker). IsWithin v p (own ∷ [])) (sym went) (record { source_type = h.source_type; path = h.path; current = refl }) in
         declares inside
         ∙ (λ i. record (went i) { made = act_all (went i).made (declares_all ds (declared_on_opening p own)) })
         ∙ ap (λ (v : Standing). with_made v) (sym (acts-append (open_scope w.made p own) (taken_over p own) (declares_all ds (declared_on_opening p own))))

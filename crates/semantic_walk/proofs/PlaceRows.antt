@@ -1,7 +1,7 @@
 -- What the walk declares at a place by what it sees of it.
 use Rattle.std.proofs.Common.{◌≡◌, ℕ, List, [], ◌∷◌, ◌++◌, Bool, true, false, ◌||◌, not, cond, Option, Result, OnOk, codes, map, flat_map, reverse, refl, sym, ap, subst, ◌∙◌}
 use Rattle.std.specs.Prelude.{if◌then◌else◌}
-use Rattle.std.proofs.lemmas.List.{map-append, reverse-append, reverse-reverse}
+use Rattle.std.proofs.lemmas.List.{map-append, reverse-append}
 use Rattle.semantic_kinds.specs.declared.kind.AstType.TheVariants as kind
 use Rattle.semantic_kinds.specs.declared.mark.Mark.TheVariants as mark
 use Rattle.semantic_kinds.specs.declared.role.Role.TheVariants as role
@@ -14,7 +14,7 @@ use Rattle.semantic_tree.specs.declared.node.Node.{Node}
 use Rattle.semantic_tree.specs.declared.view.AstKind.{AstKind}
 use Rattle.semantic_model.specs.Nodes.{is, has, is_with_text, children_of}
 use Rattle.semantic_model.specs.Names.{bound_names, names_at, is_simple_list}
-use Rattle.semantic_model.specs.Namespace.{InstanceState, is_list, instance_state, nodes_around}
+use Rattle.semantic_model.specs.Namespace.{InstanceState, instance_state, nodes_around}
 use Rattle.semantic_model.specs.Place.{Place, OpenScope, no_scope, innermost, parent_holds}
 use Rattle.semantic_model.specs.Declaration.{Declaration, plain, hoisted, caught, here, outward_to}
 use Rattle.semantic_model.specs.Event.{declares, placed, declares_all}
@@ -34,7 +34,6 @@ use Rattle.semantic_walk.specs.Walker.{Walker}
 use Rattle.semantic_walk.specs.AtPlace.{IsWithin}
 use Rattle.table_building.specs.Each.{declare_each, declare_pattern, declare_patterns, declare_members}
 use Rattle.semantic_walk.specs.Binds.{declaring, declaring_past, hoisting, acting}
-use Rattle.namespace_states.proofs.Descending.{itself-above}
 use Rattle.semantic_walk.proofs.RowActs.{some_scope, row_acts, var_acts, inferred_acts}
 use Rattle.semantic_walk.proofs.PlaceDeclares.{here_binds}
 
@@ -273,14 +272,6 @@ module _ (ds : List Declaration) (w : Walker) (p : Place) (within : IsWithin w p
       ∙ ap (λ b. acting ds w (map (binder.declare p.node (type_parameter_row (cond b (outward_to is_conditional p.chain) (here p.chain))) false) (names_at role.Name p.node)))
       (sym (sym (path_tells w p p.chain within (is kind.TSInferType)) ∙ h))
       ∙ ap (λ j. acting ds w (declared_by j p)) (sym k)
-
-  -- the state of a namespace, which stands last on the walk's path
-  pub state_here : (path : List Node) (bound : ℕ) → p.node.kind ≡ kind.TSNamespaceDeclaration → path ≡ w.path → bound ≡ w.node_count
-      → instance_state p.node (reverse path) bound ≡ instance_state p.node p.path (nodes_around p.node p.path)
-  state_here path bound k q b =
-      ap (λ (xs : List Node). instance_state p.node xs bound) (ap (λ (xs : List Node). reverse xs) (q ∙ within.path) ∙ reverse-reverse (p.node ∷ p.path))
-      ∙ ap (λ n. instance_state p.node (p.node ∷ p.path) n) (b ∙ within.count)
-      ∙ itself-above p.node p.path (nodes_around p.node p.path) (ap (λ j. is_list (record p.node { kind = j })) k)
 
   -- a namespace of a state
   pub namespace_acts : (node : Node) (row : Row) (state : InstanceState) → p.node ≡ node → p.node.kind ≡ kind.TSNamespaceDeclaration

@@ -1,15 +1,15 @@
 -- What a turn of the recursion opens and ends, at its place.
 use Rattle.std.proofs.Common.{◌≡◌, ℕ, Bool, true, false, cond, ◌&&◌, not, Option, Some, None, is_some, List, length, map, drop, Result, Ok, Err, OnOk, refl, sym, ap, subst, ◌∙◌}
-use Rattle.semantic_tree.specs.Forest.{Forest}
+use Rattle.semantic_tree.specs.Forest.{Forest, nothing}
 use Rattle.semantic_kinds.specs.declared.kind.AstType.{AstType}
 use Rattle.semantic_kinds.specs.declared.role.Role.{Role}
 use Rattle.semantic_model.specs.Nodes.{has_role}
 use Rattle.semantic_model.specs.Place.{Place, OpenScope}
-use Rattle.semantic_model.specs.Inside.{is_inside, any_inside, header_roles, is_in_header}
+use Rattle.semantic_model.specs.Inside.{opens, is_inside, any_inside, header_roles, is_in_header}
 use Rattle.semantic_model.specs.ScopeKind.{opened_scope}
 use Rattle.semantic_model.specs.Declaration.{Declaration}
 use Rattle.semantic_model.specs.Outcome.{source_of, header_outcome}
-use Rattle.semantic_model.specs.Step.{opening, opening_at, scope_at, ending_after}
+use Rattle.semantic_model.specs.Step.{opening, opening_at, scope_at, ending_after, opening_last}
 use Rattle.walk_model.specs.Standing.{Standing}
 use Rattle.walk_model.specs.Opens.{close_scope}
 use Rattle.walk_model.specs.Walks.{after, after_all}
@@ -60,6 +60,17 @@ module _ (ds : List Declaration) (w : Walker) (turn : Turn) (p : Place) (n curso
           subst (λ (t : Turn). IsTurnAt t p (Some (opened_scope p n)) (length w.made.waiting)) (sym goes)
               (record { outer = h.stands.outer; is_ambient = h.stands.is_ambient; own_scope = ap (λ m. Some m) count; header = refl }),
         )
+
+  -- a scope that opens behind all children closes at once
+  pub opened_last : (own : Option OpenScope) → IsBetweenAt ds w turn p own n cursor start nothing → turn.own ≡ None → opens p.node.kind ≡ true → (v : Walker)
+      → v ≡ record w { made = close_scope (after ds w.made (opening p (opened_scope p (length w.made.tables.scopes)))) (length w.made.tables.scopes); current = turn.outer; is_ambient = turn.is_ambient }
+      → v ≡ record w { made = after_all ds w.made (opening_last p own n) }
+  opened_last (Some s) h absent some v e = let none : None ≡ Some s.number = sym absent ∙ h.stands.own_scope in absurd cc
+  opened_last None h absent some v e =
+      let count : length w.made.tables.scopes ≡ n = h.between.stands.count in
+      let outer : turn.outer ≡ w.current = h.stands.outer ∙ sym h.within.current in
+      let ambient : turn.is_ambient ≡ w.is_ambient = h.stands.is_ambient ∙ sym h.is_ambient in
+      rw some (e ∙ (λ i. record w { made = close_scope (after ds w.made (opening p (opened_scope p (count i)))) (count i); current = outer i; is_ambient = ambient i }))
 
 -- what is made once the header ended, if it ends
 abbrev ended_if : Bool → Standing → (c start : ℕ) → Standing

@@ -86,14 +86,6 @@ kept_there s ms h marked some = is_kept s.current_node_id s.count s.kind h (some
 pub same_way : (v w : Way) → v.nodes ≡ w.nodes → v.entered ≡ w.entered → v ≡ w
 same_way v w nodes entered = λ i. record { nodes = nodes i; entered = entered i }
 
-pub shown_turned : (kinds : List AstKind) → map shown (reverse kinds) ≡ reverse (map shown kinds)
-shown_turned [] = refl
-shown_turned (k ∷ kinds) =
-    ap (map shown) (reverse-append (k ∷ []) kinds)
-    ∙ map-append shown (reverse kinds) (k ∷ [])
-    ∙ ap (λ (l : List Node). l ++ shown k ∷ []) (shown_turned kinds)
-    ∙ sym (with_first (map shown kinds) (shown k))
-
 -- the parent stands second
 
 second_last : (xs : List Node) (y x : Node) → parent_in (xs ++ y ∷ x ∷ []) ≡ y ∷ []

@@ -1,17 +1,15 @@
 -- A walk at the root of a program, and what belongs to a program beside its tables.
-use Rattle.std.specs.Prelude.{◌≡◌, ℕ, List, [], Bool, ◌&&◌, map}
+use Rattle.std.specs.Prelude.{◌≡◌, ℕ, List, [], Bool, ◌&&◌, ◌||◌}
+use Rattle.std.specs.Str.{encode_utf8_all}
 use Rattle.semantic_syntax.specs.SourceTypes.{is_typescript_definition}
 use Rattle.semantic_syntax.specs.Tables.{Name, Tables}
 use Rattle.scoping.specs.NodeEntries.{NodeEntries}
-use Rattle.semantic_tree.specs.Children.{node_count}
 use Rattle.semantic_tree.specs.Tree.{Tree}
+use Rattle.semantic_model.specs.Namespace.{InstanceState}
 use Rattle.semantic_model.specs.Place.{Place}
 use Rattle.semantic_model.specs.ScopeKind.{opened_scope}
 use Rattle.semantic_model.specs.Step.{root_place, steps}
-use Rattle.semantic_model.specs.Event.{events}
 use Rattle.semantic_model.specs.Fits.{Fits}
-use Rattle.semantic_model.specs.Fold.{Conflict, start}
-use Rattle.semantic_model.specs.Hoist.{run}
 use Rattle.semantic_model.specs.Moment.{UsesAreTies, StandsInOneList, BindingsAreSymbols, ListsBeginWithOwn}
 use Rattle.semantic_model.specs.NodeTable.{node_tables}
 use Rattle.semantic_model.specs.TablesOf.{tables_of}
@@ -21,18 +19,20 @@ use Rattle.walk_model.specs.Opens.{open_scope}
 use Rattle.walk_model.specs.Noted.{pairs_of}
 use Rattle.walk_model.specs.WrittenNames.{Written, is_written, is_sloppy, names_written}
 use Rattle.walk_notes.specs.NoteLists.{nothing_noted}
-use Rattle.table_building.specs.Conflicting.{told}
+use Rattle.check_model.specs.DiagnosticsOf.{diagnostics_of}
 use Rattle.semantic_walk.specs.Listed.{kept_from}
+use Rattle.semantic_walk.specs.Stated.{AllStated}
 use Rattle.semantic_walk.specs.Walker.{Walker}
+use Rattle.semantic_walk.specs.declared.settings.Settings.{Settings}
 
--- the walk stands at the root, whose scope is open; it keeps nodes and notes classes, or doesn't
-abbrev pub begun : Tree → List Written → (keeps notes : Bool) → Walker
-begun program ws keeps notes =
+-- the walk stands at the root, whose scope is open; it keeps nodes, notes classes and tells early errors, or doesn't
+abbrev pub begun : Tree → List InstanceState → List Written → (keeps notes checks : Bool) → Walker
+begun program states ws keeps notes checks =
     let p : Place = root_place program in
     record {
       made = open_scope nothing_made p (opened_scope p 0);
       source_type = program.source_type;
-      node_count = node_count program.root;
+      states = states;
       namesakes = ws;
       path = [];
       current = 0;
@@ -40,15 +40,25 @@ begun program ws keeps notes =
       is_ambient = is_typescript_definition program.source_type;
       nodes = kept_from keeps;
       notes = nothing_noted notes;
+      source = encode_utf8_all program.source;
+      checks = checks;
+      said = [];
+      counted = 0;
     }
 
 -- the names are those that the program writes, if functions move in it
 abbrev pub AreNamesOf : Tree → List Written → Type 0
 AreNamesOf program ws = (opener : ℕ) (name : Name) → is_written ws opener name ≡ (is_sloppy program.source_type && is_written (names_written program) opener name)
 
--- the conflicts of a program's declarations, in order
-abbrev pub conflicts_of : Tree → List Conflict
-conflicts_of p = (run start (events (steps p))).conflicts
+-- classes are noted for checks, too
+abbrev pub notes_classes : Settings → Bool
+notes_classes settings = settings.class_table || settings.checks
+
+-- the walk stands there, with the names of the program and the states of its namespaces
+pub record IsBegun (settings : Settings) (w : Walker) (program : Tree) : Type 0 where
+  pub first : w ≡ begun program w.states w.namesakes settings.build_nodes (notes_classes settings) settings.checks
+  pub names : AreNamesOf program w.namesakes
+  pub states : AllStated w.states (steps program)
 
 -- the tables fit the program
 abbrev pub FitsProgram : Tree → Tables → Type 0
@@ -60,12 +70,12 @@ pub record BelongsToNodes (p : Tree) (nodes : NodeEntries) : Type 0 where
   pub symbols : nodes.symbols ≡ pairs_of (node_tables (steps p)).symbols
   pub references : nodes.references ≡ pairs_of (node_tables (steps p)).references
 
--- the analysis of the program: its tables, which fit it, what holds of them right after, and a diagnostic for each conflict of its declarations
-pub record IsAnalysis (p : Tree) (t : Tables) (diagnostics : List Diagnostic) : Type 0 where
+-- the analysis of the program: its tables, which fit it, what holds of them right after, and its diagnostics, with early errors where they are checked
+pub record IsAnalysis (checks : Bool) (p : Tree) (t : Tables) (diagnostics : List Diagnostic) : Type 0 where
   pub tables : t ≡ tables_of p
   pub fits : FitsProgram p t
   pub uses : UsesAreTies t
   pub lists : StandsInOneList t
   pub bindings : BindingsAreSymbols t
   pub redeclarations : ListsBeginWithOwn t
-  pub told_of : diagnostics ≡ map told (conflicts_of p)
+  pub told_of : diagnostics ≡ diagnostics_of checks p

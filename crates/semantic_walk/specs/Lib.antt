@@ -1,7 +1,9 @@
 pub mod Paths
 pub mod Turns
 pub mod Walker
+pub mod Stated
 pub mod Binds
 pub mod Listed
 pub mod AtPlace
+pub mod Leaving
 pub mod Begun

@@ -3,6 +3,8 @@ use Rattle.std.specs.Prelude.{ℕ, List, [], Bool, Option, Some, option_map, len
 use Rattle.semantic_syntax.specs.declared.source_type.SourceType.{SourceType}
 use Rattle.semantic_kinds.specs.declared.role.Role.{Role}
 use Rattle.semantic_tree.specs.declared.node.Node.{Node}
+use Rattle.semantic_diagnostics.specs.declared.diagnostic.Diagnostic.{Diagnostic}
+use Rattle.semantic_model.specs.Namespace.{InstanceState}
 use Rattle.semantic_model.specs.Place.{Place}
 use Rattle.semantic_syntax.specs.declared.scope_flags.TheConstants.ScopeFlags as scope
 use Rattle.semantic_syntax.specs.Sets.{meets, union}
@@ -15,14 +17,15 @@ use Rattle.walk_model.specs.Standing.{Standing}
 use Rattle.walk_model.specs.Opens.{refer_to, open_in}
 use Rattle.walk_model.specs.WrittenNames.{Written}
 use Rattle.walk_notes.specs.NoteLists.{NoteLists}
+use Rattle.check_walk.specs.SoFar.{Telling}
 use Rattle.semantic_walk.specs.Paths.{parent_in}
 use Rattle.semantic_walk.specs.declared.walk.Walk.TheInside.{Inside}
 
 pub record Walker : Type 0 where
   pub made : Standing
   pub source_type : SourceType
-  -- how many nodes the program has
-  pub node_count : ℕ
+  -- the states of the namespaces
+  pub states : List InstanceState
   -- past which names block functions don't move
   pub namesakes : List Written
   -- the nodes from the root to the one that is visited
@@ -36,12 +39,20 @@ pub record Walker : Type 0 where
   pub nodes : Option Entered
   -- the classes, if they are noted, and the labels
   pub notes : NoteLists
+  -- the bytes of the source
+  pub source : List ℕ
+  -- whether early errors are told
+  pub checks : Bool
+  -- what is told, but for the conflicts since then
+  pub said : List Diagnostic
+  -- how many conflicts are told
+  pub counted : ℕ
 
 abbrev pub walker : Inside → Walker
 walker w = record {
   made = w.declared;
   source_type = w.source_type;
-  node_count = w.node_count;
+  states = w.states;
   namesakes = w.namesakes;
   path = w.path.nodes;
   current = w.current_scope;
@@ -49,7 +60,15 @@ walker w = record {
   is_ambient = w.is_ambient;
   nodes = w.path.entered;
   notes = w.notes;
+  source = w.source_text.now;
+  checks = w.checks;
+  said = w.said;
+  counted = w.counted;
 }
+
+-- what it has made and told
+abbrev pub telling_of : Walker → Telling
+telling_of w = record { made = w.made; said = w.said; counted = w.counted }
 
 -- the node where the walk stands
 abbrev pub place_in : Walker → Role → Node → Place

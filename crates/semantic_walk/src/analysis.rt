@@ -1,12 +1,14 @@
 //! The analysis of a program: a walk over it from its root.
 
-ghost use Rattle.std.specs.Prelude.{◌≡◌, Bool, IfOk, OnOk};
-ghost use Rattle.semantic_walk.specs.Begun.{begun, AreNamesOf, BelongsToNodes, IsAnalysis};
+ghost use Rattle.std.specs.Prelude.{◌≡◌, ◌≤◌, ◌||◌, IfOk, OnOk, OnErr};
+ghost use Rattle.semantic_syntax.specs.Counts.{raised};
+ghost use Rattle.count_model.specs.Asks.{asked};
+ghost use Rattle.semantic_walk.specs.Begun.{IsBegun, BelongsToNodes, IsAnalysis};
 ghost use Rattle.semantic_walk.specs.Listed.{kept_nodes, list_kept};
 ghost use Rattle.semantic_model.specs.Label.{unused_labels};
 ghost use Rattle.walk_notes.specs.NoteLists.{classes_noted};
 
-use crate::settings::{Room, Settings};
+use crate::settings::Settings;
 use crate::walk::Walk;
 use class_table::ClassTable;
 use node_store::AstNodes;
@@ -17,7 +19,8 @@ use semantic_tree::{Program, Role};
 use std::alloc::{AllocError, Global};
 
 /// What an analysis makes: the tables, what belongs to each node, the nodes, if they are kept, the classes, if they are
-/// noted, the labelled statements that no jump names, and what is wrong in the program.
+/// noted, the labelled statements that no jump names, and what is wrong in the program, with early errors if they are
+/// told.
 #[derive(Drop)]
 pub struct Analysis<'a> {
     pub scoping: Scoping,
@@ -28,43 +31,55 @@ pub struct Analysis<'a> {
     pub diagnostics: Diagnostics,
 }
 
-/// Walks over a program from its root, in tables with this room, and settles what waits in the end. What the walk, which
-/// begins at the root, has made then is the analysis of the program. Gives a diagnostic for each conflict.
+/// Walks over a program from its root, in tables with room by the settings, and settles what waits before it leaves the
+/// root. What the walk, which begins at the root, has made and told then is the analysis of the program.
 fn run<'a, L>(
     walk: &mut Walk<'a>,
     program: &'a Program,
-    room: Room,
+    settings: Settings,
     steps: &mut Steps<L>,
-) -> Result<Diagnostics, AllocError>
-    ensures analysis { (keeps classes : Bool) → walk.old ≡ begun program.now walk.old.namesakes keeps classes → AreNamesOf program.now walk.old.namesakes → IfOk result (λ told. IsAnalysis program.now walk.new.made.tables told) }
-    ensures nodes { (keeps classes : Bool) → walk.old ≡ begun program.now walk.old.namesakes keeps classes → AreNamesOf program.now walk.old.namesakes → OnOk result (BelongsToNodes program.now walk.new.made.nodes) }
-    ensures node_list { (keeps classes : Bool) → walk.old ≡ begun program.now walk.old.namesakes keeps classes → AreNamesOf program.now walk.old.namesakes → OnOk result (list_kept walk.new.nodes ≡ kept_nodes keeps program.now) }
-    ensures classes { (keeps classes : Bool) → walk.old ≡ begun program.now walk.old.namesakes keeps classes → AreNamesOf program.now walk.old.namesakes → OnOk result (walk.new.notes.classes.classes ≡ classes_noted classes program.now) }
-    ensures labels { (keeps classes : Bool) → walk.old ≡ begun program.now walk.old.namesakes keeps classes → AreNamesOf program.now walk.old.namesakes → OnOk result (walk.new.notes.labels.unused ≡ unused_labels program.now.root) }
+) -> Result<(), AllocError>
+    requires { IsBegun settings walk.old program.now }
+    ensures analysis { OnOk result (IsAnalysis settings.checks program.now walk.new.made.tables walk.new.said) }
+    ensures nodes { OnOk result (BelongsToNodes program.now walk.new.made.nodes) }
+    ensures node_list { OnOk result (list_kept walk.new.nodes ≡ kept_nodes settings.build_nodes program.now) }
+    ensures classes { OnOk result (walk.new.notes.classes.classes ≡ classes_noted (settings.class_table || settings.checks) program.now) }
+    ensures labels { OnOk result (walk.new.notes.labels.unused ≡ unused_labels program.now.root) }
+    ensures cost { OnOk result (steps.new ≡ raised steps.old (asked program.now)) }
+    ensures risen { steps.old ≤ steps.new }
+    ensures given_up { OnErr result (steps.new ≤ raised steps.old (asked program.now)) }
 {
-    walk.reserve(room)?;
-    walk.visit(program.root(), Role::Root, steps)?;
+    walk.reserve(settings.room)?;
+    let root = program.root();
+    walk.visit(root, Role::Root, steps)?;
     walk.end(steps)?;
-    walk.diagnostics()
+    walk.leave(root)?;
+    walk.tell_rest()
 }
 
-/// Analyses a program, keeps its nodes and notes its classes by the settings, and counts how often a scope is asked for
-/// a name by a look-up. The only error is want of memory.
+/// Analyses a program, keeps its nodes, notes its classes and tells early errors by the settings. The only error is want of
+/// memory.
+///
+/// A step is taken for each scope that a look-up asks: of each reference the scopes from its own outward, each once,
+/// up to the one that ties it or ends its look-up. After want of memory at most as many steps have been taken.
 pub fn analyse<'a, L>(
     alloc: Global,
     program: &'a Program,
     settings: Settings,
     steps: &mut Steps<L>,
 ) -> Result<Analysis<'a>, AllocError>
-    ensures analysis { IfOk result (λ made. IsAnalysis program.now made.scoping made.diagnostics) }
+    ensures analysis { IfOk result (λ made. IsAnalysis settings.checks program.now made.scoping made.diagnostics) }
     ensures nodes { IfOk result (λ made. BelongsToNodes program.now made.tables) }
     ensures node_list { IfOk result (λ made. made.nodes ≡ kept_nodes settings.build_nodes program.now) }
-    ensures classes { IfOk result (λ made. made.classes ≡ classes_noted settings.class_table program.now) }
+    ensures classes { IfOk result (λ made. made.classes ≡ classes_noted (settings.class_table || settings.checks) program.now) }
     ensures labels { IfOk result (λ made. made.unused_labels.items ≡ unused_labels program.now.root) }
+    ensures cost { OnOk result (steps.new ≡ raised steps.old (asked program.now)) }
+    ensures risen { steps.old ≤ steps.new }
+    ensures given_up { OnErr result (steps.new ≤ raised steps.old (asked program.now)) }
 {
-    let mut walk = Walk::new(alloc, program, settings.build_nodes, settings.class_table)?;
-    match run(&mut walk, program, settings.room, steps) {
-        Ok(diagnostics) => Ok(walk.finish(diagnostics)),
+    let mut walk = Walk::new(alloc, program, settings)?;
+    match run(&mut walk, program, settings, steps) {
+        Ok(()) => Ok(walk.finish()),
         Err(error) => {
             walk.give_up();
             Err(error)

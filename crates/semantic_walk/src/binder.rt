@@ -1,6 +1,6 @@
 //! What each node declares, and where.
 
-ghost use Rattle.std.specs.Prelude.{◌≡◌, List, [], ◌∷◌, true, false, map, reverse, IfOk, OnOk};
+ghost use Rattle.std.specs.Prelude.{◌≡◌, List, [], ◌∷◌, true, false, map, OnOk};
 ghost use Rattle.semantic_kinds.specs.declared.kind.AstType.TheVariants.{BindingRestElement as rest_element, TSNamespaceDeclaration as namespace_declaration, TSTypeParameter as type_parameter};
 ghost use Rattle.semantic_kinds.specs.declared.role.Role.TheVariants.{Pattern as pattern_role, Id as id_role, Name as name_role};
 ghost use Rattle.semantic_kinds.specs.declared.mark.Mark.TheVariants.{Pure as pure_mark};
@@ -13,20 +13,21 @@ ghost use Rattle.semantic_model.specs.Nodes.{is, has};
 ghost use Rattle.semantic_model.specs.Place.{Place, OpenScope, parent_holds};
 ghost use Rattle.semantic_model.specs.Declaration.{Declaration};
 ghost use Rattle.semantic_model.specs.Event.{declares_all};
-ghost use Rattle.semantic_model.specs.Namespace.{instance_state};
 ghost use Rattle.namespace_states.specs.InstanceStates.{state_of};
+ghost use Rattle.namespace_states.specs.StatesByMarks.{state_in};
 ghost use Rattle.semantic_model.specs.Step.{entering};
 ghost use Rattle.semantic_model.specs.Binder.{declare, is_statement, variables_under, function_row, own_function_row, parameters_under, imports, declared_on_entering, declared_on_opening};
 ghost use Rattle.walk_model.specs.Shown.{ShowsChain, HasVar};
 ghost use Rattle.walk_model.specs.NamedScopes.{IsStepNamed};
 ghost use Rattle.walk_model.specs.Walks.{act_all};
 ghost use Rattle.semantic_walk.specs.Paths.{parent_in};
+ghost use Rattle.semantic_walk.specs.Stated.{IsStated};
 ghost use Rattle.semantic_walk.specs.AtPlace.{IsWithin, IsShown};
 ghost use Rattle.semantic_walk.specs.Binds.{is_bound_inside, declaring, declaring_past, hoisting, moving_one, moving, acting};
 ghost use Rattle.table_building.specs.Growth.{Goes};
 
 use crate::walk::Walk;
-use namespace_states::instance_state::{ModuleInstanceState, instance_state};
+use namespace_states::ModuleInstanceState;
 use namespace_states::namespace_row::namespace_row;
 use node_rules::declaring::binds_under;
 use node_rules::rows::{self, Row};
@@ -288,20 +289,19 @@ impl<'a> Walk<'a> {
     }
 
     /// The state of the namespace that is visited.
-    fn state_of_namespace(&self, namespace: AstKind<'a>) -> Result<ModuleInstanceState, AllocError>
-        ensures { IfOk result (λ s. state_of s ≡ instance_state namespace.entry.node.now (reverse self.now.path) self.now.node_count) }
+    fn state_of_namespace(&self, namespace: AstKind<'a>) -> ModuleInstanceState
+        ensures { state_of result ≡ state_in self.now.states namespace.entry.node.now.node_id }
     {
-        let path = self.path.to_vec(self.alloc)?;
-        instance_state(self.alloc, namespace, path.as_slice(), self.node_count)
+        self.states.state(namespace.node_id())
     }
 
     /// A namespace: one that is nothing but types is no value.
     fn bind_namespace(&mut self, namespace: AstKind<'a>) -> Result<(), AllocError>
-        ensures made { (ds : List Declaration) (p : Place) → p.node ≡ namespace.entry.node.now → IsWithin self.old p p.chain → p.node.kind ≡ namespace_declaration →
+        ensures made { (ds : List Declaration) (p : Place) → p.node ≡ namespace.entry.node.now → IsWithin self.old p p.chain → p.node.kind ≡ namespace_declaration → IsStated self.old.states p →
             OnOk result (self.new ≡ acting ds self.old (declared_on_entering p)) }
         ensures goes { OnOk result (Goes self.old.made self.new.made) }
     {
-        let state = self.state_of_namespace(namespace)?;
+        let state = self.state_of_namespace(namespace);
         self.bind_all(namespace, namespace_row(namespace, state))
     }
 

@@ -1,16 +1,15 @@
 //! The way from the root to the node that a walk visits.
 
-ghost use Rattle.std.specs.Prelude.{◌≡◌, ◌++◌, ◌∷◌, ◌-◌, ◌≤◌, [], length, map, reverse, take, option_map, IfOk, OnOk};
+ghost use Rattle.std.specs.Prelude.{◌≡◌, ◌++◌, ◌∷◌, ◌-◌, ◌<◌, ◌≤◌, [], length, reverse, take, option_map, OnOk};
 ghost use Rattle.node_rules.specs.Seen.{path_of};
 ghost use Rattle.node_store.specs.Entered.{entering, leaving};
-ghost use Rattle.node_store.specs.PathLeft.{path_left};
-ghost use Rattle.semantic_tree.specs.ChildIter.{shown};
+ghost use Rattle.node_store.specs.PathOf.{path_of as outward_path, IsInStore};
 ghost use Rattle.semantic_model.specs.Names.{is_simple_list};
 ghost use Rattle.semantic_walk.specs.Listed.{kept_from, list_kept};
 ghost use Rattle.semantic_walk.specs.Paths.{parent_in, is_marked, first_mark};
 
 use node_rules::rows::is_simple_list;
-use node_store::{AncestorKinds, AstNodeStore, AstNodes};
+use node_store::{Ancestry, AstNodeStore, AstNodeStoreKind, AstNodes};
 use semantic_syntax::ScopeId;
 use semantic_tree::{AstKind, AstType};
 use std::alloc::{AllocError, Global};
@@ -45,27 +44,6 @@ fn is_marked(kind: AstKind<'_>) -> bool
     ensures { result ≡ is_marked kind.entry.node.now }
 {
     kind.ty() == AstType::FormalParameters && is_simple_list(kind)
-}
-
-/// The nodes that are left on a path.
-fn collected<'a>(
-    alloc: Global,
-    kinds: AncestorKinds<'_, 'a>,
-) -> Result<Vec<AstKind<'a>>, AllocError>
-    ensures { IfOk result (λ nodes. map shown nodes.items ≡ path_left kinds.entry) }
-{
-    let mut nodes = Vec::new(alloc);
-    for kind in kinds {
-        nodes.push(kind)?;
-    }
-    Ok(nodes)
-}
-
-/// The last node becomes the first.
-fn turn_round(nodes: &mut Vec<AstKind<'_>>)
-    ensures { nodes.new.items ≡ reverse nodes.old.items }
-{
-    nodes.reverse();
 }
 
 impl<'a> Path<'a> {
@@ -112,18 +90,6 @@ impl<'a> Path<'a> {
         let _mark = self.marks.pop();
     }
 
-    /// The nodes, root first.
-    pub fn to_vec(&self, alloc: Global) -> Result<Vec<AstKind<'a>>, AllocError>
-        ensures { IfOk result (λ nodes. map shown nodes.items ≡ self.now.nodes) }
-    {
-        if self.marks.is_empty() {
-            return Ok(Vec::new(alloc));
-        }
-        let mut nodes = collected(alloc, self.store.outward())?;
-        turn_round(&mut nodes);
-        Ok(nodes)
-    }
-
     /// The parent of the last node.
     pub fn parent(&self) -> Option<AstKind<'a>>
         ensures { path_of result ≡ parent_in self.now.nodes }
@@ -153,6 +119,21 @@ impl<'a> Path<'a> {
         match self.parent_mark() {
             Some(mark) if list.ty() == AstType::FormalParameters => mark,
             _ => is_simple_list(list),
+        }
+    }
+
+    /// The path from the last node outward.
+    pub fn ancestry(&self) -> Ancestry<'a, '_>
+        requires { 0 < length self.now.nodes }
+        ensures path { outward_path result ≡ reverse self.now.nodes }
+        ensures store { IsInStore result }
+    {
+        match &self.store.kind {
+            AstNodeStoreKind::Full(nodes) => Ancestry::Nodes {
+                nodes,
+                current_node_id: self.store.current_node_id,
+            },
+            AstNodeStoreKind::Ancestry(stack) => Ancestry::Stack(stack),
         }
     }
 

@@ -1,6 +1,6 @@
 //! The recursion over the tree.
 
-ghost use Rattle.std.specs.Prelude.{◌≡◌, ◌<◌, ◌≤◌, ◌&&◌, not, cond, ℕ, Option, Some, None, List, ◌∷◌, length, map, drop, IfOk, OnOk};
+ghost use Rattle.std.specs.Prelude.{◌≡◌, ◌<◌, ◌≤◌, ◌&&◌, not, cond, ℕ, Option, Some, None, List, ◌∷◌, length, map, drop, IfOk, OnOk, OnErr};
 ghost use Rattle.semantic_kinds.specs.Kinds.{same_kind};
 ghost use Rattle.semantic_kinds.specs.declared.kind.AstType.TheVariants.{Program as program_kind};
 ghost use Rattle.semantic_tree.specs.Children.{forest_of};
@@ -19,9 +19,12 @@ ghost use Rattle.walk_model.specs.Walks.{after, after_all};
 ghost use Rattle.walk_model.specs.Shown.{ShowsChain, HasVar};
 ghost use Rattle.walk_model.specs.Waits.{HoldsAt, start_at};
 ghost use Rattle.table_building.specs.Growth.{Grows, Goes};
-ghost use Rattle.table_building.specs.Settled.{settled_from};
+ghost use Rattle.semantic_syntax.specs.Counts.{raised};
+ghost use Rattle.count_model.specs.Asks.{asked_by_steps};
+ghost use Rattle.table_building.specs.Settled.{settled_from, asked_from};
 ghost use Rattle.semantic_walk.specs.Turns.{IsTurn, child_scope};
-ghost use Rattle.semantic_walk.specs.AtPlace.{IsWithin, IsTurnAt, IsBetweenAt, IsComing, walked_over};
+ghost use Rattle.semantic_walk.specs.AtPlace.{IsWithin, IsTurnAt, IsBetweenAt, IsComing, IsSomewhere, walked_within, asked_over};
+ghost use Rattle.semantic_walk.specs.Leaving.{IsLeaving};
 
 use crate::walk::Walk;
 use node_rules::ambient::{is_ambient_in_child, is_ambient_inside};
@@ -219,6 +222,9 @@ impl<'a> Walk<'a> {
             (record self.old { made = settled_from self.old.made start (map (header_outcome (source_of self.old.made.tables) own) (drop start self.old.made.waiting)) }) self.old) }
         ensures grows { OnOk result (Grows self.old.made.tables self.new.made.tables) }
         ensures waiting { OnOk result (start ≤ length self.new.made.waiting) }
+        ensures cost { OnOk result (steps.new ≡ raised steps.old (cond (is_in_header parent role && not (has_role (header_roles parent) (forest_of rest.now))) (asked_from self.old.made start own) 0)) }
+        ensures risen { steps.old ≤ steps.new }
+        ensures given_up { OnErr result (steps.new ≤ raised steps.old (cond (is_in_header parent role && not (has_role (header_roles parent) (forest_of rest.now))) (asked_from self.old.made start own) 0)) }
     {
         if is_in_header(parent, role) && !any_in_header(parent, rest) {
             self.end_header(own, start, steps)
@@ -252,6 +258,11 @@ impl<'a> Walk<'a> {
             OnOk result (self.new ≡ record self.old { made = after_all ds self.old.made (ending_after p role own (forest_of rest.now)) }) }
         ensures grows { OnOk result (Grows self.old.made.tables self.new.made.tables) }
         ensures stands { OnOk result (IsTurn self.new.made turn.now) }
+        ensures cost { (ds : List Declaration) (p : Place) (own : Option OpenScope) (start : ℕ) → p.node.kind ≡ parent → IsTurnAt turn.now p own start → HoldsAt self.old.made own start →
+            OnOk result (steps.new ≡ raised steps.old (asked_by_steps ds self.old.made (ending_after p role own (forest_of rest.now)))) }
+        ensures risen { steps.old ≤ steps.new }
+        ensures given_up { (ds : List Declaration) (p : Place) (own : Option OpenScope) (start : ℕ) → p.node.kind ≡ parent → IsTurnAt turn.now p own start → HoldsAt self.old.made own start →
+            OnErr result (steps.new ≤ raised steps.old (asked_by_steps ds self.old.made (ending_after p role own (forest_of rest.now)))) }
     {
         match turn.own {
             Some(own) => {
@@ -329,13 +340,18 @@ impl<'a> Walk<'a> {
             }) }
         ensures grows { OnOk result (Grows self.old.made.tables self.new.made.tables) }
         ensures stands { OnOk result (IsTurn self.new.made turn.now) }
+        ensures cost { (ds : List Declaration) (p : Place) (own : Option OpenScope) (start : ℕ) → p.node.kind ≡ parent → IsTurnAt turn.now p own start → HoldsAt self.old.made own start →
+            OnOk result (steps.new ≡ raised steps.old (asked_by_steps ds self.old.made (ending_after p role own (forest_of rest.now)))) }
+        ensures risen { steps.old ≤ steps.new }
+        ensures given_up { (ds : List Declaration) (p : Place) (own : Option OpenScope) (start : ℕ) → p.node.kind ≡ parent → IsTurnAt turn.now p own start → HoldsAt self.old.made own start →
+            OnErr result (steps.new ≤ raised steps.old (asked_by_steps ds self.old.made (ending_after p role own (forest_of rest.now)))) }
     {
         self.come_back(turn);
         self.turn_cursor(parent, role, before);
         self.end_child(parent, turn, role, rest, steps)
     }
 
-    /// Walks over a node in its role and all that is below it.
+    /// Walks over a node in its role and all that is below it, and stands at the node then: who visits it leaves it.
     #[tactic(auto, using(semantic_tree::specs::Falls::below, crate::proofs::Going::going))]
     pub(crate) fn visit<L>(
         &mut self,
@@ -343,9 +359,17 @@ impl<'a> Walk<'a> {
         role: Role,
         steps: &mut Steps<L>,
     ) -> Result<(), AllocError>
+        requires { IsSomewhere self.old kind.node.now role }
         ensures walks { (ds : List Declaration) (p : Place) (own : Option OpenScope) (n : ℕ) → p.node ≡ kind.entry.node.now → p.role ≡ role → IsComing ds self.old p own n →
-            OnOk result (self.new ≡ walked_over ds self.old p own n) }
+            OnOk result (self.new ≡ walked_within ds self.old p own n) }
+        ensures leaves { (ds : List Declaration) (p : Place) (own : Option OpenScope) (n : ℕ) → p.node ≡ kind.entry.node.now → p.role ≡ role → IsComing ds self.old p own n →
+            OnOk result (IsLeaving self.new p) }
         ensures goes { OnOk result (Goes self.old.made self.new.made) }
+        ensures cost { (ds : List Declaration) (p : Place) (own : Option OpenScope) (n : ℕ) → p.node ≡ kind.entry.node.now → p.role ≡ role → IsComing ds self.old p own n →
+            OnOk result (steps.new ≡ raised steps.old (asked_over ds self.old p own n)) }
+        ensures risen { steps.old ≤ steps.new }
+        ensures given_up { (ds : List Declaration) (p : Place) (own : Option OpenScope) (n : ℕ) → p.node ≡ kind.entry.node.now → p.role ≡ role → IsComing ds self.old p own n →
+            OnErr result (steps.new ≤ raised steps.old (asked_over ds self.old p own n)) }
     {
         self.enter(kind)?;
         let mut turn = self.turn(kind.ty());
@@ -355,10 +379,10 @@ impl<'a> Walk<'a> {
             let child = AstKind::new(child);
             self.begin_child(kind, role, &mut turn, *child_role, child)?;
             self.visit(child, *child_role, steps)?;
+            self.leave(child)?;
             self.finish_child(kind.ty(), &turn, *child_role, before, rest, steps)?;
             left = rest;
         }
-        self.open_last(kind, role, &turn)?;
-        self.leave(kind)
+        self.open_last(kind, role, &turn)
     }
 }

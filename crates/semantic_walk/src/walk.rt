@@ -1,6 +1,6 @@
 //! The walker's state, and what each step of the walk does to it.
 
-ghost use Rattle.std.specs.Prelude.{◌≡◌, ◌==◌, ◌&&◌, ◌<◌, ◌≤◌, ◌-◌, List, [], ◌∷◌, ◌++◌, true, false, codes, cond, length, map, option_map, take, drop, IfSome, IfOk, OnOk};
+ghost use Rattle.std.specs.Prelude.{◌≡◌, ◌==◌, ◌&&◌, ◌<◌, ◌≤◌, ◌-◌, List, [], ◌∷◌, ◌++◌, true, false, codes, cond, length, map, option_map, take, drop, IfSome, IfOk, OnOk, OnErr};
 ghost use Rattle.std.specs.Str.{chars};
 ghost use Rattle.semantic_kinds.specs.declared.kind.AstType.TheVariants.{IdentifierReference as identifier_reference, CatchClause as catch_clause};
 ghost use Rattle.scoping.specs.Reading.{bindings_of, scope_of};
@@ -12,33 +12,40 @@ ghost use Rattle.semantic_model.specs.Cursor.{on_entering, on_leaving};
 ghost use Rattle.semantic_model.specs.Binder.{declared_on_entering, declared_on_opening};
 ghost use Rattle.semantic_model.specs.Event.{is_catch_body};
 ghost use Rattle.semantic_model.specs.ScopeKind.{opened_scope};
-ghost use Rattle.semantic_model.specs.Step.{opening};
+ghost use Rattle.semantic_model.specs.Step.{opening, steps};
 ghost use Rattle.semantic_model.specs.TablesOf.{is_direct_eval};
 ghost use Rattle.semantic_model.specs.Outcome.{source_of, header_outcome};
 ghost use Rattle.walk_model.specs.Settles.{settle_rest};
 ghost use Rattle.walk_model.specs.Shown.{ShowsChain, HasVar};
 ghost use Rattle.walk_model.specs.Walks.{after};
 ghost use Rattle.walk_model.specs.Opens.{add_eval, close_scope};
-ghost use Rattle.table_building.specs.Settled.{settled_from};
+ghost use Rattle.semantic_syntax.specs.Counts.{raised};
+ghost use Rattle.count_model.specs.Asks.{asked_in_end};
+ghost use Rattle.table_building.specs.Settled.{settled_from, asked_from};
 ghost use Rattle.node_rules.specs.Seen.{path_of};
 ghost use Rattle.semantic_walk.specs.Paths.{parent_in};
-ghost use Rattle.semantic_walk.specs.Walker.{place_in, noting_node, referring, opening_in, taking_over};
+ghost use Rattle.semantic_walk.specs.Walker.{place_in, noting_node, referring, opening_in, taking_over, telling_of};
 ghost use Rattle.semantic_walk.specs.Listed.{list_kept};
 ghost use Rattle.walk_notes.specs.NoteLists.{noting, leaving as leaving_notes};
 ghost use Rattle.node_store.specs.Entered.{leaving};
-ghost use Rattle.semantic_walk.specs.Begun.{begun, AreNamesOf};
-ghost use Rattle.table_building.specs.Conflicting.{told};
+ghost use Rattle.semantic_walk.specs.Stated.{AllStated};
+ghost use Rattle.semantic_walk.specs.Begun.{begun, notes_classes, AreNamesOf};
+ghost use Rattle.check_walk.specs.SoFar.{caught_up};
+ghost use Rattle.check_walk.specs.TellingAlong.{telling_left};
+ghost use Rattle.semantic_walk.specs.Leaving.{IsFit, ShowsRows};
 ghost use Rattle.table_building.specs.Growth.{Grows, Goes};
 ghost use Rattle.semantic_model.specs.Declaration.{Declaration};
 ghost use Rattle.semantic_walk.specs.Binds.{block_target, is_bound_inside, acting};
-ghost use Rattle.semantic_walk.specs.AtPlace.{ComesTo, IsWithin, IsShown, entered, kept_at};
+ghost use Rattle.semantic_walk.specs.AtPlace.{ComesTo, IsWithin, IsShown, entered, kept_at, left_at};
 
 use crate::analysis::Analysis;
 use crate::binder::Binder;
 use crate::block_target::stand_on;
 use crate::path::Path;
-use crate::settings::Room;
+use crate::settings::{Room, Settings};
 use namesakes::namesakes::Namesakes;
+use namespace_states::NamespaceStates;
+use node_rules::ambient::is_ambient_inside;
 use node_rules::cursor;
 use node_rules::direct_eval::is_direct_eval;
 use node_rules::rows::is_statement;
@@ -50,6 +57,7 @@ use std::alloc::{AllocError, Global};
 use std::marker::Model;
 use table_building::declared::Declared;
 use table_building::route::Route;
+use walk_checks::{CheckContext, tell_leaving};
 use walk_notes::Notes;
 use walk_notes::notes::{is_noted, is_noted_behind};
 
@@ -58,8 +66,8 @@ use walk_notes::notes::{is_noted, is_noted_behind};
 pub struct Walk<'a> {
     pub(crate) alloc: Global,
     pub(crate) source_type: SourceType,
-    /// How many nodes the program has.
-    pub(crate) node_count: u32,
+    /// The states of the program's namespaces.
+    pub(crate) states: NamespaceStates,
     pub(crate) declared: Declared<'a>,
     /// Past which declarations block functions don't move.
     pub(crate) namesakes: Namesakes,
@@ -72,6 +80,14 @@ pub struct Walk<'a> {
     pub(crate) is_ambient: bool,
     /// The classes, if they are noted, and the labels.
     pub(crate) notes: Notes<'a>,
+    /// The source, which checks look at.
+    pub(crate) source_text: &'a str,
+    /// Whether early errors are told.
+    pub(crate) checks: bool,
+    /// What is told so far, but for the conflicts from `counted` on.
+    pub(crate) said: Diagnostics,
+    /// How many conflicts are told.
+    pub(crate) counted: usize,
 }
 
 impl<'a> Model for Walk<'a> {
@@ -79,11 +95,12 @@ impl<'a> Model for Walk<'a> {
     ghost use Rattle.std.specs.Coded.{codes};
     ghost use Rattle.semantic_tree.specs.contracts.node.Node as node;
     ghost use Rattle.semantic_syntax.specs.contracts.node_flags.NodeFlags as eight_flags;
+    ghost use Rattle.semantic_diagnostics.specs.contracts.diagnostic.Diagnostic as diagnostic;
     ghost use Rattle.semantic_walk.specs.Walker.{Walker, walker};
 
     ghost Value = { Walker };
 
-    ghost coded = { Prim.hlevel (codes, node.the_row.coded, eight_flags.the_row.coded) };
+    ghost coded = { Prim.hlevel (codes, node.the_row.coded, eight_flags.the_row.coded, diagnostic.the_row.coded) };
 
     ghost view = { walker };
 
@@ -106,32 +123,37 @@ fn declares_inside(kind: AstKind<'_>) -> bool
 
 #[tactic(auto, using(crate::proofs::Going::going))]
 impl<'a> Walk<'a> {
-    /// The state at the root, whose scope is open. The nodes that are entered are kept, or not, and classes are noted,
-    /// or not.
+    /// The state at the root, whose scope is open. By the settings the nodes that are entered are kept, or not, classes
+    /// are noted, or not, and early errors are told, or not.
     pub(crate) fn new(
         alloc: Global,
         program: &'a Program,
-        keeps: bool,
-        classes: bool,
+        settings: Settings,
     ) -> Result<Walk<'a>, AllocError>
-        ensures begins { IfOk result (λ w. w ≡ begun program.now w.namesakes keeps classes) }
+        ensures begins { IfOk result (λ w. w ≡ begun program.now w.states w.namesakes settings.build_nodes (notes_classes settings) settings.checks) }
         ensures names { IfOk result (λ w. AreNamesOf program.now w.namesakes) }
+        ensures states { IfOk result (λ w. AllStated w.states (steps program.now)) }
     {
         let source_type = program.source_type();
         let root = program.root();
         let namesakes = Namesakes::of(alloc, program)?;
+        let states = NamespaceStates::of_namespaces(alloc, program)?;
         let declared = Declared::new(alloc, root, root_flags(root, source_type))?;
         Ok(Walk {
             alloc,
             source_type,
-            node_count: program.node_count(),
+            states,
             declared,
             namesakes,
-            path: Path::new(alloc, keeps),
+            path: Path::new(alloc, settings.build_nodes),
             current_scope: ScopeId::new(0),
             cursor: ReferenceFlags::empty(),
             is_ambient: source_type.is_typescript_definition(),
-            notes: Notes::new(alloc, classes),
+            notes: Notes::new(alloc, settings.notes_classes()),
+            source_text: program.source_text(),
+            checks: settings.checks,
+            said: Diagnostics::new(alloc),
+            counted: 0,
         })
     }
 
@@ -356,8 +378,8 @@ impl<'a> Walk<'a> {
         self.declared.close(scope);
     }
 
-    /// Leaves the node that is visited, which stands on the path until the end.
-    pub(crate) fn leave(&mut self, kind: AstKind<'a>) -> Result<(), AllocError>
+    /// Steps from a node.
+    fn step_from(&mut self, kind: AstKind<'a>) -> Result<(), AllocError>
         ensures made { OnOk result (self.new ≡ record self.old { path = take (length self.old.path - 1) self.old.path; cursor = on_leaving kind.entry.node.now.kind self.old.cursor; nodes = option_map leaving self.old.nodes; notes = leaving_notes kind.entry.node.now self.old.notes }) }
         ensures goes { OnOk result (Goes self.old.made self.new.made) }
     {
@@ -365,6 +387,49 @@ impl<'a> Walk<'a> {
         self.cursor = cursor::on_leaving(kind.ty(), self.cursor);
         self.path.pop();
         Ok(())
+    }
+
+    /// With checks on, tells the conflicts that are left, and then the rules of early errors that the node violates.
+    fn tell(&mut self, kind: AstKind<'a>) -> Result<(), AllocError>
+        requires { self.old.checks ≡ true → IsFit self.old kind.node.now }
+        ensures made { (p : Place) → p.node ≡ kind.entry.node.now → ShowsRows self.old p →
+            OnOk result (let t = telling_left self.old.checks self.old.source (telling_of self.old) p in self.new ≡ record self.old { said = t.said; counted = t.counted }) }
+        ensures goes { OnOk result (Goes self.old.made self.new.made) }
+    {
+        if !self.checks {
+            return Ok(());
+        }
+        let context = CheckContext {
+            source_text: self.source_text,
+            source_type: self.source_type,
+            scoping: self.declared.scoping(),
+            tables: self.declared.tables(),
+            classes: self.notes.classes(),
+            ancestry: self.path.ancestry(),
+            current_scope_id: self.current_scope,
+            in_ambient: is_ambient_inside(kind.node(), self.is_ambient),
+        };
+        tell_leaving(
+            self.alloc,
+            kind,
+            &context,
+            &self.declared,
+            self.counted,
+            &mut self.said,
+        )?;
+        self.counted = self.declared.conflicts_len();
+        Ok(())
+    }
+
+    /// Leaves the node that is visited, which stands on the path until the end. With checks on, what is wrong with it is
+    /// told.
+    pub(crate) fn leave(&mut self, kind: AstKind<'a>) -> Result<(), AllocError>
+        requires { self.old.checks ≡ true → IsFit self.old kind.node.now }
+        ensures made { (p : Place) → p.node ≡ kind.entry.node.now → ShowsRows self.old p → OnOk result (self.new ≡ left_at self.old p) }
+        ensures goes { OnOk result (Goes self.old.made self.new.made) }
+    {
+        self.tell(kind)?;
+        self.step_from(kind)
     }
 
     /// At the end of a header the references that wait since its start are looked up as far as its scope.
@@ -379,13 +444,19 @@ impl<'a> Walk<'a> {
         ensures made { OnOk result (self.new ≡ record self.old { made = settled_from self.old.made start (map (header_outcome (source_of self.old.made.tables) scope) (drop start self.old.made.waiting)) }) }
         ensures grows { OnOk result (Grows self.old.made.tables self.new.made.tables) }
         ensures waiting { OnOk result (start ≤ length self.new.made.waiting) }
+        ensures cost { OnOk result (steps.new ≡ raised steps.old (asked_from self.old.made start scope)) }
+        ensures risen { steps.old ≤ steps.new }
+        ensures given_up { OnErr result (steps.new ≤ raised steps.old (asked_from self.old.made start scope)) }
     {
         self.declared.end_header(scope, start, steps)
     }
 
     /// After the walk every reference that waits is settled.
     pub(crate) fn end<L>(&mut self, steps: &mut Steps<L>) -> Result<(), AllocError>
-        ensures { OnOk result (self.new ≡ record self.old { made = settle_rest self.old.made }) }
+        ensures made { OnOk result (self.new ≡ record self.old { made = settle_rest self.old.made }) }
+        ensures cost { OnOk result (steps.new ≡ raised steps.old (asked_in_end self.old.made)) }
+        ensures risen { steps.old ≤ steps.new }
+        ensures given_up { OnErr result (steps.new ≤ raised steps.old (asked_in_end self.old.made)) }
     {
         self.declared.settle_rest(steps)
     }
@@ -397,18 +468,20 @@ impl<'a> Walk<'a> {
         self.declared.waiting()
     }
 
-    /// A diagnostic for each conflict.
-    pub(crate) fn diagnostics(&self) -> Result<Diagnostics, AllocError>
-        ensures { IfOk result (λ made. made ≡ map told self.now.made.conflicts) }
+    /// Tells the conflicts that are left.
+    pub(crate) fn tell_rest(&mut self) -> Result<(), AllocError>
+        ensures { OnOk result (let t = caught_up (telling_of self.old) in self.new ≡ record self.old { said = t.said; counted = t.counted }) }
     {
-        self.declared.diagnostics()
+        self.declared.tell_from(self.counted, &mut self.said)?;
+        self.counted = self.declared.conflicts_len();
+        Ok(())
     }
 
-    /// What the walk has made.
-    pub(crate) fn finish(self, diagnostics: Diagnostics) -> Analysis<'a>
+    /// What the walk has made and told.
+    pub(crate) fn finish(self) -> Analysis<'a>
         ensures scoping { result.scoping ≡ self.entry.made.tables }
         ensures tables { result.tables ≡ self.entry.made.nodes }
-        ensures diagnostics { result.diagnostics ≡ diagnostics }
+        ensures diagnostics { result.diagnostics ≡ self.entry.said }
         ensures node_list { result.nodes ≡ list_kept self.entry.nodes }
         ensures classes { result.classes ≡ self.entry.notes.classes.classes }
         ensures labels { result.unused_labels.items ≡ self.entry.notes.labels.unused }
@@ -421,7 +494,7 @@ impl<'a> Walk<'a> {
             nodes: self.path.into_nodes(),
             classes,
             unused_labels,
-            diagnostics,
+            diagnostics: self.said,
         }
     }
 

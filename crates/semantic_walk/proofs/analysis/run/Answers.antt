@@ -1,11 +1,16 @@
-use Rattle.std.proofs.Common.{◌≡◌, Bool, Some, None, Result, Ok, Err, ap, sym, subst, map, refl, List, OnOk, ◌∙◌}
+use Rattle.std.proofs.Common.{◌≡◌, Option, Some, None, true, length, ap, sym, subst, refl, List, ◌∙◌, arith}
 use Rattle.semantic_syntax.specs.Tables.{Tables}
 use Rattle.semantic_tree.specs.Faults.{first_fault}
 use Rattle.semantic_tree.specs.Tree.{Tree}
 use Rattle.semantic_tree.proofs.ShapedLaws.{IsShaped-no_fault}
+use Rattle.semantic_model.specs.Declaration.{Declaration}
 use Rattle.semantic_model.specs.Event.{written_declarations}
 use Rattle.semantic_model.specs.Moment.{UsesAreTies, StandsInOneList, BindingsAreSymbols, ListsBeginWithOwn}
+use Rattle.semantic_model.specs.Place.{Place, OpenScope}
 use Rattle.semantic_model.specs.Step.{root_place, steps}
+use Rattle.semantic_tree.specs.declared.node.Node.{Node}
+use Rattle.check_model.specs.DiagnosticsOf.{diagnostics_of}
+use Rattle.check_walk.specs.SoFar.{so_far}
 use Rattle.semantic_model.specs.TablesOf.{tables_of}
 use Rattle.semantic_model.proofs.Afterwards.{uses_are_ties, one_list, lists_begin}
 use Rattle.semantic_model.proofs.Owned.{bindings_owned}
@@ -14,44 +19,105 @@ use Rattle.semantic_model.proofs.Whole.{tables_fit}
 use Rattle.semantic_diagnostics.specs.declared.diagnostic.Diagnostic.{Diagnostic}
 use Rattle.walk_model.specs.Walks.{walked}
 use Rattle.walk_model.proofs.RootSteps.{root_scope}
-use Rattle.semantic_walk.specs.Begun.{begun, AreNamesOf, FitsProgram, IsAnalysis}
-use Rattle.semantic_walk.specs.AtPlace.{walked_over}
-use Rattle.semantic_walk.specs.Walker.{Walker}
-use Rattle.table_building.specs.Conflicting.{told}
-use Rattle.semantic_walk.proofs.Beginning.{walk_comes, walk_ends, walk_lists, walk_classes, walk_labels, root_tables, root_conflicts, root_nodes, of_answer}
+use Rattle.semantic_walk.specs.Begun.{IsBegun, FitsProgram, IsAnalysis}
+use Rattle.semantic_walk.specs.AtPlace.{IsComing, left_at}
+use Rattle.semantic_walk.specs.Leaving.{IsFit}
+use Rattle.semantic_walk.specs.Walker.{Walker, telling_of}
+use Rattle.semantic_walk.specs.declared.settings.Settings.{Settings}
+use Rattle.semantic_walk.proofs.Beginning.{walk_comes, walk_ends, walk_leaves, walk_lists, walk_classes, walk_labels, root_within, root_over, root_tables, root_nodes}
+use Rattle.semantic_walk.proofs.Root.{fit_last, shows_last, tells_all}
+use Rattle.semantic_walk.proofs.TurnEnds.{on_ok}
+use Rattle.semantic_walk.proofs.Counting.{on_err, on_success}
+use Rattle.semantic_walk.proofs.RootCount.{root_counts, root_given_up, end_given_up}
 use Rattle.semantic_walk.proofs.analysis.run.Given as given
 use Rattle.semantic_walk.proofs.analysis.run.Goals as goal
 
-to_ok : {X E : Type 0} (r : Result X E) (P : Type 0) → P → OnOk r P
-to_ok (Ok x) P h = h
-to_ok (Err e) P h = tt
+-- the walk, which has room now, has made no more
+has_room : (settings : Settings) (w v : Walker) (program : Tree) → IsBegun settings w program → v ≡ w → IsBegun settings v program
+has_room settings w v program h room = subst (λ (u : Walker). IsBegun settings u program) (sym room) h
 
-module _ (g : given.Over) (c : goal.After-diagnostics g) (keeps on : Bool) (first : c.args.walk.now ≡ begun c.args.program.now c.args.walk.now.namesakes keeps on) (names : AreNamesOf c.args.program.now c.args.walk.now.namesakes) where
+-- the root is a node of the program
+pub visit-requires : goal.visit-requires
+visit-requires g c =
+    let program : Tree = c.args.program.now in
+    let b : IsBegun c.args.settings c.reserve.new.self program = has_room c.args.settings c.args.walk.now c.reserve.new.self program c.requires c.reserve.ensures in
+    record {
+      ds = written_declarations (steps program);
+      place = root_place program;
+      own = Some (root_scope (root_place program));
+      next = 1;
+      node_is = sym c.root-root.ensures.root;
+      role_is = refl;
+      coming = walk_comes program c.root-root.ensures.shaped c.root-root.ensures.numbered c.args.settings c.reserve.new.self b;
+    }
+
+-- and may be checked in the end
+pub leave-requires : goal.leave-requires
+leave-requires g c =
+    let program : Tree = c.args.program.now in
+    let ds : List Declaration = written_declarations (steps program) in
+    let p : Place = root_place program in
+    let own : Option OpenScope = Some (root_scope p) in
+    let b : IsBegun c.args.settings c.reserve.new.self program = has_room c.args.settings c.args.walk.now c.reserve.new.self program c.requires c.reserve.ensures in
+    let coming : IsComing ds c.reserve.new.self p own 1 = walk_comes program c.root-root.ensures.shaped c.root-root.ensures.numbered c.args.settings c.reserve.new.self b in
+    subst (λ (x : Node). c.end.new.self.checks ≡ true → IsFit c.end.new.self x) (sym c.root-root.ensures.root)
+    (fit_last program (IsShaped-no_fault program c.root-root.ensures.shaped) c.root-root.ensures.numbered c.args.settings c.reserve.new.self c.visit.new.self c.end.new.self b
+    (c.in_ok-visit.ensures.walks ds p own 1 (sym c.root-root.ensures.root) refl coming) c.in_ok-end.ensures.made
+    (c.in_ok-visit.ensures.leaves ds p own 1 (sym c.root-root.ensures.root) refl coming))
+
+module _ (g : given.Over) (c : goal.After-tell_rest g) where
   abbrev program : Tree
   program = c.args.program.now
 
+  abbrev ds : List Declaration
+  ds = written_declarations (steps program)
+
+  abbrev place : Place
+  place = root_place program
+
+  abbrev own : Option OpenScope
+  own = Some (root_scope place)
+
   fits : first_fault program ≡ None
-  fits = IsShaped-no_fault program c.root.ensures.shaped
+  fits = IsShaped-no_fault program c.root-root.ensures.shaped
 
-  -- the walk, which has room now, has made no more
-  begins : c.reserve.new.self ≡ begun program c.reserve.new.self.namesakes keeps on
-  begins = subst (λ (w : Walker). w ≡ begun program w.namesakes keeps on) (sym c.reserve.ensures) first
+  begins : IsBegun c.args.settings c.reserve.new.self program
+  begins = has_room c.args.settings c.args.walk.now c.reserve.new.self program c.requires c.reserve.ensures
 
-  named : AreNamesOf program c.reserve.new.self.namesakes
-  named = subst (λ (w : Walker). AreNamesOf program w.namesakes) (sym c.reserve.ensures) names
+  coming : IsComing ds c.reserve.new.self place own 1
+  coming = walk_comes program c.root-root.ensures.shaped c.root-root.ensures.numbered c.args.settings c.reserve.new.self begins
 
   -- the walk goes over the whole program
-  over : c.visit.new.self ≡ walked_over (written_declarations (steps program)) c.reserve.new.self (root_place program) (Some (root_scope (root_place program))) 1
-  over =
-      c.in_ok-visit.ensures.walks (written_declarations (steps program)) (root_place program) (Some (root_scope (root_place program))) 1 (sym c.root.ensures.root) refl
-      (walk_comes program fits c.root.ensures.numbered keeps on c.reserve.new.self begins named)
+  within : c.visit.new.self ≡ root_within program c.reserve.new.self
+  within = c.in_ok-visit.ensures.walks ds place own 1 (sym c.root-root.ensures.root) refl coming
 
-  -- what the walk has made is what its definition says
+  -- what it has made is what its definition says
   whole : c.end.new.self.made ≡ walked program
-  whole = walk_ends program fits keeps on c.reserve.new.self c.visit.new.self c.end.new.self begins over c.in_ok-end.ensures
+  whole = walk_ends program fits c.args.settings c.reserve.new.self c.visit.new.self c.end.new.self begins within c.in_ok-end.ensures.made
+
+  left : c.leave.new.self ≡ left_at c.end.new.self place
+  left = c.in_ok-leave.ensures.made place (sym c.root-root.ensures.root)
+      (shows_last program fits c.root-root.ensures.numbered c.args.settings c.reserve.new.self c.visit.new.self c.end.new.self begins within c.in_ok-end.ensures.made
+      (c.in_ok-visit.ensures.leaves ds place own 1 (sym c.root-root.ensures.root) refl coming))
+
+  -- so is what it tells
+  said : so_far (telling_of c.leave.new.self) ≡ diagnostics_of c.args.settings.checks program
+  said = tells_all program fits c.root-root.ensures.numbered c.args.settings c.reserve.new.self c.visit.new.self c.end.new.self begins within c.in_ok-end.ensures.made c.leave.new.self left
+
+  abbrev Told : Type 0
+  Told = c.tell_rest.new.self ≡ record c.leave.new.self { said = so_far (telling_of c.leave.new.self); counted = length c.leave.new.self.made.conflicts }
+
+  made_is : Told → c.tell_rest.new.self.made ≡ walked program
+  made_is told = ap (λ (w : Walker). w.made) told ∙ ap (λ (w : Walker). w.made) left ∙ whole
+
+  over : (c.leave.new.self.nodes ≡ (root_over program c.reserve.new.self).nodes) × (c.leave.new.self.notes ≡ (root_over program c.reserve.new.self).notes)
+  over = walk_leaves program c.reserve.new.self c.visit.new.self c.end.new.self c.leave.new.self coming within c.in_ok-end.ensures.made left
+
+  notes_are : Told → c.tell_rest.new.self.notes ≡ (root_over program c.reserve.new.self).notes
+  notes_are told = ap (λ (w : Walker). w.notes) told ∙ over.1
 
   -- the program's tables are as the laws say, so these are
-  analysed : (t : Tables) → t ≡ tables_of program → (diagnostics : List Diagnostic) → diagnostics ≡ map told c.end.new.self.made.conflicts → IsAnalysis program t diagnostics
+  analysed : (t : Tables) → t ≡ tables_of program → (diagnostics : List Diagnostic) → diagnostics ≡ diagnostics_of c.args.settings.checks program → IsAnalysis c.args.settings.checks program t diagnostics
   analysed t e diagnostics d = record {
     tables = e;
     fits = subst (FitsProgram program) (sym e) (tables_fit program fits);
@@ -59,26 +125,78 @@ module _ (g : given.Over) (c : goal.After-diagnostics g) (keeps on : Bool) (firs
     lists = subst StandsInOneList (sym e) (one_list program (tables_fit program fits).references_stand_once);
     bindings = subst BindingsAreSymbols (sym e) (bindings_owned program (has_form program fits));
     redeclarations = subst ListsBeginWithOwn (sym e) (lists_begin program);
-    told_of = d ∙ ap (map told) (root_conflicts program fits c.end.new.self.made whole);
+    told_of = d;
   }
 
 pub returns-clause-analysis : goal.returns-clause-analysis
-returns-clause-analysis g c = λ keeps on first names.
-    of_answer c.diagnostics.result (λ ds. ds ≡ map told c.end.new.self.made.conflicts) (λ ds. IsAnalysis c.args.program.now c.end.new.self.made.tables ds)
-    (λ ds d. analysed g c keeps on first names c.end.new.self.made.tables (root_tables c.args.program.now (fits g c keeps on first names) c.end.new.self.made (whole g c keeps on first names)) ds d) c.diagnostics.ensures
+returns-clause-analysis g c = on_ok c.tell_rest.result c.tell_rest.ensures (λ told.
+    analysed g c c.tell_rest.new.self.made.tables (root_tables c.args.program.now (fits g c) c.tell_rest.new.self.made (made_is g c told))
+    c.tell_rest.new.self.said (ap (λ (w : Walker). w.said) told ∙ said g c))
 
 pub returns-clause-nodes : goal.returns-clause-nodes
-returns-clause-nodes g c = λ keeps on first names.
-    to_ok c.diagnostics.result _ (root_nodes c.args.program.now (fits g c keeps on first names) c.root.ensures.numbered c.end.new.self.made (whole g c keeps on first names))
+returns-clause-nodes g c = on_ok c.tell_rest.result c.tell_rest.ensures (λ told. root_nodes c.args.program.now (fits g c) c.root-root.ensures.numbered c.tell_rest.new.self.made (made_is g c told))
 
 pub returns-clause-node_list : goal.returns-clause-node_list
-returns-clause-node_list g c = λ keeps on first names.
-    to_ok c.diagnostics.result _ (walk_lists c.args.program.now (fits g c keeps on first names) keeps on c.reserve.new.self c.visit.new.self c.end.new.self (begins g c keeps on first names) (over g c keeps on first names) c.in_ok-end.ensures)
+returns-clause-node_list g c = on_ok c.tell_rest.result c.tell_rest.ensures (λ told.
+    walk_lists c.args.program.now (fits g c) c.args.settings c.reserve.new.self c.tell_rest.new.self (begins g c) (ap (λ (w : Walker). w.nodes) told ∙ (over g c).0))
 
 pub returns-clause-classes : goal.returns-clause-classes
-returns-clause-classes g c = λ keeps on first names.
-    to_ok c.diagnostics.result _ (walk_classes c.args.program.now (fits g c keeps on first names) keeps on c.reserve.new.self c.visit.new.self c.end.new.self (begins g c keeps on first names) (over g c keeps on first names) c.in_ok-end.ensures)
+returns-clause-classes g c = on_ok c.tell_rest.result c.tell_rest.ensures (λ told. walk_classes c.args.program.now (fits g c) c.args.settings c.reserve.new.self c.tell_rest.new.self (begins g c) (notes_are g c told))
 
 pub returns-clause-labels : goal.returns-clause-labels
-returns-clause-labels g c = λ keeps on first names.
-    to_ok c.diagnostics.result _ (walk_labels c.args.program.now (fits g c keeps on first names) keeps on c.reserve.new.self c.visit.new.self c.end.new.self (begins g c keeps on first names) (over g c keeps on first names) c.in_ok-end.ensures)
+returns-clause-labels g c = on_ok c.tell_rest.result c.tell_rest.ensures (λ told. walk_labels c.args.program.now (fits g c) c.args.settings c.reserve.new.self c.tell_rest.new.self (begins g c) (notes_are g c told))
+
+pub returns-clause-cost : goal.returns-clause-cost
+returns-clause-cost g c =
+    let program : Tree = c.args.program.now in
+    let fits : first_fault program ≡ None = IsShaped-no_fault program c.root-root.ensures.shaped in
+    let b : IsBegun c.args.settings c.reserve.new.self program = has_room c.args.settings c.args.walk.now c.reserve.new.self program c.requires c.reserve.ensures in
+    let coming : IsComing (written_declarations (steps program)) c.reserve.new.self (root_place program) (Some (root_scope (root_place program))) 1 =
+    walk_comes program c.root-root.ensures.shaped c.root-root.ensures.numbered c.args.settings c.reserve.new.self b in
+    on_success c.tell_rest.result
+    (root_counts program fits c.args.settings c.reserve.new.self b c.visit.new.self c.args.steps.now c.visit.new.steps c.end.new.steps (c.in_ok-visit.ensures.walks (written_declarations (steps program)) (root_place program) (Some (root_scope (root_place program))) 1 (sym c.root-root.ensures.root) refl coming)
+    (c.in_ok-visit.ensures.cost (written_declarations (steps program)) (root_place program) (Some (root_scope (root_place program))) 1 (sym c.root-root.ensures.root) refl coming) c.in_ok-end.ensures.cost)
+
+pub returns-clause-given_up : goal.returns-clause-given_up
+returns-clause-given_up g c =
+    let program : Tree = c.args.program.now in
+    let fits : first_fault program ≡ None = IsShaped-no_fault program c.root-root.ensures.shaped in
+    let b : IsBegun c.args.settings c.reserve.new.self program = has_room c.args.settings c.args.walk.now c.reserve.new.self program c.requires c.reserve.ensures in
+    let coming : IsComing (written_declarations (steps program)) c.reserve.new.self (root_place program) (Some (root_scope (root_place program))) 1 =
+    walk_comes program c.root-root.ensures.shaped c.root-root.ensures.numbered c.args.settings c.reserve.new.self b in
+    on_err c.tell_rest.result
+    (end_given_up program fits c.args.settings c.reserve.new.self b c.visit.new.self c.args.steps.now c.visit.new.steps c.end.new.steps (c.in_ok-visit.ensures.walks (written_declarations (steps program)) (root_place program) (Some (root_scope (root_place program))) 1 (sym c.root-root.ensures.root) refl coming)
+    (c.in_ok-visit.ensures.cost (written_declarations (steps program)) (root_place program) (Some (root_scope (root_place program))) 1 (sym c.root-root.ensures.root) refl coming) (omega (arith, c.in_ok-end.ensures.cost)))
+
+pub returns-in_err-leave-clause-given_up : goal.returns-in_err-leave-clause-given_up
+returns-in_err-leave-clause-given_up g c =
+    let program : Tree = c.args.program.now in
+    let fits : first_fault program ≡ None = IsShaped-no_fault program c.root-root.ensures.shaped in
+    let b : IsBegun c.args.settings c.reserve.new.self program = has_room c.args.settings c.args.walk.now c.reserve.new.self program c.requires c.reserve.ensures in
+    let coming : IsComing (written_declarations (steps program)) c.reserve.new.self (root_place program) (Some (root_scope (root_place program))) 1 =
+    walk_comes program c.root-root.ensures.shaped c.root-root.ensures.numbered c.args.settings c.reserve.new.self b in
+    on_err c.from_residual-in_err-leave.result
+    (end_given_up program fits c.args.settings c.reserve.new.self b c.visit.new.self c.args.steps.now c.visit.new.steps c.end.new.steps (c.in_ok-visit.ensures.walks (written_declarations (steps program)) (root_place program) (Some (root_scope (root_place program))) 1 (sym c.root-root.ensures.root) refl coming)
+    (c.in_ok-visit.ensures.cost (written_declarations (steps program)) (root_place program) (Some (root_scope (root_place program))) 1 (sym c.root-root.ensures.root) refl coming) (omega (arith, c.in_ok-end.ensures.cost)))
+
+pub returns-in_err-end-clause-given_up : goal.returns-in_err-end-clause-given_up
+returns-in_err-end-clause-given_up g c =
+    let program : Tree = c.args.program.now in
+    let fits : first_fault program ≡ None = IsShaped-no_fault program c.root-root.ensures.shaped in
+    let b : IsBegun c.args.settings c.reserve.new.self program = has_room c.args.settings c.args.walk.now c.reserve.new.self program c.requires c.reserve.ensures in
+    let coming : IsComing (written_declarations (steps program)) c.reserve.new.self (root_place program) (Some (root_scope (root_place program))) 1 =
+    walk_comes program c.root-root.ensures.shaped c.root-root.ensures.numbered c.args.settings c.reserve.new.self b in
+    on_err c.from_residual-in_err-end.result
+    (end_given_up program fits c.args.settings c.reserve.new.self b c.visit.new.self c.args.steps.now c.visit.new.steps c.end.new.steps (c.in_ok-visit.ensures.walks (written_declarations (steps program)) (root_place program) (Some (root_scope (root_place program))) 1 (sym c.root-root.ensures.root) refl coming)
+    (c.in_ok-visit.ensures.cost (written_declarations (steps program)) (root_place program) (Some (root_scope (root_place program))) 1 (sym c.root-root.ensures.root) refl coming) c.in_err-end.ensures.given_up)
+
+pub returns-in_err-visit-clause-given_up : goal.returns-in_err-visit-clause-given_up
+returns-in_err-visit-clause-given_up g c =
+    let program : Tree = c.args.program.now in
+    let fits : first_fault program ≡ None = IsShaped-no_fault program c.root-root.ensures.shaped in
+    let b : IsBegun c.args.settings c.reserve.new.self program = has_room c.args.settings c.args.walk.now c.reserve.new.self program c.requires c.reserve.ensures in
+    let coming : IsComing (written_declarations (steps program)) c.reserve.new.self (root_place program) (Some (root_scope (root_place program))) 1 =
+    walk_comes program c.root-root.ensures.shaped c.root-root.ensures.numbered c.args.settings c.reserve.new.self b in
+    on_err c.from_residual-in_err-visit.result
+    (root_given_up program fits c.args.settings c.reserve.new.self b c.args.steps.now c.visit.new.steps
+    (c.in_err-visit.ensures.given_up (written_declarations (steps program)) (root_place program) (Some (root_scope (root_place program))) 1 (sym c.root-root.ensures.root) refl coming))

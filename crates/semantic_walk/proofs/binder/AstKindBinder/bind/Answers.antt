@@ -76,6 +76,10 @@ returns-in-TSEnumMember-clause-entering c = λ ds p e outside within shown.
     on_ok_same c.bind_member.result c.bind_member.new.self _ _
     (members_act ds c.args.walk.now p within c.args.self.now.node.now e (ap (λ (n : Node). n.kind) e ∙ sym c.ty.ensures ∙ c.in-TSEnumMember.is)) c.bind_member.ensures.made
 
+pub returns-in-TSNamespaceDeclaration-clause-entering : goal.returns-in-TSNamespaceDeclaration-clause-entering
+returns-in-TSNamespaceDeclaration-clause-entering c = λ ds p e outside within shown.
+    c.bind_namespace.ensures.made ds p e within (ap (λ (n : Node). n.kind) e ∙ sym c.ty.ensures ∙ c.in-TSNamespaceDeclaration.is) shown.stated
+
 pub returns-in-TSMappedType-clause-opening : goal.returns-in-TSMappedType-clause-opening
 returns-in-TSMappedType-clause-opening c = λ ds p own e inside within.
     on_ok_same c.bind_at.result c.bind_at.new.self _ _

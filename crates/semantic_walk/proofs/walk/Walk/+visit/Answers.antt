@@ -1,23 +1,24 @@
-use Rattle.std.proofs.Common.{◌≡◌, ℕ, List, [], ◌∷◌, Option, None, option_map, refl, ap, sym, subst, ◌∙◌, length, take, ◌-◌, arith}
+use Rattle.std.proofs.Common.{◌≡◌, ◌<◌, ℕ, List, [], ◌∷◌, Option, None, refl, ap, sym, subst, ◌∙◌, length, arith}
 use Rattle.semantic_kinds.specs.declared.role.Role.{Role}
 use Rattle.semantic_kinds.specs.declared.kind.AstType.{AstType}
 use Rattle.semantic_tree.specs.Forest.{Forest, nothing, count}
 use Rattle.semantic_tree.specs.Children.{forest_of}
 use Rattle.semantic_tree.specs.declared.node.Node.{Node}
 use Rattle.semantic_model.specs.Place.{Place, OpenScope}
-use Rattle.semantic_model.specs.Cursor.{cursor_behind, on_leaving}
+use Rattle.semantic_model.specs.Cursor.{cursor_behind}
 use Rattle.semantic_model.specs.Step.{scope_at, next_at, ending_after}
 use Rattle.walk_model.specs.Standing.{Standing}
 use Rattle.walk_model.specs.Waits.{HoldsAt, start_at}
 use Rattle.walk_model.specs.Walks.{after_all}
-use Rattle.node_store.specs.Entered.{leaving}
-use Rattle.walk_notes.specs.NoteLists.{leaving as leaving_notes}
 use Rattle.semantic_walk.specs.Walker.{Walker}
-use Rattle.semantic_walk.specs.AtPlace.{IsComing, walked_over}
+use Rattle.semantic_walk.specs.AtPlace.{IsComing, IsSomewhere, left_at, walked_over}
+use Rattle.semantic_walk.specs.Leaving.{IsLeaving}
 use Rattle.semantic_walk.specs.declared.visit.Turn.{Turn}
 use Rattle.table_building.proofs.Growing.{goes-refl, grows-trans}
 use Rattle.semantic_walk.proofs.TurnEnds.{on_ok}
-use Rattle.semantic_walk.proofs.Visiting.{Rests, rests_first, rests_past, walked, place_of, comes_to_child, holds_past, behind_child}
+use Rattle.semantic_walk.proofs.Visiting.{Rests, rests_first, rests_past, walked, left_is, place_of, comes_to_child, holds_past, behind_child}
+use Rattle.semantic_walk.proofs.Counting.{left_past, rests_so_far, rests_end, rests_child, rests_ending, on_err, on_success}
+use Rattle.semantic_walk.proofs.Leaves.{leaves, shows_rows}
 use Rattle.semantic_walk.proofs.walk.Walk.+visit.Goals as goal
 
 pub loop-child_role-init : goal.loop-child_role-init
@@ -28,8 +29,9 @@ loop-child_role-init g t c =
       turn = c.turn-turn.ensures.stands;
       goes = goes-refl c.enter.new.self.made;
       start = omega (arith, ap (λ (u : Turn). u.header_start) c.turn-turn.ensures.value);
+      risen = omega arith;
       rests = λ ds p own n node role coming.
-          rests_first ds c.args.self.now p own n c.enter.new.self c.turn-turn.result c.ty.result (forest_of c.as_slice-left.result.now) coming
+          rests_first ds c.args.self.now p own n c.enter.new.self c.turn-turn.result c.ty.result (forest_of c.as_slice-left.result.now) c.args.steps.now coming
           (c.ty.ensures ∙ sym (ap (λ (x : Node). x.kind) node)) (same ∙ sym (ap (λ (x : Node). x.children) node))
           (c.in_ok-enter.ensures.walks ds p node coming.comes coming.shown) c.turn-turn.ensures.value;
     }
@@ -38,7 +40,8 @@ pub loop-child_role-preserved : goal.loop-child_role-preserved
 loop-child_role-preserved g t c =
     let w : Walker = c.loop-child_role.self in
     let v : Walker = c.begin_child.new.self in
-    let past : Walker = c.visit.new.self in
+    let within : Walker = c.visit.new.self in
+    let past : Walker = c.leave.new.self in
     let rest : List (Role × Node) = c.in-Some.rest.now in
     let child : Role × Node = (c.in-Some.field-0-0.now.0, c.new-child.result.node.now) in
     let split : c.loop-child_role.left.now ≡ child ∷ rest = c.in-Some.ensures.cases.0 ∙ ap (λ (x : Node). (c.in-Some.field-0-0.now.0, x) ∷ rest) (sym c.new-child.ensures) in
@@ -47,22 +50,27 @@ loop-child_role-preserved g t c =
       turn = c.in_ok-finish_child.ensures.stands;
       goes = record {
         tables = grows-trans c.enter.new.self.made.tables past.made.tables c.finish_child.new.self.made.tables
-            (grows-trans c.enter.new.self.made.tables v.made.tables past.made.tables
+            (grows-trans c.enter.new.self.made.tables within.made.tables past.made.tables
+            (grows-trans c.enter.new.self.made.tables v.made.tables within.made.tables
             (grows-trans c.enter.new.self.made.tables w.made.tables v.made.tables c.loop-child_role.invariant.goes.tables c.in_ok-begin_child.ensures.goes.tables) c.in_ok-visit.ensures.goes.tables)
+            c.in_ok-leave.ensures.goes.tables)
             c.in_ok-finish_child.ensures.grows;
         waiting = omega (arith, c.loop-child_role.invariant.start, c.in_ok-begin_child.ensures.start, c.in_ok-finish_child.ensures.stands.start);
       };
       start = omega (arith, c.loop-child_role.invariant.start, c.in_ok-begin_child.ensures.start);
+      risen = omega (arith, c.loop-child_role.invariant.risen, c.in_ok-visit.ensures.risen, c.in_ok-finish_child.ensures.risen);
       rests = λ ds p own n node role coming.
-          let h : Rests ds c.args.self.now p own n w c.loop-child_role.turn (forest_of (child ∷ rest)) =
-          subst (λ (xs : List (Role × Node)). Rests ds c.args.self.now p own n w c.loop-child_role.turn (forest_of xs)) split (c.loop-child_role.invariant.rests ds p own n node role coming) in
+          let h : Rests ds c.args.self.now p own n c.args.steps.now c.loop-child_role.steps w c.loop-child_role.turn (forest_of (child ∷ rest)) =
+          subst (λ (xs : List (Role × Node)). Rests ds c.args.self.now p own n c.args.steps.now c.loop-child_role.steps w c.loop-child_role.turn (forest_of xs)) split (c.loop-child_role.invariant.rests ds p own n node role coming) in
           let scope : Option OpenScope = scope_at p child.0 h.scope h.next in
           let next : ℕ = next_at p child.0 h.scope h.next in
           let start : ℕ = start_at p child.0 h.scope h.start w.made in
           let place : Place = place_of p h.scope h.next h.cursor child in
           let came = c.in_ok-begin_child.ensures.comes ds p h.scope h.next h.cursor h.start rest node role h.between in
-          let comes : IsComing ds v place None next = comes_to_child ds p h.scope h.next h.cursor h.start child rest w v c.loop-child_role.turn h.between h.kept came.0 in
-          let went : past ≡ walked_over ds v place None next = c.in_ok-visit.ensures.walks ds place None next refl refl comes in
+          let comes : IsComing ds v place None next = comes_to_child ds p h.scope h.next h.cursor h.start child rest w v c.loop-child_role.turn h.between h.kept h.ready h.limit came.0 in
+          let left : IsLeaving within place = c.in_ok-visit.ensures.leaves ds place None next refl refl comes in
+          let went : past ≡ walked_over ds v place None next =
+          c.in_ok-leave.ensures.made place refl (shows_rows within place left comes.root) ∙ ap (λ (u : Walker). left_at u place) (c.in_ok-visit.ensures.walks ds place None next refl refl comes) ∙ left_is ds v place None next comes in
           let holds : HoldsAt past.made scope start = holds_past ds p h.scope h.next h.cursor h.start child rest w v past c.loop-child_role.turn h.between came.0 went in
           let made : Standing = after_all ds past.made (ending_after p child.0 scope (forest_of rest)) in
           let kind_same : c.ty-in-Some.result ≡ p.node.kind = c.ty-in-Some.ensures ∙ sym (ap (λ (x : Node). x.kind) node) in
@@ -70,12 +78,54 @@ loop-child_role-preserved g t c =
           c.in_ok-finish_child.ensures.ends ds p scope start (sym kind_same) came.1 holds
           ∙ ap (λ (k : AstType). behind_child past made p (cursor_behind k child.0 c.cursor-before.result.bits past.cursor)) kind_same
           ∙ ap (λ (m : ℕ). behind_child past made p (cursor_behind p.node.kind child.0 m past.cursor)) c.cursor-before.ensures in
-          rests_past ds c.args.self.now p own n child rest w v past c.finish_child.new.self c.loop-child_role.turn c.begin_child.new.turn h came.0 came.1 went ended;
+          let asks = left_past ds p h.scope h.next h.cursor h.start child rest w v past came.0 went c.finish_child.new.self c.loop-child_role.steps c.visit.new.steps c.finish_child.new.steps ended
+          (c.in_ok-visit.ensures.cost ds place None next refl refl comes) (c.in_ok-finish_child.ensures.cost ds p scope start (sym kind_same) came.1 holds) in
+          rests_past ds c.args.self.now p own n child rest w v past c.finish_child.new.self c.loop-child_role.turn c.begin_child.new.turn c.args.steps.now c.loop-child_role.steps c.finish_child.new.steps h came.0 came.1 went ended asks;
     }
 
--- the node is left
-abbrev left_at : Node → Walker → Walker
-left_at x last = record last { path = take (length last.path - 1) last.path; cursor = on_leaving x.kind last.cursor; nodes = option_map leaving last.nodes; notes = leaving_notes x last.notes }
+-- a child stands somewhere in the program in which its parent does
+pub visit-requires : goal.visit-requires
+visit-requires g t c =
+    let r : IsSomewhere c.args.self.now c.args.kind.node.now c.args.role = c.requires in
+    let w : Walker = c.loop-child_role.self in
+    let v : Walker = c.begin_child.new.self in
+    let rest : List (Role × Node) = c.in-Some.rest.now in
+    let child : Role × Node = (c.in-Some.field-0-0.now.0, c.new-child.result.node.now) in
+    let split : c.loop-child_role.left.now ≡ child ∷ rest = c.in-Some.ensures.cases.0 ∙ ap (λ (x : Node). (c.in-Some.field-0-0.now.0, x) ∷ rest) (sym c.new-child.ensures) in
+    let h : Rests r.ds c.args.self.now r.place r.own r.next c.args.steps.now c.loop-child_role.steps w c.loop-child_role.turn (forest_of (child ∷ rest)) =
+    subst (λ (xs : List (Role × Node)). Rests r.ds c.args.self.now r.place r.own r.next c.args.steps.now c.loop-child_role.steps w c.loop-child_role.turn (forest_of xs)) split
+    (c.loop-child_role.invariant.rests r.ds r.place r.own r.next r.node_is r.role_is r.coming) in
+    let came = c.in_ok-begin_child.ensures.comes r.ds r.place h.scope h.next h.cursor h.start rest r.node_is r.role_is h.between in
+    let there : IsSomewhere v child.1 child.0 = record {
+      ds = r.ds;
+      place = place_of r.place h.scope h.next h.cursor child;
+      own = None;
+      next = next_at r.place child.0 h.scope h.next;
+      node_is = refl;
+      role_is = refl;
+      coming = comes_to_child r.ds r.place h.scope h.next h.cursor h.start child rest w v c.loop-child_role.turn h.between h.kept h.ready h.limit came.0;
+    } in
+    let smaller : count child.1.children < t = omega (arith, c.loop-child_role.invariant.left, ap (λ (xs : List (Role × Node)). count (forest_of xs)) split, c.decreases) in
+    λ κs out. (smaller, (out, there))
+
+-- and once all below it is walked, it may be checked
+pub leave-requires : goal.leave-requires
+leave-requires g t c =
+    let r : IsSomewhere c.args.self.now c.args.kind.node.now c.args.role = c.requires in
+    let w : Walker = c.loop-child_role.self in
+    let v : Walker = c.begin_child.new.self in
+    let rest : List (Role × Node) = c.in-Some.rest.now in
+    let child : Role × Node = (c.in-Some.field-0-0.now.0, c.new-child.result.node.now) in
+    let split : c.loop-child_role.left.now ≡ child ∷ rest = c.in-Some.ensures.cases.0 ∙ ap (λ (x : Node). (c.in-Some.field-0-0.now.0, x) ∷ rest) (sym c.new-child.ensures) in
+    let h : Rests r.ds c.args.self.now r.place r.own r.next c.args.steps.now c.loop-child_role.steps w c.loop-child_role.turn (forest_of (child ∷ rest)) =
+    subst (λ (xs : List (Role × Node)). Rests r.ds c.args.self.now r.place r.own r.next c.args.steps.now c.loop-child_role.steps w c.loop-child_role.turn (forest_of xs)) split
+    (c.loop-child_role.invariant.rests r.ds r.place r.own r.next r.node_is r.role_is r.coming) in
+    let came = c.in_ok-begin_child.ensures.comes r.ds r.place h.scope h.next h.cursor h.start rest r.node_is r.role_is h.between in
+    let place : Place = place_of r.place h.scope h.next h.cursor child in
+    let next : ℕ = next_at r.place child.0 h.scope h.next in
+    let comes : IsComing r.ds v place None next = comes_to_child r.ds r.place h.scope h.next h.cursor h.start child rest w v c.loop-child_role.turn h.between h.kept h.ready h.limit came.0 in
+    let left : IsLeaving c.visit.new.self place = c.in_ok-visit.ensures.leaves r.ds place None next refl refl comes in
+    left.fit
 
 no_children : (items : List (Role × Node)) → length items ≡ 0 → forest_of items ≡ nothing
 no_children [] h = refl
@@ -84,10 +134,87 @@ no_children (x ∷ xs) h = absurd (omega arith)
 pub returns-clause-walks : goal.returns-clause-walks
 returns-clause-walks g t c = λ ds p own n node role coming.
     let w : Walker = c.loop-child_role.self in
-    let last : Walker = c.open_last.new.self in
-    let h : Rests ds c.args.self.now p own n w c.loop-child_role.turn nothing =
-    subst (λ (f : Forest). Rests ds c.args.self.now p own n w c.loop-child_role.turn f) (no_children c.loop-child_role.left.now c.in_default.ensures.cases) (c.loop-child_role.invariant.rests ds p own n node role coming) in
-    on_ok c.leave.result c.leave.ensures.made
-    (λ made.
-    walked ds c.args.self.now p own n w last c.leave.new.self c.loop-child_role.turn coming h (c.in_ok-open_last.ensures.ends ds p h.scope h.next h.cursor h.start node role h.between)
-    (◌∙◌ {b = left_at c.args.kind.node.now last} made (ap (λ (x : Node). left_at x last) (sym node))))
+    let h : Rests ds c.args.self.now p own n c.args.steps.now c.loop-child_role.steps w c.loop-child_role.turn nothing =
+    subst (λ (f : Forest). Rests ds c.args.self.now p own n c.args.steps.now c.loop-child_role.steps w c.loop-child_role.turn f) (no_children c.loop-child_role.left.now c.in_default.ensures.cases) (c.loop-child_role.invariant.rests ds p own n node role coming) in
+    on_ok c.open_last.result (c.open_last.ensures.ends ds p h.scope h.next h.cursor h.start node role h.between) (walked ds c.args.self.now p own n w c.open_last.new.self c.loop-child_role.turn c.args.steps.now c.loop-child_role.steps coming h)
+
+pub returns-clause-leaves : goal.returns-clause-leaves
+returns-clause-leaves g t c = λ ds p own n node role coming.
+    let w : Walker = c.loop-child_role.self in
+    let h : Rests ds c.args.self.now p own n c.args.steps.now c.loop-child_role.steps w c.loop-child_role.turn nothing =
+    subst (λ (f : Forest). Rests ds c.args.self.now p own n c.args.steps.now c.loop-child_role.steps w c.loop-child_role.turn f) (no_children c.loop-child_role.left.now c.in_default.ensures.cases) (c.loop-child_role.invariant.rests ds p own n node role coming) in
+    on_ok c.open_last.result (c.open_last.ensures.ends ds p h.scope h.next h.cursor h.start node role h.between) (leaves ds c.args.self.now p own n w c.open_last.new.self c.loop-child_role.turn c.args.steps.now c.loop-child_role.steps coming h)
+
+pub returns-clause-cost : goal.returns-clause-cost
+returns-clause-cost g t c = λ ds p own n node role coming.
+    let w : Walker = c.loop-child_role.self in
+    let h : Rests ds c.args.self.now p own n c.args.steps.now c.loop-child_role.steps w c.loop-child_role.turn nothing =
+    subst (λ (f : Forest). Rests ds c.args.self.now p own n c.args.steps.now c.loop-child_role.steps w c.loop-child_role.turn f) (no_children c.loop-child_role.left.now c.in_default.ensures.cases) (c.loop-child_role.invariant.rests ds p own n node role coming) in
+    on_success c.open_last.result (rests_end ds c.args.self.now p own n c.args.steps.now c.loop-child_role.steps w c.loop-child_role.turn h)
+
+pub returns-clause-given_up : goal.returns-clause-given_up
+returns-clause-given_up g t c = λ ds p own n node role coming.
+    on_err c.open_last.result
+    (rests_so_far ds c.args.self.now p own n c.args.steps.now c.loop-child_role.steps c.loop-child_role.self c.loop-child_role.turn (forest_of c.loop-child_role.left.now) (c.loop-child_role.invariant.rests ds p own n node role coming))
+
+pub returns-in_err-begin_child-clause-given_up : goal.returns-in_err-begin_child-clause-given_up
+returns-in_err-begin_child-clause-given_up g t c = λ ds p own n node role coming.
+    on_err c.from_residual-in_err-begin_child.result
+    (rests_so_far ds c.args.self.now p own n c.args.steps.now c.loop-child_role.steps c.loop-child_role.self c.loop-child_role.turn (forest_of c.loop-child_role.left.now) (c.loop-child_role.invariant.rests ds p own n node role coming))
+
+pub returns-in_err-visit-clause-given_up : goal.returns-in_err-visit-clause-given_up
+returns-in_err-visit-clause-given_up g t c = λ ds p own n node role coming.
+    let w : Walker = c.loop-child_role.self in
+    let v : Walker = c.begin_child.new.self in
+    let rest : List (Role × Node) = c.in-Some.rest.now in
+    let child : Role × Node = (c.in-Some.field-0-0.now.0, c.new-child.result.node.now) in
+    let split : c.loop-child_role.left.now ≡ child ∷ rest = c.in-Some.ensures.cases.0 ∙ ap (λ (x : Node). (c.in-Some.field-0-0.now.0, x) ∷ rest) (sym c.new-child.ensures) in
+    let h : Rests ds c.args.self.now p own n c.args.steps.now c.loop-child_role.steps w c.loop-child_role.turn (forest_of (child ∷ rest)) =
+    subst (λ (xs : List (Role × Node)). Rests ds c.args.self.now p own n c.args.steps.now c.loop-child_role.steps w c.loop-child_role.turn (forest_of xs)) split (c.loop-child_role.invariant.rests ds p own n node role coming) in
+    let next : ℕ = next_at p child.0 h.scope h.next in
+    let place : Place = place_of p h.scope h.next h.cursor child in
+    let came = c.in_ok-begin_child.ensures.comes ds p h.scope h.next h.cursor h.start rest node role h.between in
+    let comes : IsComing ds v place None next = comes_to_child ds p h.scope h.next h.cursor h.start child rest w v c.loop-child_role.turn h.between h.kept h.ready h.limit came.0 in
+    on_err c.from_residual-in_err-visit.result
+    (rests_child ds c.args.self.now p own n c.args.steps.now c.loop-child_role.steps w c.loop-child_role.turn child rest h v came.0 c.visit.new.steps (c.in_err-visit.ensures.given_up ds place None next refl refl comes))
+
+pub returns-in_err-leave-clause-given_up : goal.returns-in_err-leave-clause-given_up
+returns-in_err-leave-clause-given_up g t c = λ ds p own n node role coming.
+    let w : Walker = c.loop-child_role.self in
+    let v : Walker = c.begin_child.new.self in
+    let rest : List (Role × Node) = c.in-Some.rest.now in
+    let child : Role × Node = (c.in-Some.field-0-0.now.0, c.new-child.result.node.now) in
+    let split : c.loop-child_role.left.now ≡ child ∷ rest = c.in-Some.ensures.cases.0 ∙ ap (λ (x : Node). (c.in-Some.field-0-0.now.0, x) ∷ rest) (sym c.new-child.ensures) in
+    let h : Rests ds c.args.self.now p own n c.args.steps.now c.loop-child_role.steps w c.loop-child_role.turn (forest_of (child ∷ rest)) =
+    subst (λ (xs : List (Role × Node)). Rests ds c.args.self.now p own n c.args.steps.now c.loop-child_role.steps w c.loop-child_role.turn (forest_of xs)) split (c.loop-child_role.invariant.rests ds p own n node role coming) in
+    let next : ℕ = next_at p child.0 h.scope h.next in
+    let place : Place = place_of p h.scope h.next h.cursor child in
+    let came = c.in_ok-begin_child.ensures.comes ds p h.scope h.next h.cursor h.start rest node role h.between in
+    let comes : IsComing ds v place None next = comes_to_child ds p h.scope h.next h.cursor h.start child rest w v c.loop-child_role.turn h.between h.kept h.ready h.limit came.0 in
+    on_err c.from_residual-in_err-leave.result
+    (rests_child ds c.args.self.now p own n c.args.steps.now c.loop-child_role.steps w c.loop-child_role.turn child rest h v came.0 c.visit.new.steps (omega (arith, c.in_ok-visit.ensures.cost ds place None next refl refl comes)))
+
+pub returns-in_err-finish_child-clause-given_up : goal.returns-in_err-finish_child-clause-given_up
+returns-in_err-finish_child-clause-given_up g t c = λ ds p own n node role coming.
+    let w : Walker = c.loop-child_role.self in
+    let v : Walker = c.begin_child.new.self in
+    let rest : List (Role × Node) = c.in-Some.rest.now in
+    let child : Role × Node = (c.in-Some.field-0-0.now.0, c.new-child.result.node.now) in
+    let split : c.loop-child_role.left.now ≡ child ∷ rest = c.in-Some.ensures.cases.0 ∙ ap (λ (x : Node). (c.in-Some.field-0-0.now.0, x) ∷ rest) (sym c.new-child.ensures) in
+    let h : Rests ds c.args.self.now p own n c.args.steps.now c.loop-child_role.steps w c.loop-child_role.turn (forest_of (child ∷ rest)) =
+    subst (λ (xs : List (Role × Node)). Rests ds c.args.self.now p own n c.args.steps.now c.loop-child_role.steps w c.loop-child_role.turn (forest_of xs)) split (c.loop-child_role.invariant.rests ds p own n node role coming) in
+    let next : ℕ = next_at p child.0 h.scope h.next in
+    let place : Place = place_of p h.scope h.next h.cursor child in
+    let came = c.in_ok-begin_child.ensures.comes ds p h.scope h.next h.cursor h.start rest node role h.between in
+    let comes : IsComing ds v place None next = comes_to_child ds p h.scope h.next h.cursor h.start child rest w v c.loop-child_role.turn h.between h.kept h.ready h.limit came.0 in
+    let past : Walker = c.leave.new.self in
+    let left : IsLeaving c.visit.new.self place = c.in_ok-visit.ensures.leaves ds place None next refl refl comes in
+    let went : past ≡ walked_over ds v place None next =
+    c.in_ok-leave.ensures.made place refl (shows_rows c.visit.new.self place left comes.root) ∙ ap (λ (u : Walker). left_at u place) (c.in_ok-visit.ensures.walks ds place None next refl refl comes) ∙ left_is ds v place None next comes in
+    let scope : Option OpenScope = scope_at p child.0 h.scope h.next in
+    let start : ℕ = start_at p child.0 h.scope h.start w.made in
+    let holds : HoldsAt past.made scope start = holds_past ds p h.scope h.next h.cursor h.start child rest w v past c.loop-child_role.turn h.between came.0 went in
+    let kind_same : c.ty-in-Some.result ≡ p.node.kind = c.ty-in-Some.ensures ∙ sym (ap (λ (x : Node). x.kind) node) in
+    on_err c.from_residual-in_err-finish_child.result
+    (rests_ending ds c.args.self.now p own n c.args.steps.now c.loop-child_role.steps w c.loop-child_role.turn child rest h v came.0 past c.visit.new.steps c.finish_child.new.steps went
+    (c.in_ok-visit.ensures.cost ds place None next refl refl comes) (c.in_err-finish_child.ensures.given_up ds p scope start (sym kind_same) came.1 holds))

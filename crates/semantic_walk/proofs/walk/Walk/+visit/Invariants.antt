@@ -24,5 +24,6 @@ invariant-loop-child_role g l =
       turn : IsTurn l.self.made l.turn;
       goes : Goes l.initial.self.made l.self.made;
       start : length l.initial.self.made.waiting ≤ l.turn.header_start;
-      rests : (ds : List Declaration) (p : Place) (own : Option OpenScope) (n : ℕ) → p.node ≡ l.kind.node.now → p.role ≡ l.role → IsComing ds l.fn.self p own n → Rests ds l.fn.self p own n l.self l.turn (forest_of l.left);
+      risen : l.fn.steps ≤ l.steps;
+      rests : (ds : List Declaration) (p : Place) (own : Option OpenScope) (n : ℕ) → p.node ≡ l.kind.node.now → p.role ≡ l.role → IsComing ds l.fn.self p own n → Rests ds l.fn.self p own n l.fn.steps l.steps l.self l.turn (forest_of l.left);
     }

@@ -1,4 +1,7 @@
+use Rattle.std.proofs.Common.{◌≤◌, ap, subst, ◌∙◌}
+use Rattle.semantic_syntax.specs.Counts.{raised}
 use Rattle.semantic_tree.specs.Children.{forest_of}
+use Rattle.semantic_walk.proofs.Counting.{asked_some, on_err}
 use Rattle.semantic_walk.proofs.TurnEnds.{ended_some}
 use Rattle.semantic_walk.proofs.walk.Walk.end_child.Goals as goal
 
@@ -6,3 +9,16 @@ pub returns-in_ok-end_header_behind-in-Some-clause-ends : goal.returns-in_ok-end
 returns-in_ok-end_header_behind-in-Some-clause-ends g c = λ ds p own start same stands holds.
     ended_some ds c.args.self.now c.args.turn.now p c.args.parent same c.args.role (forest_of c.args.rest.now) start own stands holds c.in-Some.own c.in-Some.is _ _
     c.in_ok-end_header_behind-in-Some.ensures.made c.close_behind.ensures.made
+
+pub returns-in_ok-end_header_behind-in-Some-clause-cost : goal.returns-in_ok-end_header_behind-in-Some-clause-cost
+returns-in_ok-end_header_behind-in-Some-clause-cost g c = λ ds p own start same stands holds.
+    c.in_ok-end_header_behind-in-Some.ensures.cost
+    ∙ ap (raised c.args.steps.now)
+    (asked_some ds c.args.self.now.made c.args.turn.now p c.args.parent same c.args.role (forest_of c.args.rest.now) start own stands holds c.in-Some.own c.in-Some.is)
+
+pub returns-in_err-end_header_behind-in-Some-clause-given_up : goal.returns-in_err-end_header_behind-in-Some-clause-given_up
+returns-in_err-end_header_behind-in-Some-clause-given_up g c = λ ds p own start same stands holds.
+    on_err c.from_residual.result
+    (subst (λ n. c.end_header_behind.new.steps ≤ raised c.args.steps.now n)
+    (asked_some ds c.args.self.now.made c.args.turn.now p c.args.parent same c.args.role (forest_of c.args.rest.now) start own stands holds c.in-Some.own c.in-Some.is)
+    c.in_err-end_header_behind-in-Some.ensures.given_up)

@@ -1,7 +1,18 @@
+use Rattle.std.proofs.Common.{◌≡◌, ◌≤◌, OnOk, OnErr, ap, subst, ◌∙◌}
 use Rattle.std.proofs.lemmas.Result.{on_ok_weaker}
+use Rattle.semantic_syntax.specs.Counts.{raised}
 use Rattle.semantic_tree.specs.Children.{forest_of}
+use Rattle.semantic_model.specs.Step.{ending_after}
+use Rattle.walk_model.specs.Standing.{Standing}
+use Rattle.count_model.specs.Asks.{asked_by_steps}
+use Rattle.semantic_walk.specs.Walker.{Walker}
+use Rattle.semantic_walk.proofs.walk.Walk.finish_child.Given as given
 use Rattle.semantic_walk.proofs.Visiting.{held_behind, ends_behind}
 use Rattle.semantic_walk.proofs.walk.Walk.finish_child.Goals as goal
+
+-- to come back makes nothing
+made_is : (g : given.Over) (c : goal.After-end_child g) → c.turn_cursor.new.self.made ≡ c.args.self.now.made
+made_is g c = ap (λ (w : Walker). w.made) c.turn_cursor.ensures.made ∙ ap (λ (w : Walker). w.made) c.come_back.ensures.made
 
 pub returns-clause-ends : goal.returns-clause-ends
 returns-clause-ends g c = λ ds p own start kind turn holds.
@@ -9,4 +20,18 @@ returns-clause-ends g c = λ ds p own start kind turn holds.
     (λ ended. ends_behind p own start c.args.parent c.args.role c.args.turn.now c.args.before.bits c.args.self.now c.come_back.new.self c.turn_cursor.new.self ds (forest_of c.args.rest.now) c.end_child.new.self turn
     c.come_back.ensures.made c.turn_cursor.ensures.made ended)
     (c.end_child.ensures.ends ds p own start kind turn
+    (held_behind p own start c.args.parent c.args.role c.args.turn.now c.args.before.bits c.args.self.now c.come_back.new.self c.turn_cursor.new.self c.come_back.ensures.made c.turn_cursor.ensures.made holds))
+
+pub returns-clause-cost : goal.returns-clause-cost
+returns-clause-cost g c = λ ds p own start kind turn holds.
+    subst (λ (made : Standing). OnOk c.end_child.result (c.end_child.new.steps ≡ raised c.args.steps.now (asked_by_steps ds made (ending_after p c.args.role own (forest_of c.args.rest.now)))))
+    (made_is g c)
+    (c.end_child.ensures.cost ds p own start kind turn
+    (held_behind p own start c.args.parent c.args.role c.args.turn.now c.args.before.bits c.args.self.now c.come_back.new.self c.turn_cursor.new.self c.come_back.ensures.made c.turn_cursor.ensures.made holds))
+
+pub returns-clause-given_up : goal.returns-clause-given_up
+returns-clause-given_up g c = λ ds p own start kind turn holds.
+    subst (λ (made : Standing). OnErr c.end_child.result (c.end_child.new.steps ≤ raised c.args.steps.now (asked_by_steps ds made (ending_after p c.args.role own (forest_of c.args.rest.now)))))
+    (made_is g c)
+    (c.end_child.ensures.given_up ds p own start kind turn
     (held_behind p own start c.args.parent c.args.role c.args.turn.now c.args.before.bits c.args.self.now c.come_back.new.self c.turn_cursor.new.self c.come_back.ensures.made c.turn_cursor.ensures.made holds))

@@ -9,6 +9,8 @@ use Rattle.walk_model.specs.Opens.{open_scope}
 use Rattle.walk_model.specs.Standing.{nothing_made}
 use Rattle.walk_model.proofs.RootSteps.{root_scope}
 use Rattle.walk_model.proofs.Seats.{root_is_program}
+use Rattle.walk_notes.specs.NoteLists.{nothing_noted}
+use Rattle.semantic_walk.specs.Begun.{notes_classes}
 use Rattle.semantic_walk.specs.Paths.{Way}
 use Rattle.semantic_walk.proofs.Beginning.{begins, made_first}
 use Rattle.semantic_walk.proofs.walk.Walk.new.Goals as goal
@@ -21,5 +23,8 @@ returns-clause-begins c =
     let made : c.in_ok-declared.declared ≡ open_scope nothing_made (root_place program) (root_scope (root_place program)) =
     made_first program is_program nothing_made c.in_ok-declared.declared c.root-root.result.node.now c.source_type-source_type.result c.root_flags.result.bits refl c.root-root.ensures.root
     c.source_type-source_type.ensures c.root_flags.ensures c.in_ok-declared.ensures in
-    begins program _ c.args.keeps c.args.classes made c.source_type-source_type.ensures c.node_count.ensures (ap (λ (way : Way). way.nodes) c.new-2.ensures) c.new-3.ensures c.empty.ensures
-    (c.is_typescript_definition.ensures ∙ ap is_typescript_definition c.source_type-source_type.ensures) (ap (λ (way : Way). way.entered) c.new-2.ensures) c.new-4.ensures
+    begins program _ c.args.settings.build_nodes (notes_classes c.args.settings) c.args.settings.checks made c.source_type-source_type.ensures (ap (λ (way : Way). way.nodes) c.new-2.ensures) c.new-3.ensures c.empty.ensures
+    (c.is_typescript_definition.ensures ∙ ap is_typescript_definition c.source_type-source_type.ensures) (ap (λ (way : Way). way.entered) c.new-2.ensures) (c.new-4.ensures ∙ ap nothing_noted c.notes_classes.ensures) c.source_text.ensures.bytes refl c.new-5.ensures refl
+
+pub returns-clause-states : goal.returns-clause-states
+returns-clause-states c = c.in_ok-states.ensures.searched
