@@ -1,5 +1,5 @@
 //! Reads a program's tree as JSON from standard input, analyses it, and goes over what was found: scopes and the names
-//! that they bind, symbols and their uses, free names, diagnostics. Then it edits the tables: a symbol gets another
+//! that they bind, symbols and their uses, free names, diagnostics with early errors. Then it edits the tables: a symbol gets another
 //! name, and a reference goes. CALLING.md explains each step.
 #![tactic(auto)]
 
@@ -7,7 +7,7 @@ ghost use Rattle.std.specs.Prelude.{◌<◌, length, IfSome};
 
 use scoping::Scoping;
 use semantic::{SemanticBuilder, SemanticBuilderReturn};
-use semantic_diagnostics::Diagnostics;
+use semantic_diagnostics::{Diagnostic, Diagnostics};
 use semantic_syntax::{Ident, ScopeId, SymbolId};
 use semantic_tree::Program;
 use std::alloc::AllocError;
@@ -68,10 +68,19 @@ fn print_free_names(rt: &HostRuntime, scoping: &Scoping) -> io::Result<()> {
     Ok(())
 }
 
-// What is wrong with declarations.
+// What is wrong, and where: the first place is the diagnostic's own, the others are related.
+fn print_diagnostic(rt: &HostRuntime, diagnostic: &Diagnostic) -> io::Result<()> {
+    println!(rt; "{}", diagnostic.message.as_str())?;
+    for label in diagnostic.labels.as_slice() {
+        println!(rt; "  at {}-{}", label.span.start, label.span.end)?;
+    }
+    Ok(())
+}
+
+// Redeclarations and early errors, in the order of a walk over the program.
 fn print_diagnostics(rt: &HostRuntime, diagnostics: &Diagnostics) -> io::Result<()> {
     for diagnostic in diagnostics.iter() {
-        println!(rt; "{}", diagnostic.message.as_str())?;
+        print_diagnostic(rt, diagnostic)?;
     }
     Ok(())
 }
@@ -139,7 +148,8 @@ fn print_analysis(rt: &HostRuntime, found: SemanticBuilderReturn<'_>) -> io::Res
 }
 
 fn print_program(rt: &HostRuntime, program: &Program) -> io::Result<()> {
-    match SemanticBuilder::new().build(rt.alloc(), program) {
+    let builder = SemanticBuilder::new().with_check_syntax_error(true);
+    match builder.build(rt.alloc(), program) {
         Ok(found) => print_analysis(rt, found),
         Err(error) => Err(error.into()),
     }

@@ -1,5 +1,5 @@
 -- The tables of a program are as large as its nodes are counted.
-use Rattle.std.proofs.Common.{◌≡◌, ◌≤◌, None, length, sym, arith, ◌∙◌}
+use Rattle.std.proofs.Common.{◌≡◌, None, sym, arith, ◌∙◌}
 use Rattle.semantic_kinds.specs.declared.role.Role.TheVariants as role
 use Rattle.semantic_tree.specs.Children.{single}
 use Rattle.semantic_tree.specs.Faults.{first_fault}

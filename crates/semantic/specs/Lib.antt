@@ -2,6 +2,8 @@ pub mod Tally
 pub mod Expected
 pub mod FreeReference
 pub mod Lending
+pub mod SwappedNames
+pub use Rattle.check_model.specs.DiagnosticsOf
 pub use Rattle.count_laws.specs.Counted
 pub use Rattle.semantic_walk.specs.Begun
 pub use Rattle.semantic_walk.specs.Listed

@@ -1,12 +1,16 @@
 //! The builder, which analyses a program.
 
-ghost use Rattle.std.specs.Prelude.{◌≡◌, false, [], None, Some, IfOk};
+ghost use Rattle.std.specs.Prelude.{◌≡◌, ◌≤◌, ◌||◌, true, false, [], None, Some, IfOk, OnOk, OnErr};
+ghost use Rattle.semantic_syntax.specs.Counts.{raised};
 ghost use Rattle.semantic_tree.specs.Children.{node_count};
+ghost use Rattle.semantic_model.specs.TablesOf.{tables_of};
+ghost use Rattle.count_model.specs.Asks.{asked, depths};
 ghost use Rattle.semantic_walk.specs.Begun.{BelongsToNodes, IsAnalysis};
 ghost use Rattle.semantic_walk.specs.Listed.{kept_nodes};
 ghost use Rattle.semantic_model.specs.Label.{unused_labels};
 ghost use Rattle.walk_notes.specs.NoteLists.{classes_noted};
 ghost use Rattle.semantic.specs.Expected.{expected, room_within};
+ghost use Rattle.semantic.specs.SwappedNames.{ComparesNames};
 
 use crate::semantic::{Semantic, SemanticBuilderReturn};
 use crate::stats::Stats;
@@ -15,17 +19,26 @@ use semantic_tree::Program;
 use semantic_walk::{Room, Settings, analyse};
 use std::alloc::{AllocError, Global};
 
-/// The settings of an analysis. Early errors are not there yet.
+/// The settings of an analysis. None of them changes the tables.
 #[derive(Clone, Copy, PartialEq, Eq, Debug, Default)]
 pub struct SemanticBuilder {
     /// Whether the nodes of the program are kept.
     pub(crate) build_nodes: bool,
     /// Whether the classes of the program are noted.
     pub(crate) class_table: bool,
+    /// Whether early errors are told. The classes are noted then, too.
+    pub(crate) check_syntax_error: bool,
     /// How large the tables will be, as it was told.
     pub(crate) stats: Option<Stats>,
     /// How many thousandths of what is counted are to be added to it, where nothing was told.
     pub(crate) excess_capacity: u32,
+}
+
+/// No look-up of a program asks more scopes than there are around its reference.
+fn attest_depths(program: &Program)
+    ensures { asked program.now ≤ depths (tables_of program.now) }
+{
+    program.root();
 }
 
 /// Room for what is expected, each number cut to the limit.
@@ -43,13 +56,42 @@ fn room_within(limit: u32, stats: Stats) -> Room
 impl SemanticBuilder {
     /// All settings off.
     pub fn new() -> SemanticBuilder
-        ensures { result ≡ record { build_nodes = false; class_table = false; stats = None; excess_capacity = 0 } }
+        ensures { result ≡ record { build_nodes = false; class_table = false; check_syntax_error = false; stats = None; excess_capacity = 0 } }
     {
         SemanticBuilder {
             build_nodes: false,
             class_table: false,
+            check_syntax_error: false,
             stats: None,
             excess_capacity: 0,
+        }
+    }
+
+    /// What a compiler needs: early errors are told.
+    pub fn new_compiler() -> SemanticBuilder
+        ensures { result ≡ record { build_nodes = false; class_table = false; check_syntax_error = true; stats = None; excess_capacity = 0 } }
+    {
+        SemanticBuilder::new().with_check_syntax_error(true)
+    }
+
+    /// What a linter needs: the nodes are kept, the classes noted, and early errors are told.
+    pub fn new_linter() -> SemanticBuilder
+        ensures { result ≡ record { build_nodes = true; class_table = true; check_syntax_error = true; stats = None; excess_capacity = 0 } }
+    {
+        SemanticBuilder::new()
+            .with_build_nodes(true)
+            .with_class_table(true)
+            .with_check_syntax_error(true)
+    }
+
+    /// Tells the early errors of the program, or doesn't. The redeclarations are told either way. With it the classes
+    /// are noted, too.
+    pub fn with_check_syntax_error(self, yes: bool) -> SemanticBuilder
+        ensures { result ≡ record self { check_syntax_error = yes } }
+    {
+        SemanticBuilder {
+            check_syntax_error: yes,
+            ..self
         }
     }
 
@@ -63,7 +105,7 @@ impl SemanticBuilder {
         }
     }
 
-    /// Notes the classes of the program, or doesn't.
+    /// Notes the classes of the program, or doesn't. Where early errors are told they are noted either way.
     pub fn with_class_table(self, yes: bool) -> SemanticBuilder
         ensures { result ≡ record self { class_table = yes } }
     {
@@ -109,36 +151,44 @@ impl SemanticBuilder {
     fn settings(&self, program: &Program) -> Settings
         ensures build_nodes { result.build_nodes ≡ self.now.build_nodes }
         ensures class_table { result.class_table ≡ self.now.class_table }
+        ensures checks { result.checks ≡ self.now.check_syntax_error }
         ensures room { result.room ≡ room_within (node_count program.now.root) (expected self.now program.now) }
     {
         Settings {
             build_nodes: self.build_nodes,
             class_table: self.class_table,
+            checks: self.check_syntax_error,
             room: room_within(program.node_count(), self.expected(program)),
         }
     }
 
-    /// Analyses a program. The only error is want of memory.
+    /// Analyses a program. The only error is want of memory. The diagnostics are the redeclarations of its declarations
+    /// and, where they are told, its early errors (ECMAScript, TypeScript), in the order of a walk over the program: a
+    /// redeclaration at its declaration, an early error on leaving the node that violates the rule.
     pub fn build<'a>(
         self,
         alloc: Global,
         program: &'a Program,
     ) -> Result<SemanticBuilderReturn<'a>, AllocError>
         ensures program { IfOk result (λ ret. ret.semantic.program.now ≡ program.now) }
-        ensures analysis { IfOk result (λ ret. IsAnalysis program.now ret.semantic.scoping ret.diagnostics) }
+        ensures analysis { IfOk result (λ ret. IsAnalysis self.check_syntax_error program.now ret.semantic.scoping ret.diagnostics) }
         ensures nodes { IfOk result (λ ret. BelongsToNodes program.now ret.semantic.tables) }
         ensures node_list { IfOk result (λ ret. ret.semantic.nodes ≡ kept_nodes self.build_nodes program.now) }
-        ensures classes { IfOk result (λ ret. ret.semantic.classes ≡ classes_noted self.class_table program.now) }
+        ensures classes { IfOk result (λ ret. ret.semantic.classes ≡ classes_noted (self.class_table || self.check_syntax_error) program.now) }
         ensures labels { IfOk result (λ ret. ret.semantic.unused_labels.items ≡ unused_labels program.now.root) }
         ensures comments { IfOk result (λ ret. ret.semantic.comments.now ≡ program.now.comments) }
         ensures whitespace { IfOk result (λ ret. ret.semantic.irregular_whitespaces.items ≡ []) }
+        ensures names { IfOk result (λ ret. ComparesNames program.now ret.semantic.scoping ret.semantic.tables) }
     {
         let mut steps = Steps::new(());
         self.build_counted(alloc, program, &mut steps)
     }
 
-    /// Analyses a program, and counts how often a scope is asked for a name by a look-up. The only error is want of
-    /// memory.
+    /// As `build`. The only error is want of memory.
+    ///
+    /// A step is taken for each scope that a look-up asks: of each reference the scopes from its own outward, each once,
+    /// up to the one that ties it or ends its look-up. So no more steps are taken than the scopes of the references lie
+    /// deep, all together. After want of memory at most as many have been taken.
     pub fn build_counted<'a, L>(
         self,
         alloc: Global,
@@ -146,14 +196,20 @@ impl SemanticBuilder {
         steps: &mut Steps<L>,
     ) -> Result<SemanticBuilderReturn<'a>, AllocError>
         ensures program { IfOk result (λ ret. ret.semantic.program.now ≡ program.now) }
-        ensures analysis { IfOk result (λ ret. IsAnalysis program.now ret.semantic.scoping ret.diagnostics) }
+        ensures analysis { IfOk result (λ ret. IsAnalysis self.check_syntax_error program.now ret.semantic.scoping ret.diagnostics) }
         ensures nodes { IfOk result (λ ret. BelongsToNodes program.now ret.semantic.tables) }
         ensures node_list { IfOk result (λ ret. ret.semantic.nodes ≡ kept_nodes self.build_nodes program.now) }
-        ensures classes { IfOk result (λ ret. ret.semantic.classes ≡ classes_noted self.class_table program.now) }
+        ensures classes { IfOk result (λ ret. ret.semantic.classes ≡ classes_noted (self.class_table || self.check_syntax_error) program.now) }
         ensures labels { IfOk result (λ ret. ret.semantic.unused_labels.items ≡ unused_labels program.now.root) }
         ensures comments { IfOk result (λ ret. ret.semantic.comments.now ≡ program.now.comments) }
         ensures whitespace { IfOk result (λ ret. ret.semantic.irregular_whitespaces.items ≡ []) }
+        ensures names { IfOk result (λ ret. ComparesNames program.now ret.semantic.scoping ret.semantic.tables) }
+        ensures cost { OnOk result (steps.new ≡ raised steps.old (asked program.now)) }
+        ensures risen { steps.old ≤ steps.new }
+        ensures given_up { OnErr result (steps.new ≤ raised steps.old (asked program.now)) }
+        ensures bounded { steps.new ≤ raised steps.old (depths (tables_of program.now)) }
     {
+        attest_depths(program);
         let made = analyse(alloc, program, self.settings(program), steps)?;
         Ok(SemanticBuilderReturn {
             semantic: Semantic {

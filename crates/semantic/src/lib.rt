@@ -3,6 +3,7 @@
 
 pub mod builder;
 pub mod global_reference;
+pub mod laws;
 pub mod node_queries;
 pub mod semantic;
 pub mod stats;

@@ -71,7 +71,8 @@ impl<'a> Semantic<'a> {
         &self.tables
     }
 
-    /// The classes of the program, with their elements and the uses of private names; none where they weren't noted.
+    /// The classes of the program, with their elements and the uses of private names; none where they weren't noted, as
+    /// they are by `with_class_table` and with early errors.
     pub fn classes(&self) -> &ClassTable<'a>
         ensures { result.now ≡ self.now.classes }
     {

@@ -16,6 +16,8 @@ pub enum Asked {
     UnusedLabels,
     /// The nodes of the classes.
     ClassNodes,
+    /// How many diagnostics there are.
+    Diagnostics,
     /// The elements that `#x` means in the one class.
     Elements,
     /// The uses of private names in the one class: the node of each, and how many elements it means.
@@ -24,11 +26,15 @@ pub enum Asked {
     FreeReferences,
 }
 
-/// What an analysis keeps besides its tables.
+/// What an analysis keeps and tells besides its tables.
 pub enum Kept {
     Nothing,
     Nodes,
     Classes,
+    /// What early errors need, which are told.
+    Checked,
+    /// All of it.
+    Linted,
 }
 
 /// What is asked of a program.
@@ -38,6 +44,8 @@ pub enum Question {
     /// How many references and symbols the tables have, whether symbol 0 is used by reference 0 alone, and how many uses
     /// it has once this one is deleted.
     UseDeleted,
+    /// How many diagnostics two analyses of the one program have, with early errors.
+    CheckedTwice,
     /// Whether the namespace of node 1 holds nothing that is run.
     IsNamespaceOfNothing,
 }
@@ -105,12 +113,14 @@ fn free_references(alloc: Global, semantic: &Semantic<'_>) -> Result<Vec<usize>,
 
 fn asked_of(
     alloc: Global,
-    semantic: &Semantic<'_>,
+    ret: &SemanticBuilderReturn<'_>,
     asked: &Asked,
 ) -> Result<Vec<usize>, AllocError> {
+    let semantic = &ret.semantic;
     match asked {
         Asked::UnusedLabels => unused_labels(alloc, semantic.unused_labels()),
         Asked::ClassNodes => class_nodes(alloc, semantic.classes()),
+        Asked::Diagnostics => Vec::from_slice(alloc, [ret.diagnostics.len()].as_slice()),
         Asked::Elements => elements(alloc, semantic.classes()),
         Asked::PrivateUses => private_uses(alloc, semantic.classes()),
         Asked::FreeReferences => free_references(alloc, semantic),
@@ -123,6 +133,8 @@ fn builder(kept: &Kept) -> SemanticBuilder {
         Kept::Nothing => builder,
         Kept::Nodes => builder.with_build_nodes(true),
         Kept::Classes => builder.with_class_table(true),
+        Kept::Checked => SemanticBuilder::new_compiler(),
+        Kept::Linted => SemanticBuilder::new_linter(),
     }
 }
 
@@ -133,7 +145,7 @@ fn of_analysis(
     asked: &Asked,
 ) -> Result<Vec<usize>, AllocError> {
     let ret = builder.build(alloc, program)?;
-    let told = asked_of(alloc, &ret.semantic, asked);
+    let told = asked_of(alloc, &ret, asked);
     drop(ret);
     told
 }
@@ -167,6 +179,16 @@ fn use_deleted(alloc: Global, program: &Program) -> Result<Vec<usize>, AllocErro
     Vec::from_slice(alloc, told.as_slice())
 }
 
+fn checked_twice(alloc: Global, program: &Program) -> Result<Vec<usize>, AllocError> {
+    let builder = SemanticBuilder::new_compiler();
+    let mut told = of_analysis(alloc, program, builder, &Asked::Diagnostics)?;
+    let again = of_analysis(alloc, program, builder, &Asked::Diagnostics)?;
+    for count in again.as_slice() {
+        told.push(*count)?;
+    }
+    Ok(told)
+}
+
 fn is_namespace_of_nothing(alloc: Global, program: &Program) -> Result<Vec<usize>, AllocError> {
     let state = module_instance_state(alloc, program, NodeId::new(1))?;
     let is_nothing = matches!(state, ModuleInstanceState::NonInstantiated);
@@ -177,6 +199,7 @@ fn answer(alloc: Global, program: &Program, question: &Question) -> Result<Vec<u
     match question {
         Question::Analysis(kept, asked) => of_analysis(alloc, program, builder(kept), asked),
         Question::UseDeleted => use_deleted(alloc, program),
+        Question::CheckedTwice => checked_twice(alloc, program),
         Question::IsNamespaceOfNothing => is_namespace_of_nothing(alloc, program),
     }
 }

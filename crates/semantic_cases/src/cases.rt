@@ -1,8 +1,8 @@
 //! What no clause says: that an analysis succeeds with ample memory, and what its tables are for.
 use crate::answers::{Asked, Kept, Question, answer_of};
 use crate::trees::{
-    EMPTY_NAMESPACE, FOREIGN_NAME, HIDDEN_PROMISE, JUMP_OUT_OF_FUNCTION, LOOP_AND_LABEL,
-    SAME_LABEL_TWICE, THREE_STATEMENTS,
+    EMPTY_NAMESPACE, EXPORTED_CLASS, FOREIGN_NAME, HIDDEN_PROMISE, JUMP_OUT_OF_FUNCTION,
+    LOOP_AND_LABEL, SAME_LABEL_TWICE, THREE_STATEMENTS,
 };
 use std::alloc::Global;
 use std::process::Abort;
@@ -58,6 +58,42 @@ const CASES: &[Case] = &[
         tree: FOREIGN_NAME,
         question: Question::Analysis(Kept::Nothing, Asked::ClassNodes),
         answer: &[],
+    },
+    Case {
+        name: "a private name of no element is an early error",
+        tree: FOREIGN_NAME,
+        question: Question::Analysis(Kept::Checked, Asked::Diagnostics),
+        answer: &[1],
+    },
+    Case {
+        name: "early errors are told only if asked for",
+        tree: FOREIGN_NAME,
+        question: Question::Analysis(Kept::Classes, Asked::Diagnostics),
+        answer: &[0],
+    },
+    Case {
+        name: "classes are noted for early errors",
+        tree: FOREIGN_NAME,
+        question: Question::Analysis(Kept::Checked, Asked::ClassNodes),
+        answer: &[1],
+    },
+    Case {
+        name: "a linter has early errors",
+        tree: FOREIGN_NAME,
+        question: Question::Analysis(Kept::Linted, Asked::Diagnostics),
+        answer: &[1],
+    },
+    Case {
+        name: "a linter has the nodes",
+        tree: HIDDEN_PROMISE,
+        question: Question::Analysis(Kept::Linted, Asked::FreeReferences),
+        answer: &[17, 1, 1, 0, 0],
+    },
+    Case {
+        name: "a class of an exported constant has no early error",
+        tree: EXPORTED_CLASS,
+        question: Question::CheckedTwice,
+        answer: &[0, 0],
     },
     Case {
         name: "a jump uses its label",

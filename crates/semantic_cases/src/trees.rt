@@ -27,3 +27,7 @@ pub const JUMP_OUT_OF_FUNCTION: &str =
 /// The tree of `a: { a: { break a } }`.
 pub const SAME_LABEL_TWICE: &str =
     r#"{"comments":[],"format":1,"goal":"script","lang":"js","source":"","rows":[[0,"root","Program",0,0,"",[]],[1,"body","LabeledStatement",0,0,"",[]],[2,"label","LabelIdentifier",0,0,"a",[]],[2,"body","BlockStatement",0,0,"",[]],[3,"body","LabeledStatement",0,0,"",[]],[4,"label","LabelIdentifier",0,0,"a",[]],[4,"body","BlockStatement",0,0,"",[]],[5,"body","BreakStatement",0,0,"",[]],[6,"label","LabelIdentifier",0,0,"a",[]]]}"#;
+
+/// The tree of `export const X = class Base {};`, a module in TypeScript.
+pub const EXPORTED_CLASS: &str =
+    r#"{"comments":[],"format":1,"goal":"module","lang":"ts","source":"","rows":[[0,"root","Program",0,0,"",[]],[1,"body","ExportDeclaration",0,0,"",[]],[2,"declaration","VariableDeclaration",0,0,"const",[]],[3,"declarators","VariableDeclarator",0,0,"",[]],[4,"id","BindingIdentifier",0,0,"X",[]],[4,"init","Class",0,0,"expression",[]],[5,"id","BindingIdentifier",0,0,"Base",[]],[5,"body","ClassBody",0,0,"",[]]]}"#;
