@@ -25,7 +25,8 @@ Analyses JavaScript and TypeScript files. One file gives its report; several giv
   --parser P acorn or typescript; else by the file's ending (.js .mjs .cjs by acorn)
   --goal G   script, module or commonjs; else by the file's ending
   --tree     the files hold trees already, as JSON
-  --check --nodes --classes --stats go on to the report program.
+  --check    early errors, too: diagnostics besides the names that are declared again
+  --nodes --classes --stats go on to the report program, as --check does
 
 The report program is that of BOLGWYR_REPORT where it is set, else bin/report.
 

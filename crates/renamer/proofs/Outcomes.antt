@@ -1,5 +1,5 @@
 -- What comes of a renaming, told by its causes.
-use Rattle.std.proofs.Common.{◌≡◌, ℕ, ◌<◌, List, true, false, None, Some, Option, Result, Ok, Err, IfOk, IfErr, length, get_or, ap, sym, ◌∙◌, subst}
+use Rattle.std.proofs.Common.{◌≡◌, ℕ, ◌<◌, List, Bool, true, false, None, Some, Option, Result, Ok, Err, IfOk, IfErr, length, get_or, ap, sym, ◌∙◌, subst}
 use Rattle.std.proofs.lemmas.Option.{slice_get-get_or}
 use Rattle.scoping.specs.NodeEntries.{NodeEntries}
 use Rattle.scoping.specs.Reading.{no_symbol}
@@ -82,7 +82,7 @@ module _ (p : Tree) (s : ℕ) (new : Name) where
 
 -- ---- by an analysis that tables tell
 
-pub built : (q : Tree) (a : Analysed) (t : Tables) (nodes : NodeEntries) (ds : List Diagnostic) → a.scoping.now ≡ t → a.tables.now ≡ nodes → IsAnalysis q t ds → BelongsToNodes q nodes → told_by a ≡ analysis_of q
+pub built : {checks : Bool} (q : Tree) (a : Analysed) (t : Tables) (nodes : NodeEntries) (ds : List Diagnostic) → a.scoping.now ≡ t → a.tables.now ≡ nodes → IsAnalysis checks q t ds → BelongsToNodes q nodes → told_by a ≡ analysis_of q
 built q a t nodes ds e f is belongs =
     shows q a.scoping.now a.tables.now (e ∙ is.tables) (ap (λ (n : NodeEntries). n.symbols) f ∙ belongs.symbols) (ap (λ (n : NodeEntries). n.references) f ∙ belongs.references) (ap (λ (n : NodeEntries). n.scopes) f ∙ belongs.scopes)
 

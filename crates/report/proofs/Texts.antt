@@ -1,5 +1,6 @@
 -- The text of what stands in an analysis is that of what is found in the program.
 use Rattle.std.proofs.Common.{◌≡◌, ℕ, List, ◌++◌, Bool, true, false, Option, Some, None, flat_map, ap, ◌∙◌, refl}
+use Rattle.std.specs.Prelude.{◌||◌}
 use Rattle.semantic_syntax.specs.Tables.{Tables}
 use Rattle.semantic_tree.specs.Children.{node_count}
 use Rattle.semantic_tree.specs.Tree.{Tree}
@@ -23,9 +24,9 @@ nodes_same : (asked : Bool) (list : NodeList) (p : Tree) → list ≡ kept_nodes
 nodes_same true list p same = ap node_lines same
 nodes_same false list p same = refl
 
-classes_same : (asked : Bool) (lists : ClassLists) (p : Tree) → lists ≡ classes_noted asked p → where_asked asked (all_class_lines lists) ≡ where_asked asked (all_class_lines (lists_told (classes p.root)))
-classes_same true lists p same = ap all_class_lines same
-classes_same false lists p same = refl
+classes_same : (asked checks : Bool) (lists : ClassLists) (p : Tree) → lists ≡ classes_noted (asked || checks) p → where_asked asked (all_class_lines lists) ≡ where_asked asked (all_class_lines (lists_told (classes p.root)))
+classes_same true checks lists p same = ap all_class_lines same
+classes_same false checks lists p same = refl
 
 parts_same : (options : Options) (x y : Found) → listed_text options x ≡ listed_text options y → noted_text options x ≡ noted_text options y → counted_text options x ≡ counted_text options y → report_text options x ≡ report_text options y
 parts_same options x y listed noted counted =
@@ -37,12 +38,12 @@ module _ (options : Options) (nodes : NodeList) (tables : Tables) (lists : Class
   abbrev pub standing : Found
   standing = record { nodes = nodes; tables = tables; classes = lists; labels = labels; count = count; diagnostics = diagnostics }
 
-  pub text_same : (make : Option ℕ) → nodes ≡ kept_nodes options.nodes p → lists ≡ classes_noted options.classes p → labels ≡ unused_labels p.root → count ≡ node_count p.root
+  pub text_same : (make : Option ℕ) (checks : Bool) → nodes ≡ kept_nodes options.nodes p → lists ≡ classes_noted (options.classes || checks) p → labels ≡ unused_labels p.root → count ≡ node_count p.root
       → text_by make options standing ≡ text_by make options (found_of p tables diagnostics)
-  text_same None n c l k =
+  text_same None checks n c l k =
       parts_same options standing (found_of p tables diagnostics)
       (ap (λ text. text ++ table_lines tables) (nodes_same options.nodes nodes p n))
-      (ap (λ text. text ++ flat_map label_line labels) (classes_same options.classes lists p c)
+      (ap (λ text. text ++ flat_map label_line labels) (classes_same options.classes checks lists p c)
       ∙ ap (λ ls. where_asked options.classes (all_class_lines (lists_told (classes p.root))) ++ flat_map label_line ls) l)
       (ap (λ n. where_asked options.stats (stats_line n tables) ++ flat_map diagnostic_line diagnostics) k)
-  text_same (Some functions) n c l k = ap (λ n. made_line n tables) k
+  text_same (Some functions) checks n c l k = ap (λ n. made_line n tables) k

@@ -1,5 +1,5 @@
 -- What the analysis of a program gives, as far as a report tells it.
-use Rattle.std.specs.Prelude.{ℕ, List}
+use Rattle.std.specs.Prelude.{ℕ, List, Bool}
 use Rattle.semantic_syntax.specs.Tables.{Tables}
 use Rattle.semantic_tree.specs.Children.{node_count}
 use Rattle.semantic_tree.specs.Tree.{Tree}
@@ -22,9 +22,9 @@ pub record Found : Type 0 where
   pub count : ℕ
   pub diagnostics : List Diagnostic
 
--- these are the program's tables, which fit it, and a diagnostic for each conflict of its declarations
-abbrev pub IsBuilt : Tree → Tables → List Diagnostic → Type 0
-IsBuilt program tables diagnostics = IsAnalysis program tables diagnostics
+-- these are the program's tables, which fit it, and all its diagnostics, with early errors where checks are on
+abbrev pub IsBuilt : (checks : Bool) → Tree → Tables → List Diagnostic → Type 0
+IsBuilt checks program tables diagnostics = IsAnalysis checks program tables diagnostics
 
 -- what is found in a program of these tables and diagnostics
 abbrev pub found_of : Tree → Tables → List Diagnostic → Found

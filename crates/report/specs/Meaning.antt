@@ -29,11 +29,11 @@ abbrev pub IsAbout : Option ℕ → SourceCall → Tree → Type 0
 IsAbout None source p = Finds Stands source p
 IsAbout (Some functions) source p = Unread source × (p ≡ generated functions)
 
--- the text is the answer to the request about the program, whose tables fit it, and this is the end for it
+-- the text is the answer to the request about the program, whose tables and diagnostics these are, and this is the end for it: `found` exactly where there are diagnostics
 pub record Answers (request : Request) (end : End) (p : Tree) (text : List ℕ) : Type 0 where
   pub tables : Tables
   pub diagnostics : List Diagnostic
-  pub built : IsBuilt p tables diagnostics
+  pub built : IsBuilt request.check p tables diagnostics
   pub told : text ≡ answer_text request (found_of p tables diagnostics)
   pub ends : end ≡ end_of (status_for diagnostics)
 

@@ -1,5 +1,5 @@
 -- What the words of the command line ask for.
-use Rattle.std.specs.Prelude.{List, [], ◌∷◌, ℕ, ◌+◌, ◌-◌, ◌*◌, length, Option, Some, None, Bool, true, false, ◌==◌, ◌&&◌, ◌||◌, nat_lt, nat_le, if◌then◌else◌, option_and_then, codes, String, string_bytes}
+use Rattle.std.specs.Prelude.{List, [], ◌∷◌, ℕ, ◌+◌, ◌-◌, ◌*◌, length, Option, Some, None, Bool, true, false, ◌==◌, ◌||◌, nat_lt, nat_le, if◌then◌else◌, option_and_then, codes, String, string_bytes}
 use Rattle.std.specs.List.{find}
 use Rattle.std.specs.Str.{bytes_eq}
 use Rattle.std.specs.declared.alloc.Global.{Global}
@@ -20,19 +20,14 @@ word_text Classes = codes "--classes"
 word_text Stats = codes "--stats"
 word_text Make = codes "--make"
 
--- whether a word is taken yet
-abbrev pub is_on : Word → Bool
-is_on Check = false
-is_on other = true
-
 -- whether a number follows the word
 abbrev pub takes_number : Word → Bool
 takes_number Make = true
 takes_number other = false
 
--- the word that is so written, where it is taken yet
+-- the word that is so written, if there is one
 abbrev pub word_of : List ℕ → Option Word
-word_of text = find (λ word. is_on word && bytes_eq (word_text word) text) all_words
+word_of text = find (λ word. bytes_eq (word_text word) text) all_words
 
 -- ---- numbers
 

@@ -39,10 +39,12 @@ fn status_for(diagnostics: &Diagnostics) -> ReportStatus
 fn settings(request: Request) -> SemanticBuilder
     ensures nodes { result.build_nodes ≡ request.nodes }
     ensures classes { result.class_table ≡ request.classes }
+    ensures check { result.check_syntax_error ≡ request.check }
 {
     SemanticBuilder::new()
         .with_build_nodes(request.nodes)
         .with_class_table(request.classes)
+        .with_check_syntax_error(request.check)
 }
 
 /// Writes the answer to a request.
@@ -133,8 +135,9 @@ fn answer_request<S: Source, K: Sink>(
 }
 
 /// Does all that the program does: it reads the whole input, which is a program's tree as JSON, and writes its report
-/// on `out`; or it makes a script, and writes the summary of its analysis. Where it can't it tells why on `errs`, in
-/// one line. Where the words are refused, or ask for a script that is made, nothing is read.
+/// on `out`; or it makes a script, and writes the summary of its analysis. By `--check` the diagnostics have the early
+/// errors, too; it answers `Diagnosed` exactly where there are diagnostics. Where it can't answer it tells why on `errs`,
+/// in one line. Where the words are refused, or ask for a script that is made, nothing is read.
 pub fn run<S: Source, K: Sink, E: Sink>(
     alloc: Global,
     words: &[String],

@@ -6,8 +6,8 @@ ghost use Rattle.report.specs.Report.{options_of};
 use crate::options::Options;
 use crate::word::Word;
 
-/// What is asked for: checks, lines on nodes, on classes and on counts, and a script of so many parts that is made in
-/// place of one that is read.
+/// What is asked for: early errors, lines on nodes, on classes and on counts, and a script of so many parts that is made
+/// in place of one that is read.
 #[derive(Clone, Copy, Debug, PartialEq, Eq)]
 pub struct Request {
     pub check: bool,

@@ -1,6 +1,6 @@
 //! The words of the command line.
 ghost use Rattle.std.specs.Prelude.{◌≡◌};
-ghost use Rattle.report.specs.Requests.{word_text, is_on, takes_number, word_of};
+ghost use Rattle.report.specs.Requests.{word_text, takes_number, word_of};
 
 /// A word of the command line.
 #[derive(Clone, Copy, Debug, PartialEq, Eq)]
@@ -34,13 +34,6 @@ impl Word {
         }
     }
 
-    /// Whether it is taken yet. A word that isn't is refused like an unknown one.
-    pub fn is_on(self) -> bool
-        ensures { result ≡ is_on self }
-    {
-        !matches!(self, Word::Check)
-    }
-
     /// Whether a number follows it.
     pub fn takes_number(self) -> bool
         ensures { result ≡ takes_number self }
@@ -48,12 +41,10 @@ impl Word {
         matches!(self, Word::Make)
     }
 
-    /// The word that is so written, if there is one and it is taken yet.
+    /// The word that is so written, if there is one.
     pub fn of(text: &str) -> Option<Word>
         ensures { result ≡ word_of text.now }
     {
-        ALL.iter()
-            .copied()
-            .find(|word| word.is_on() && word.text() == text)
+        ALL.iter().copied().find(|word| word.text() == text)
     }
 }

@@ -1,5 +1,5 @@
-//! Writes the reports of the programs in the folder `programs`: those of the file `names` without words, and those of
-//! the file `rows` with nodes, classes and counts.
+//! Writes the reports of the programs in the folder `programs`: those of the file `names` without words, those of the
+//! file `rows` with nodes, classes and counts, and those of the file `checked` with early errors besides.
 #![tactic(auto)]
 
 use report::run;
@@ -38,8 +38,17 @@ fn all_words(alloc: Global) -> Result<Vec<String>, AllocError> {
     Ok(words)
 }
 
+// The same words, and the one that asks for early errors.
+fn checking_words(alloc: Global) -> Result<Vec<String>, AllocError> {
+    let mut words = all_words(alloc)?;
+    words.push(String::from_str(alloc, "--check")?)?;
+    Ok(words)
+}
+
 fn main(rt: HostRuntime) -> io::Result<()> {
     reports_of(&rt, "names", &[])?;
     let words = all_words(rt.alloc())?;
-    reports_of(&rt, "rows", &words)
+    reports_of(&rt, "rows", &words)?;
+    let checking = checking_words(rt.alloc())?;
+    reports_of(&rt, "checked", &checking)
 }

@@ -17,9 +17,9 @@ returns g c =
     (record {
       tables = c.in_ok-ret.ret.semantic.scoping;
       diagnostics = c.in_ok-ret.ret.diagnostics;
-      built = c.in_ok-ret.ensures.analysis;
-      told = text_same (options_of c.args.request) _ _ _ _ _ _ c.args.program.now c.args.request.make
-          (rw c.settings.ensures.nodes at c.in_ok-ret.ensures.node_list) (rw c.settings.ensures.classes at c.in_ok-ret.ensures.classes) c.in_ok-ret.ensures.labels
+      built = rw c.settings.ensures.check at c.in_ok-ret.ensures.analysis;
+      told = text_same (options_of c.args.request) _ _ _ _ _ _ c.args.program.now c.args.request.make c.args.request.check
+          (rw c.settings.ensures.nodes at c.in_ok-ret.ensures.node_list) (rw (c.settings.ensures.classes, c.settings.ensures.check) at c.in_ok-ret.ensures.classes) c.in_ok-ret.ensures.labels
           (ap (λ (t : Tree). node_count t.root) c.in_ok-ret.ensures.program);
       ends = refl;
     })
