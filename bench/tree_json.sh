@@ -2,8 +2,8 @@
 # How long reading a tree takes, and how much memory it uses. For trees of 1, 8 and 60 MB it prints the time of
 # `read_program` against that of serde_json's `Value::from_slice` on the same bytes in the same run, and the peak memory
 # of one reading as a multiple of the input. Wanted: ratios below 2.5 that differ by less than 1.3 from size to size, and
-# less than 30 times the input. It works on a scratch copy, and proves what it measures there; it needs rt, awk and a
-# /proc. The sizes, in bytes, can be given as words.
+# less than 30 times the input. The trees have the writer's form, which is read with no value between. It works on a
+# scratch copy, and proves what it measures there; it needs rt, awk and a /proc. The sizes, in bytes, can be given as words.
 set -eu
 cd "$(dirname "$0")/.."
 [ $# -gt 0 ] || set -- 1000000 8000000 60000000
@@ -101,10 +101,8 @@ tree() {
         line = "function f%06d(a, b = 1) { const c = a.size + b; if (c !== 12) { return g(c, \"text\"); } }\\n"
         count = int(wanted / 1560) + 1
         width = length(sprintf(line, 0)) - 1
-        printf "{\"comments\":[],\"format\":1,\"goal\":\"script\",\"lang\":\"js\",\"source\":\""
-        escaped = line; gsub(/"/, "\\\"", escaped)
-        for (i = 0; i < count; i++) printf escaped, i
-        printf "\",\"rows\":[[0,\"root\",\"Program\",0,%d,\"\",[]]", count * width
+        printf "{\"comments\":[],\"format\":1,\"goal\":\"script\",\"lang\":\"js\",\"rows\":"
+        printf "[[0,\"root\",\"Program\",0,%d,\"\",[]]", count * width
         for (i = 0; i < count; i++) {
             base = i * width
             row(1, "body", "Function", 0, 91, "declaration", "")
@@ -135,7 +133,10 @@ tree() {
             row(7, "arguments", "IdentifierReference", 76, 77, "c", "")
             row(7, "arguments", "StringLiteral", 79, 85, "text", "")
         }
-        printf "]}"
+        printf "],\"source\":\""
+        escaped = line; gsub(/"/, "\\\"", escaped)
+        for (i = 0; i < count; i++) printf escaped, i
+        printf "\"}"
     }'
 }
 

@@ -51,7 +51,7 @@ lines_from-items texts (item d ds) ls opened index some say goes =
     let more : lines_from texts (l.depth + 1) (index + 1) ds ≡ Ok rest = lines_from-items texts ds rest (l.depth + 1) (index + 1) (omega arith) are on.2 in
     rw (line_at-from texts opened index d l is stands, more) (ap Ok whole)
 
-lines_from-listing : (texts : Texts) (ds : Items) (ls : List Line) → all_items (line_of_data texts) ds ≡ Some ls → IsListing ls → lines_from texts 0 0 ds ≡ Ok ls
+pub lines_from-listing : (texts : Texts) (ds : Items) (ls : List Line) → all_items (line_of_data texts) ds ≡ Some ls → IsListing ls → lines_from texts 0 0 ds ≡ Ok ls
 lines_from-listing texts no_items [] say goes = absurd goes
 lines_from-listing texts no_items (l ∷ ls) say goes = absurd (cc)
 lines_from-listing texts (item d ds) ls say goes =

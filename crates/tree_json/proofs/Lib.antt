@@ -16,3 +16,6 @@ pub mod MarksAgain
 pub mod TextsAgain
 pub mod WrittenForms
 pub mod WritesAgain
+pub mod Pulling
+pub mod Listed
+pub mod PulledTop

@@ -8,3 +8,4 @@ pub mod Reading
 pub mod Written
 pub mod Views
 pub mod WrittenForm
+pub mod Pulled

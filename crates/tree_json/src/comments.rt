@@ -4,7 +4,7 @@ ghost use Rattle.serde_json.specs.View.{view as data_of, items_view};
 ghost use Rattle.semantic_tree.specs.declared.error.TreeError.TheVariants.{Shape};
 ghost use Rattle.tree_json.specs.Form.{text_in};
 ghost use Rattle.tree_json.specs.Views.{characters};
-ghost use Rattle.tree_json.specs.Comments.{comment_kind_of_data, comment_of_data, all_items};
+ghost use Rattle.tree_json.specs.Comments.{comment_kind_named, comment_kind_of_data, comment_of_data, all_items};
 ghost use Rattle.tree_json.specs.Outcome.{Gives, or_fault};
 
 use crate::row::span_of;
@@ -64,7 +64,14 @@ fn comment_of(value: &Value) -> Option<Comment>
 fn comment_kind(value: &Value) -> Option<CommentKind>
     ensures { result ≡ comment_kind_of_data (data_of value.now) }
 {
-    match value.as_str()? {
+    comment_kind_named(value.as_str()?)
+}
+
+/// The kind of comment that a name in JSON tells.
+pub(crate) fn comment_kind_named(text: &str) -> Option<CommentKind>
+    ensures { result ≡ comment_kind_named text.now }
+{
+    match text {
         "line" => Some(CommentKind::Line),
         "block" => Some(CommentKind::Block),
         _ => None,

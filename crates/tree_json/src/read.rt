@@ -1,5 +1,5 @@
 //! From bytes to a program.
-ghost use Rattle.std.specs.Prelude.{◌≡◌, Some, None, ◌<◌, ◌≤◌, ◌-◌, ◌^◌, Ok, length, IfOk, IfErr, IsFalse};
+ghost use Rattle.std.specs.Prelude.{◌≡◌, Some, None, ◌<◌, ◌≤◌, ◌-◌, ◌^◌, Ok, length, IfOk, IfErr, IfSome, IsFalse};
 ghost use Rattle.std.specs.Str.{IsUtf8, chars};
 ghost use Rattle.serde_json.specs.Data.{Data};
 ghost use Rattle.serde_json.specs.Read.{read};
@@ -12,11 +12,15 @@ ghost use Rattle.tree_json.specs.Lines.{listing};
 ghost use Rattle.tree_json.specs.Views.{top_view, texts_view, parts_view};
 ghost use Rattle.tree_json.specs.Outcome.{Gives, IsWantOfMemory};
 ghost use Rattle.tree_json.specs.Reading.{value_in, lines_with, lines_in, listed_of, listed_in, reading, listed, are_too_many, Refuses};
+ghost use Rattle.tree_json.specs.Pulled.{IsPulled};
 
+use crate::build::tree_of;
 use crate::comments::{comments_of, texts_of};
+use crate::pull_top::{Pulled, take_top};
 use crate::row::RowTexts;
-use crate::rows::tree_of_values;
+use crate::rows::{are_listed, tree_of_values};
 use crate::top::{Top, top_of};
+use json::{Reader, Scratch};
 use semantic_syntax::{SourceType, Text};
 use semantic_tree::comment::Comment;
 use semantic_tree::error::TreeError;
@@ -24,6 +28,9 @@ use semantic_tree::node::Node;
 use semantic_tree::program::{COMMENT_LIMIT, NODE_LIMIT, Program, SOURCE_LIMIT};
 use serde_json::Value;
 use std::alloc::{AllocError, Global};
+
+/// A row has about so many bytes of a written form at least. Room that no row takes is not touched.
+const BYTES_OF_ROW: usize = 48;
 
 /// The parts of a program, before its tree is looked at.
 #[derive(Drop)]
@@ -62,9 +69,47 @@ fn read_all(alloc: Global, bytes: &[u8]) -> Result<Program, TreeError>
     ensures shaped { IfOk result (λ p. IsShaped p) }
     ensures refused { IfErr result (λ e. ¬ IsWantOfMemory e → Refuses (reading bytes.now) e) }
 {
+    if let Some(parts) = parts_at_once(alloc, bytes)? {
+        return program_of(alloc, parts);
+    }
     let value = value_of(alloc, bytes)?;
     let parts = parts_of(alloc, &value)?;
     program_of(alloc, parts)
+}
+
+/// The parts of a program whose bytes have the form that the writer gives; none where they have another.
+fn parts_at_once(alloc: Global, bytes: &[u8]) -> Result<Option<Parts>, AllocError>
+    ensures { IfOk result (λ o. IfSome o (λ parts. reading bytes.now ≡ Ok (parts_view parts))) }
+{
+    let Ok(text) = std::str::from_utf8(bytes) else {
+        return Ok(None);
+    };
+    let mut scratch = Scratch::new(alloc);
+    let mut reader = Reader::new(text, &mut scratch)?;
+    match take_top(alloc, &mut reader, text.len() / BYTES_OF_ROW)? {
+        Some(top) => parts_of_pulled(alloc, top),
+        None => Ok(None),
+    }
+}
+
+/// The parts that what was pulled says, if it is within the limits and its rows list a tree.
+fn parts_of_pulled(alloc: Global, top: Pulled<'_>) -> Result<Option<Parts>, AllocError>
+    ensures { IfOk result (λ o. IfSome o (λ parts. (d : Data) → IsPulled d top.entry → listed_in d ≡ Ok (parts_view parts))) }
+{
+    if top.rows.is_empty()
+        || are_too_many(top.rows.len(), top.comments.len(), top.source)
+        || !are_listed(&top.rows)
+    {
+        return Ok(None);
+    }
+    let root = tree_of(alloc, &top.rows)?;
+    let source = Text::new(alloc, top.source)?;
+    Ok(Some(Parts {
+        source,
+        source_type: top.source_type,
+        comments: top.comments,
+        root,
+    }))
 }
 
 /// The program of these parts, if it has no fault.

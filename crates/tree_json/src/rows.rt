@@ -1,8 +1,8 @@
 //! All rows, and the tree that they list.
-ghost use Rattle.std.specs.Prelude.{◌≡◌, ◌<◌, ◌-◌, ◌^◌, length, map, vec_len, IfOk};
+ghost use Rattle.std.specs.Prelude.{◌≡◌, ◌<◌, ◌-◌, ◌^◌, length, map, vec_len, IfOk, Ok, IsTrue};
 ghost use Rattle.serde_json.specs.View.{items_view, view as data_of};
 ghost use Rattle.tree_json.specs.Lines.{listing};
-ghost use Rattle.tree_json.specs.Listing.{line};
+ghost use Rattle.tree_json.specs.Listing.{line, IsListing};
 ghost use Rattle.tree_json.specs.Views.{texts_view};
 ghost use Rattle.tree_json.specs.Outcome.{Gives};
 ghost use Rattle.tree_json.specs.Reading.{follows, line_at, lines_from, shallow_from, listing_of, result_map};
@@ -93,4 +93,19 @@ fn check_depths(rows: &[Row<'_>]) -> Result<(), TreeError>
         }
     }
     Ok(())
+}
+
+/// Whether these rows list a tree that is not too deep.
+pub(crate) fn are_listed(rows: &[Row<'_>]) -> bool
+    requires { 0 < length rows.now }
+    ensures { IsTrue result → IsListing (map line rows.now) × (shallow_from 0 (map line rows.now) ≡ Ok tt) }
+{
+    let mut opened = 0;
+    for row in rows {
+        if !is_next(row, opened) || row.depth > DEPTH_LIMIT {
+            return false;
+        }
+        opened = row.depth as u64 + 1;
+    }
+    true
 }

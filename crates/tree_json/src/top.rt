@@ -34,7 +34,7 @@ pub(crate) fn goal_name(goal: Goal) -> &'static str
 }
 
 #[tactic(auto, unfolding(crate::specs::Top::goal_named))]
-fn goal_named(text: &str) -> Option<Goal>
+pub(crate) fn goal_named(text: &str) -> Option<Goal>
     ensures { result ≡ goal_named text.now }
 {
     GOALS.iter().copied().find(|goal| goal_name(*goal) == text)
@@ -54,7 +54,7 @@ pub(crate) fn lang_name(lang: Lang) -> &'static str
 }
 
 #[tactic(auto, unfolding(crate::specs::Top::lang_named))]
-fn lang_named(text: &str) -> Option<Lang>
+pub(crate) fn lang_named(text: &str) -> Option<Lang>
     ensures { result ≡ lang_named text.now }
 {
     LANGS.iter().copied().find(|lang| lang_name(*lang) == text)
