@@ -20,6 +20,10 @@ pub const FUNCTION: &str =
 pub const FUNCTION_REPORT: &str =
     "scope 0 parent - node 0 flags Top\nbind 0 \"a\" 0\nbind 0 \"f\" 1\nscope 1 parent 0 node 4 flags Function\nbind 1 \"b\" 2\nsymbol 0 \"a\" scope 0 node 2 span 4-5 flags BlockScopedVariable\nuses 0 2\nsymbol 1 \"f\" scope 0 node 4 span 16-17 flags Function\nuses 1 1\nsymbol 2 \"b\" scope 1 node 7 span 18-19 flags FunctionScopedVariable\nuses 2 0\nref 0 \"b\" node 11 scope 1 flags Read symbol 2\nref 1 \"f\" node 14 scope 0 flags Read symbol 1\nref 2 \"a\" node 15 scope 0 flags Read symbol 0\n";
 
+/// The tree of `class C { #x; m() { #y in this } }`.
+const FOREIGN_NAME: &str =
+    r#"{"comments":[],"format":1,"goal":"script","lang":"js","rows":[[0,"root","Program",0,34,"",[]],[1,"body","Class",6,30,"declaration",[]],[2,"id","BindingIdentifier",6,7,"C",[]],[2,"body","ClassBody",10,30,"",[]],[3,"body","PropertyDefinition",10,12,"",[]],[4,"key","PrivateIdentifier",10,12,"x",[]],[3,"body","MethodDefinition",14,30,"method",[]],[4,"key","IdentifierName",14,15,"m",[]],[4,"value","Function",15,30,"expression",[]],[5,"params","FormalParameters",15,15,"formal",[]],[5,"body","FunctionBody",20,30,"",[]],[6,"body","ExpressionStatement",20,30,"",[]],[7,"expression","PrivateInExpression",20,30,"",[]],[8,"left","PrivateIdentifier",20,22,"y",[]],[8,"right","ThisExpression",26,30,"",[]]],"source":"class C { #x; m() { #y in this } }"}"#;
+
 pub const CASES: &[Case] = &[
     Case {
         name: "a declaration, a function and a call",
@@ -27,6 +31,30 @@ pub const CASES: &[Case] = &[
         input: FUNCTION,
         status: ReportStatus::Clean,
         out: FUNCTION_REPORT,
+        errs: "",
+    },
+    Case {
+        name: "the same with early errors, of which there are none",
+        words: &["--check"],
+        input: FUNCTION,
+        status: ReportStatus::Clean,
+        out: FUNCTION_REPORT,
+        errs: "",
+    },
+    Case {
+        name: "a private name that no class has",
+        words: &["--check"],
+        input: FOREIGN_NAME,
+        status: ReportStatus::Diagnosed,
+        out: "scope 0 parent - node 0 flags Top\nbind 0 \"C\" 0\nscope 1 parent 0 node 1 flags StrictMode\nscope 2 parent 1 node 8 flags StrictMode+Function\nsymbol 0 \"C\" scope 0 node 1 span 6-7 flags Class\nuses 0\ndiag - \"Private field '#y' must be declared in an enclosing class\" at 20-22 - help - note -\n",
+        errs: "",
+    },
+    Case {
+        name: "the same without early errors",
+        words: &[],
+        input: FOREIGN_NAME,
+        status: ReportStatus::Clean,
+        out: "scope 0 parent - node 0 flags Top\nbind 0 \"C\" 0\nscope 1 parent 0 node 1 flags StrictMode\nscope 2 parent 1 node 8 flags StrictMode+Function\nsymbol 0 \"C\" scope 0 node 1 span 6-7 flags Class\nuses 0\n",
         errs: "",
     },
     Case {
@@ -46,70 +74,6 @@ pub const CASES: &[Case] = &[
         errs: "",
     },
     Case {
-        name: "not JSON",
-        words: &[],
-        input: r#"{"format":1"#,
-        status: ReportStatus::Tree,
-        out: "",
-        errs: "tree: not JSON\n",
-    },
-    Case {
-        name: "no input",
-        words: &[],
-        input: r#""#,
-        status: ReportStatus::Tree,
-        out: "",
-        errs: "tree: not JSON\n",
-    },
-    Case {
-        name: "a fraction as end",
-        words: &[],
-        input: r#"{"format":1,"source":"","goal":"script","lang":"js","comments":[],"rows":[[0,"root","Program",0,0.5,"",[]]]}"#,
-        status: ReportStatus::Tree,
-        out: "",
-        errs: "tree: shape at node 0\n",
-    },
-    Case {
-        name: "an unknown kind",
-        words: &[],
-        input: r#"{"format":1,"source":"","goal":"script","lang":"js","comments":[],"rows":[[0,"root","Programme",0,0,"",[]]]}"#,
-        status: ReportStatus::Tree,
-        out: "",
-        errs: "tree: shape at node 0\n",
-    },
-    Case {
-        name: "a declarator without a name",
-        words: &[],
-        input: r#"{"comments":[],"format":1,"goal":"script","lang":"js","rows":[[0,"root","Program",0,16,"",[]],[1,"body","VariableDeclaration",0,10,"let",[]],[2,"declarators","VariableDeclarator",4,9,"",[]],[3,"init","NumericLiteral",8,9,"1",["decimal"]],[1,"body","ExpressionStatement",11,16,"",[]],[2,"expression","AssignmentExpression",11,16,"=",[]],[3,"left","IdentifierReference",11,12,"a",[]],[3,"right","NumericLiteral",15,16,"2",["decimal"]]],"source":"let a = 1; a = 2"}"#,
-        status: ReportStatus::Tree,
-        out: "",
-        errs: "tree: shape at node 2\n",
-    },
-    Case {
-        name: "a depth that jumps",
-        words: &[],
-        input: r#"{"comments":[],"format":1,"goal":"script","lang":"js","rows":[[0,"root","Program",0,16,"",[]],[1,"body","VariableDeclaration",0,10,"let",[]],[2,"declarators","VariableDeclarator",4,9,"",[]],[4,"id","BindingIdentifier",4,5,"a",[]],[3,"init","NumericLiteral",8,9,"1",["decimal"]],[1,"body","ExpressionStatement",11,16,"",[]],[2,"expression","AssignmentExpression",11,16,"=",[]],[3,"left","IdentifierReference",11,12,"a",[]],[3,"right","NumericLiteral",15,16,"2",["decimal"]]],"source":"let a = 1; a = 2"}"#,
-        status: ReportStatus::Tree,
-        out: "",
-        errs: "tree: shape at node 3\n",
-    },
-    Case {
-        name: "a mark that stands twice",
-        words: &[],
-        input: r#"{"comments":[],"format":1,"goal":"script","lang":"js","rows":[[0,"root","Program",0,16,"",[]],[1,"body","VariableDeclaration",0,10,"let",[]],[2,"declarators","VariableDeclarator",4,9,"",[]],[3,"id","BindingIdentifier",4,5,"a",[]],[3,"init","NumericLiteral",8,9,"1",["decimal","decimal"]],[1,"body","ExpressionStatement",11,16,"",[]],[2,"expression","AssignmentExpression",11,16,"=",[]],[3,"left","IdentifierReference",11,12,"a",[]],[3,"right","NumericLiteral",15,16,"2",["decimal"]]],"source":"let a = 1; a = 2"}"#,
-        status: ReportStatus::Tree,
-        out: "",
-        errs: "tree: shape at node 4\n",
-    },
-    Case {
-        name: "an unknown format",
-        words: &[],
-        input: r#"{"comments":[],"format":2,"goal":"script","lang":"js","rows":[[0,"root","Program",0,16,"",[]],[1,"body","VariableDeclaration",0,10,"let",[]],[2,"declarators","VariableDeclarator",4,9,"",[]],[3,"id","BindingIdentifier",4,5,"a",[]],[3,"init","NumericLiteral",8,9,"1",["decimal"]],[1,"body","ExpressionStatement",11,16,"",[]],[2,"expression","AssignmentExpression",11,16,"=",[]],[3,"left","IdentifierReference",11,12,"a",[]],[3,"right","NumericLiteral",15,16,"2",["decimal"]]],"source":"let a = 1; a = 2"}"#,
-        status: ReportStatus::Tree,
-        out: "",
-        errs: "tree: shape\n",
-    },
-    Case {
         name: "a tree whose texts stand in a list",
         words: &[],
         input: r#"{"comments":[],"format":2,"goal":"script","lang":"js","rows":[[0,"root","Program",0,16,0,[]],[1,"body","VariableDeclaration",0,10,1,[]],[2,"declarators","VariableDeclarator",4,9,0,[]],[3,"id","BindingIdentifier",4,5,2,[]],[3,"init","NumericLiteral",8,9,3,["decimal"]],[1,"body","ExpressionStatement",11,16,0,[]],[2,"expression","AssignmentExpression",11,16,4,[]],[3,"left","IdentifierReference",11,12,2,[]],[3,"right","NumericLiteral",15,16,5,["decimal"]]],"source":"let a = 1; a = 2","texts":["","let","a","1","=","2"]}"#,
@@ -124,46 +88,6 @@ pub const CASES: &[Case] = &[
         status: ReportStatus::Clean,
         out: "scope 0 parent - node 0 flags Top\n",
         errs: "",
-    },
-    Case {
-        name: "a text past the list",
-        words: &[],
-        input: r#"{"format":2,"source":"","goal":"script","lang":"js","comments":[],"rows":[[0,"root","Program",0,0,1,[]]],"texts":[""]}"#,
-        status: ReportStatus::Tree,
-        out: "",
-        errs: "tree: shape at node 0\n",
-    },
-    Case {
-        name: "a list of texts that isn't asked for",
-        words: &[],
-        input: r#"{"format":1,"source":"","goal":"script","lang":"js","comments":[],"rows":[[0,"root","Program",0,0,"",[]]],"texts":[""]}"#,
-        status: ReportStatus::Tree,
-        out: "",
-        errs: "tree: shape\n",
-    },
-    Case {
-        name: "a format that isn't there",
-        words: &[],
-        input: r#"{"format":3,"source":"","goal":"script","lang":"js","comments":[],"rows":[[0,"root","Program",0,0,0,[]]],"texts":[""]}"#,
-        status: ReportStatus::Tree,
-        out: "",
-        errs: "tree: shape\n",
-    },
-    Case {
-        name: "a span that cuts a character",
-        words: &[],
-        input: r#"{"format":1,"source":"é","goal":"script","lang":"js","comments":[],"rows":[[0,"root","Program",0,1,"",[]]]}"#,
-        status: ReportStatus::Tree,
-        out: "",
-        errs: "tree: span at node 0\n",
-    },
-    Case {
-        name: "a comment outside the source",
-        words: &[],
-        input: r#"{"format":1,"source":"","goal":"script","lang":"js","comments":[[0,1,"line"]],"rows":[[0,"root","Program",0,0,"",[]]]}"#,
-        status: ReportStatus::Tree,
-        out: "",
-        errs: "tree: span at comment 0\n",
     },
     Case {
         name: "nodes and counts of an empty program",
@@ -193,7 +117,7 @@ pub const UNREAD: &[Unread] = &[
         out: "",
     },
     Unread {
-        words: &["--check"],
+        words: &["--check", "--what"],
         status: ReportStatus::Usage,
         out: "",
     },
@@ -246,6 +170,16 @@ pub const UNREAD: &[Unread] = &[
         words: &["--nodes", "--make", "3", "--classes", "--stats"],
         status: ReportStatus::Clean,
         out: "made nodes 43 scopes 4 symbols 9 references 9 free 3\n",
+    },
+    Unread {
+        words: &["--check", "--make", "3"],
+        status: ReportStatus::Clean,
+        out: "made nodes 43 scopes 4 symbols 9 references 9 free 3\n",
+    },
+    Unread {
+        words: &["--make", "10000", "--check"],
+        status: ReportStatus::Clean,
+        out: "made nodes 140001 scopes 10001 symbols 30000 references 30000 free 10000\n",
     },
     Unread {
         words: &["--make", "10000"],

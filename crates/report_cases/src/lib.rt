@@ -2,8 +2,18 @@
 #![tactic(auto)]
 
 #[cfg(test)]
+mod bad_input;
+#[cfg(test)]
+mod bad_runs;
+#[cfg(test)]
 mod cases;
 #[cfg(test)]
 mod ends;
+#[cfg(test)]
+mod inputs;
+#[cfg(test)]
+mod nested_functions;
+#[cfg(test)]
+mod runs;
 #[cfg(test)]
 mod tests;

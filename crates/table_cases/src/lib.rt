@@ -5,6 +5,8 @@
 #[cfg(test)]
 mod answers;
 #[cfg(test)]
+mod by_hand;
+#[cfg(test)]
 mod classes;
 #[cfg(test)]
 mod edit_rows;
