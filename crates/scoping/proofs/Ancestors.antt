@@ -3,7 +3,7 @@ use Rattle.std.proofs.Common.{◌≡◌, ℕ, ◌<◌, ◌-◌, zero, suc, true,
 use Rattle.std.specs.Option.{option_map_or}
 use Rattle.semantic_syntax.specs.Tables.{Scope}
 use Rattle.scoping.specs.Ancestry.{RunsOutward}
-use Rattle.scoping.specs.Reading.{parent_of, IsForest}
+use Rattle.scoping.specs.Reading.{parent_of, chain, IsForest}
 use Rattle.scoping.specs.Source.{chain_within, ends_within}
 use Rattle.scoping.proofs.Walks.{never, goes_on, walk_distinct}
 
@@ -35,7 +35,7 @@ module _ (g : ℕ → Option ℕ) where
           let inner = goes_on g m k p is ends in
           ap g (last_cons k d (chain_within g m p) (some_within m p inner)) ∙ again p inner
 
-pub runs_outward : (scopes : List Scope) (s : ℕ) → IsForest scopes → s < length scopes → RunsOutward scopes s
+pub runs_outward : (scopes : List Scope) (s : ℕ) → IsForest scopes → s < length scopes → RunsOutward scopes s (chain scopes s)
 runs_outward scopes s forest within =
     let g = parent_of scopes in
     let ends = forest.ends s within in

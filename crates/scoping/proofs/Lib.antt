@@ -1,8 +1,8 @@
 pub mod Names
 pub mod Found
-pub mod Flat
+pub mod Filled
+pub mod Indexed
 pub mod Rows
-pub mod Orders
 pub mod Results
 pub mod Entries
 pub mod Every
@@ -11,12 +11,10 @@ pub mod Shown
 pub mod Parents
 pub mod Outward
 pub mod Forests
-pub mod Picked
+pub mod Lengths
 pub mod Moves
 pub mod Folds
 pub mod Walks
-pub mod Rekeyed
-pub mod TakeOver
 pub mod Reparent
 pub mod Redeclared
 pub mod Sweeps

@@ -4,17 +4,17 @@ use Rattle.std.proofs.Math.ListN.{set}
 use Rattle.std.proofs.lemmas.List.{ext_get_or, length-set, get_or-set_same, get_or-set_other, get_or-map, length-map, drop_all}
 use Rattle.std.proofs.lemmas.Bool.{eqb-true, eqb-false}
 
-module _ (f : ℕ → List ℕ → List ℕ) where
+module _ {X : Type 0} (f : ℕ → List X → List X) where
   -- the lists below i are changed, and the others are as they were
-  pub record IsSwept (was now : List (List ℕ)) (i : ℕ) : Type 0 where
+  pub record IsSwept (was now : List (List X)) (i : ℕ) : Type 0 where
     pub count : length now ≡ length was
     pub done : (k : ℕ) → k < i → k < length was → get_or now k [] ≡ f k (get_or was k [])
     pub left : (k : ℕ) → i ≤ k → get_or now k [] ≡ get_or was k []
 
-  pub swept_none : (was : List (List ℕ)) → IsSwept was was 0
+  pub swept_none : (was : List (List X)) → IsSwept was was 0
   swept_none was = record { count = refl; done = λ k l b. absurd (omega arith); left = λ k l. refl }
 
-  pub swept_more : (was now : List (List ℕ)) (i : ℕ) (x : List ℕ) → i < length was → x ≡ f i (get_or now i []) → IsSwept was now i → IsSwept was (set now i x) (i + 1)
+  pub swept_more : (was now : List (List X)) (i : ℕ) (x : List X) → i < length was → x ≡ f i (get_or now i []) → IsSwept was now i → IsSwept was (set now i x) (i + 1)
   swept_more was now i x within is swept = record {
     count = length-set now i x ∙ swept.count;
     done = λ k l b. done_at k l b (k == i) refl;
@@ -30,7 +30,7 @@ module _ (f : ℕ → List ℕ → List ℕ) where
           let apart = eqb-false k i e in
           get_or-set_other now i k x [] (λ same. apart same) ∙ swept.done k (omega arith) b
 
-pub swept_map : (g : List ℕ → List ℕ) (was now : List (List ℕ)) (i : ℕ) → length was ≤ i → IsSwept (λ _. g) was now i → now ≡ map g was
+pub swept_map : {X : Type 0} (g : List X → List X) (was now : List (List X)) (i : ℕ) → length was ≤ i → IsSwept (λ _. g) was now i → now ≡ map g was
 swept_map g was now i past swept =
     ext_get_or [] now (map g was) (swept.count ∙ sym (length-map was g)) (λ k below.
     let small : k < length was = omega (arith, swept.count) in

@@ -1,12 +1,10 @@
--- All bindings in one list of entries: from the pair of a scope and a name's number to a symbol.
-use Rattle.std.specs.Prelude.{◌≡◌, ℕ, ◌<◌, List, [], ◌∷◌, length, map, slice_index_or, ◌==◌, ◌&&◌, Bool, if◌then◌else◌, filter_map, option_map, nat_eq, None, slice_set}
+-- What scopes bind, each binding in a slot of its scope, and one list of entries with the places of the slots.
+use Rattle.std.specs.Prelude.{◌≡◌, ℕ, List, slice_index_or, ◌==◌, ◌&&◌, Bool, false, filter_map, nat_eq, Option, None, slice_set, [], ◌∷◌, cond, zero, suc, take}
 use Rattle.std.specs.Option.{option_map_or}
 use Rattle.indexmap.specs.IndexMap.{insert_entry, shift_remove_entry}
-use Rattle.std.specs.List.{range_with_len, AllByRecursion}
-use Rattle.std.specs.Map.{keys_of, lookup}
-use Rattle.std.specs.Global.{Vec}
-use Rattle.scoping.specs.declared.binding_table.BindingTable.TheInside.{Inside}
+use Rattle.std.specs.Map.{lookup}
 
+-- from the pair of a scope and a name's number to the place of a slot
 abbrev pub Entries : Type 0
 Entries = List ((ℕ × ℕ) × ℕ)
 
@@ -14,36 +12,45 @@ Entries = List ((ℕ × ℕ) × ℕ)
 abbrev pub Numbered : Type 0
 Numbered = List (ℕ × ℕ)
 
+-- the slots of a scope, in the order of binding; one whose binding went is empty
+abbrev pub SlotList : Type 0
+SlotList = List (Option (ℕ × ℕ))
+
 -- whether two keys are equal
 abbrev pub key_eq : ℕ × ℕ → ℕ × ℕ → Bool
 key_eq a b = (a.0 == b.0) && (a.1 == b.1)
 
--- what one scope binds
-unfoldable pub bindings_in : Entries → ℕ → Numbered
-bindings_in [] s = []
-bindings_in (e ∷ es) s = if e.0.0 == s then (e.0.1, e.1) ∷ bindings_in es s else bindings_in es s
+-- what the slots bind
+abbrev pub filled : SlotList → Numbered
+filled xs = filter_map (λ x. x) xs
 
--- what each of the scopes binds
-unfoldable pub bindings_by_scope : Entries → ℕ → List Numbered
-bindings_by_scope es count = map (bindings_in es) (range_with_len 0 count)
+-- whether the slot binds the number
+abbrev pub holds : ℕ → Option (ℕ × ℕ) → Bool
+holds n x = option_map_or (λ b. n == b.0) x false
 
--- each entry is of one of the scopes
-unfoldable pub AreOfScopes : ℕ → Entries → Type 0
-AreOfScopes count [] = Unit {0}
-AreOfScopes count (e ∷ es) = (e.0.0 < count) × AreOfScopes count es
+-- whether it is the place, if any
+abbrev pub is_place : ℕ → Option ℕ → Bool
+is_place i place = option_map_or (λ j. i == j) place false
 
--- what each scope binds, as a table shows it
-abbrev pub bindings_of_table : Inside → List Numbered
-bindings_of_table a = bindings_by_scope a.entries.entries (length a.orders.items)
+-- the slot at the place, if any, binds the number, and no other does
+abbrev pub StandsAt : SlotList → ℕ → Option ℕ → Type 0
+StandsAt xs n place = (i : ℕ) → is_place i place ≡ holds n (slice_index_or xs i None)
 
--- each entry is of a scope, and beside the entries stand the numbers that each scope binds, in order
-pub record IsKept (a : Inside) : Type 0 where
-  pub scopes : AreOfScopes (length a.orders.items) a.entries.entries
-  pub orders : map (λ (o : Vec ℕ). o.items) a.orders.items ≡ map keys_of (bindings_of_table a)
+-- the entries tell for each number where the scope binds it, if it does
+abbrev pub HasPlaces : Entries → ℕ → SlotList → Type 0
+HasPlaces es s xs = (n : ℕ) → StandsAt xs n (lookup (key_eq (s, n)) es)
 
--- the pairs that stand under the numbers
-abbrev pub picked : Numbered → List ℕ → Numbered
-picked bs ns = filter_map (λ n. option_map (λ y. (n, y)) (lookup (nat_eq n) bs)) ns
+-- and so for all scopes
+abbrev pub HasAllPlaces : Entries → List SlotList → Type 0
+HasAllPlaces es rows = (s : ℕ) → HasPlaces es s (slice_index_or rows s [])
+
+-- of the other scopes the entries tell the same
+abbrev pub KeepsElsewhere : Entries → Entries → ℕ → Type 0
+KeepsElsewhere old new s = (t n : ℕ) → (s == t) ≡ false → lookup (key_eq (t, n)) new ≡ lookup (key_eq (t, n)) old
+
+-- the entries tell of one key something else than before
+abbrev pub Retells : Entries → Entries → ℕ × ℕ → Option ℕ → Type 0
+Retells old new k place = (q : ℕ × ℕ) → lookup (key_eq q) new ≡ cond (key_eq k q) place (lookup (key_eq q) old)
 
 -- what each scope binds, with the number bound in one of them
 abbrev pub put : List Numbered → ℕ → ℕ → ℕ → List Numbered
@@ -57,11 +64,14 @@ cut bs s n = slice_set bs s (shift_remove_entry (nat_eq n) (slice_index_or bs s 
 abbrev pub moved_number : List Numbered → ℕ → ℕ → ℕ → List Numbered
 moved_number bs from to n = option_map_or (λ y. cut (put bs to n y) from n) (lookup (nat_eq n) (slice_index_or bs from [])) bs
 
--- the entries with the number's entry under another scope, in its place
-abbrev pub rekeyed : ℕ → ℕ → Entries → ℕ → Entries
-rekeyed from to [] n = []
-rekeyed from to (e ∷ es) n = if key_eq (from, n) e.0 then ((to, n), e.1) ∷ es else e ∷ rekeyed from to es n
+-- the slots without what the first of them bind
+abbrev pub hollow : ℕ → SlotList → SlotList
+hollow k [] = []
+hollow zero (x ∷ xs) = x ∷ xs
+hollow (suc k) (x ∷ xs) = None ∷ hollow k xs
 
--- the scope binds none of the numbers
-abbrev pub BindsNone : Entries → ℕ → List ℕ → Type 0
-BindsNone es s ns = AllByRecursion (λ n. lookup (key_eq (s, n)) es ≡ None) ns
+-- the entries of the first k slots of one scope are another's
+pub record IsRekeyed (old new : Entries) (from to : ℕ) (xs : SlotList) (k : ℕ) : Type 0 where
+  pub source : HasPlaces new from (hollow k xs)
+  pub target : HasPlaces new to (take k xs)
+  pub elsewhere : (t n : ℕ) → (from == t) ≡ false → (to == t) ≡ false → lookup (key_eq (t, n)) new ≡ lookup (key_eq (t, n)) old

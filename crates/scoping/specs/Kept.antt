@@ -1,5 +1,5 @@
 -- References and bindings that are kept as others are dropped.
-use Rattle.std.specs.Prelude.{◌≡◌, ℕ, ◌<◌, is_some, ◌==◌, ◌&&◌, ◌||◌, not, Bool, false, List, [], ◌∷◌, length, map, filter, nat_eq, slice_index_or}
+use Rattle.std.specs.Prelude.{◌≡◌, ℕ, ◌<◌, ◌≤◌, ◌==◌, ◌&&◌, ◌||◌, not, Bool, false, true, None, List, [], ◌∷◌, length, map, filter, nat_eq, slice_index_or}
 use Rattle.std.specs.Option.{option_map_or}
 use Rattle.std.specs.List.{list_any}
 use Rattle.std.specs.Int.RustNames.{bit_and}
@@ -11,7 +11,7 @@ use Rattle.semantic_syntax.specs.declared.symbol_flags.TheConstants.SymbolFlags 
 use Rattle.semantic_syntax.specs.Sets.{meets}
 use Rattle.semantic_syntax.specs.Tables.{Symbol, Tables}
 use Rattle.scoping.specs.Row.{Row, no_row}
-use Rattle.scoping.specs.Flat.{Entries, key_eq}
+use Rattle.scoping.specs.Flat.{SlotList}
 use Rattle.scoping.specs.Reading.{no_symbol, no_reference, symbol_of, reference_of, uses_of}
 
 -- whether the reference is not marked; one past the end is not
@@ -71,14 +71,11 @@ relisted test es (r ∷ rs) = set_value test es (r ∷ rs)
 abbrev pub delisted : {K : Type 0} → (K → Bool) → ℕ → List (K × List ℕ) → List (K × List ℕ)
 delisted test r es = option_map_or (λ rs. relisted test es (swap_remove_by (nat_eq r) rs)) (lookup test es) es
 
--- the numbers that the scope binds, of these
-abbrev pub bound_of : Entries → ℕ → List ℕ → List ℕ
-bound_of es s ns = filter (λ n. is_some (lookup (key_eq (s, n)) es)) ns
-
--- the second lists are what the scopes bind of the first
-pub record AreBoundOf (es : Entries) (was now : List (List ℕ)) : Type 0 where
-  pub count : length now ≡ length was
-  pub each : (s : ℕ) → s < length was → slice_index_or now s [] ≡ bound_of es s (slice_index_or was s [])
+-- the slots below the place stay as types go, and stand one behind the other below `packed`
+pub record IsPacked (ys : List Row) (xs : SlotList) (packed place : ℕ) : Type 0 where
+  pub behind : packed ≤ place
+  pub gap : (i : ℕ) → packed ≤ i → i < place → slice_index_or xs i None ≡ None
+  pub stay : (i : ℕ) → i < place → option_map_or (λ b. stays ys b.1) (slice_index_or xs i None) true ≡ true
 
 -- whether the symbol is not a constant, and a use of it writes
 abbrev pub is_mutated : Tables → ℕ → Bool

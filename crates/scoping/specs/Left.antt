@@ -1,13 +1,11 @@
 -- What iterators have left.
-use Rattle.std.specs.Prelude.{◌≡◌, ℕ, ◌+◌, ◌<◌, List, [], ◌++◌, length, map, drop, slice_index_or, nat_eq, IsSome, IfSome}
+use Rattle.std.specs.Prelude.{◌≡◌, ℕ, ◌+◌, ◌<◌, List, [], ◌++◌, length, map, drop, slice_index_or, IfSome}
 use Rattle.std.specs.List.{AllByRecursion}
 use Rattle.std.specs.Option.{option_to_list, option_map_or}
-use Rattle.std.specs.Map.{lookup, values_of}
 use Rattle.std.specs.Slice.Iter.{iter_rest}
 use Rattle.semantic_syntax.specs.declared.references.Reference.{Reference}
 use Rattle.semantic_syntax.specs.Tables.{Name, Bindings, FreeLists}
 use Rattle.scoping.specs.declared.bindings.BindingsIter.TheInside as bindings_iter
-use Rattle.scoping.specs.declared.bindings.BoundSymbols.TheInside as bound_symbols
 use Rattle.scoping.specs.declared.bindings.AllBindings.TheInside as all_bindings
 use Rattle.scoping.specs.declared.symbol_iterators.SymbolNames.TheInside as symbol_names
 use Rattle.scoping.specs.declared.symbol_iterators.Declarations.TheInside as declarations
@@ -16,31 +14,17 @@ use Rattle.scoping.specs.declared.reference_iterators.ReferencesIter.TheInside a
 use Rattle.scoping.specs.declared.unresolved.UnresolvedIter.TheInside as unresolved
 use Rattle.scoping.specs.Names.{name_at, named}
 use Rattle.scoping.specs.Numbering.{numbered_from}
-use Rattle.scoping.specs.Flat.{Numbered, picked}
 use Rattle.scoping.specs.Row.{Row}
 use Rattle.scoping.specs.Reading.{no_reference, chain, IsForest}
 use Rattle.scoping.specs.View.{scope_of_row}
 
--- each of the numbers is bound
-abbrev pub AreBoundNumbers : Numbered → List ℕ → Type 0
-AreBoundNumbers bs ns = AllByRecursion (λ n. IsSome (lookup (nat_eq n) bs)) ns
-
--- the pairs of a scope whose numbers are left
+-- the pairs of a scope that are left
 abbrev pub pairs_left : bindings_iter.Inside → Bindings
-pairs_left a = named a.names.now (picked (slice_index_or a.table.now a.scope []) (iter_rest a.numbers))
+pairs_left a = named a.names.now a.bound
 
--- the scope is there, and each number that is left is bound and has a name
-pub record ArePairsLeft (a : bindings_iter.Inside) : Type 0 where
-  pub scope : a.scope < length a.table.now
-  pub bound : AreBoundNumbers (slice_index_or a.table.now a.scope []) (iter_rest a.numbers)
-  pub known : AllByRecursion (λ n. n < length a.names.now) (iter_rest a.numbers)
-
-abbrev pub symbols_left : bound_symbols.Inside → List ℕ
-symbols_left a = values_of (picked (slice_index_or a.table.now a.scope []) (iter_rest a.numbers))
-
-pub record AreSymbolsLeft (a : bound_symbols.Inside) : Type 0 where
-  pub scope : a.scope < length a.table.now
-  pub bound : AreBoundNumbers (slice_index_or a.table.now a.scope []) (iter_rest a.numbers)
+-- each number that is left has a name
+abbrev pub ArePairsLeft : bindings_iter.Inside → Type 0
+ArePairsLeft a = AllByRecursion (λ (e : ℕ × ℕ). e.0 < length a.names.now) a.bound
 
 abbrev pub scopes_left : all_bindings.Inside → List (ℕ × Bindings)
 scopes_left a = numbered_from a.next (map (named a.names.now) (drop a.next a.table.now))

@@ -1,13 +1,12 @@
 //! What each scope binds, by the numbers of names.
-ghost use Rattle.std.specs.Prelude.{◌≡◌, ◌==◌, ◌+◌, ◌<◌, ◌≤◌, fold, map, [], ◌∷◌, ◌++◌, length, nat_eq, false, None, slice_index_or, slice_set, OnOk, OnErr};
-ghost use Rattle.std.specs.Map.{lookup, keys_of};
-ghost use Rattle.std.specs.List.{IsDistinct};
+ghost use Rattle.std.specs.Prelude.{◌≡◌, ◌==◌, ◌+◌, ◌<◌, ◌≤◌, map, [], ◌∷◌, ◌++◌, length, nat_eq, false, None, Some, slice_index_or, slice_set, OnOk, OnErr};
+ghost use Rattle.std.specs.Map.{lookup};
 ghost use Rattle.indexmap.specs.IndexMap.{insert_entry, shift_remove_entry, spare};
-ghost use Rattle.scoping.specs.Flat.{key_eq, put, cut, moved_number, rekeyed, BindsNone};
-ghost use Rattle.scoping.specs.Kept.{rows_without_types, bound_of, AreBoundOf};
+ghost use Rattle.scoping.specs.Flat.{key_eq, put, cut, filled, moved_number, HasPlaces, HasAllPlaces, KeepsElsewhere, IsRekeyed};
+ghost use Rattle.scoping.specs.Kept.{rows_without_types, IsPacked};
 
 use crate::kept::stays;
-use crate::places::place_of_number;
+use crate::scope_slots::{BoundIter, ScopeSlots};
 use crate::symbol_row::SymbolRow;
 use indexmap::IndexMap;
 use semantic_syntax::{ScopeId, SymbolId};
@@ -15,14 +14,14 @@ use std::alloc::{AllocError, Global};
 use std::marker::Model;
 use std::mem;
 
-/// All bindings in one map, from the pair of a scope and a name's number to a symbol. Cut to one scope, the
-/// order of the map is that scope's order of binding. Beside it stands each scope's list of numbers in that
-/// order, so that a scope's bindings are told without a pass over the map.
+/// What each scope binds, in slots. One map tells the place of a binding's slot from the pair of the scope and the
+/// name's number. A number that is unbound leaves an empty slot, and the slots of a scope are packed once most of
+/// them are empty: so unbinding costs what binding does, and a pass over a scope what it binds.
 #[derive(Drop)]
 pub struct BindingTable {
     alloc: Global,
-    entries: IndexMap<(ScopeId, usize), SymbolId>,
-    orders: Vec<Vec<usize>>,
+    places: IndexMap<(ScopeId, usize), usize>,
+    scopes: Vec<ScopeSlots>,
 }
 
 impl Model for BindingTable {
@@ -30,74 +29,147 @@ impl Model for BindingTable {
 
     ghost Value = { List (List (ℕ × ℕ)) };
 
-    ghost use Rattle.scoping.specs.Flat.{bindings_of_table, IsKept};
+    ghost use Rattle.scoping.specs.Tabled.{bindings_of_table, IsKept};
 
     ghost view = { bindings_of_table };
 
     ghost invariant = { IsKept };
 }
 
-/// Puts the number's entry under another scope, which does not bind it, in its place. There is room for it: the new
-/// entry goes last, and then into the place of the old one.
-fn rekey(
-    entries: &mut IndexMap<(ScopeId, usize), SymbolId>,
-    from: ScopeId,
-    to: ScopeId,
+/// Binds the number to the symbol. A new number goes last, a bound one keeps its place.
+fn bind(
+    places: &mut IndexMap<(ScopeId, usize), usize>,
+    slots: &mut ScopeSlots,
+    scope: ScopeId,
     number: usize,
-)
-    requires room { 0 < spare entries.old }
-    requires apart { (from == to) ≡ false }
-    requires absent { lookup (key_eq (to, number)) entries.old.entries ≡ None }
-    ensures entries { entries.new.entries ≡ rekeyed from to entries.old.entries number }
-    ensures room { spare entries.old ≤ spare entries.new + 1 }
+    symbol: SymbolId,
+) -> Result<(), AllocError>
+    requires { HasPlaces places.old.entries scope slots.old }
+    ensures places { HasPlaces places.new.entries scope slots.new }
+    ensures elsewhere { KeepsElsewhere places.old.entries places.new.entries scope }
+    ensures ok { OnOk result (filled slots.new ≡ insert_entry nat_eq (filled slots.old) number symbol) }
+    ensures err { OnErr result (filled slots.new ≡ filled slots.old) }
 {
-    let symbol = match entries.get(&(from, number)) {
-        Some(symbol) => *symbol,
-        None => return,
-    };
-    let _previous = entries.insert((to, number), symbol);
-    let _symbol = entries.swap_remove(&(from, number));
+    if let Some(place) = places.get(&(scope, number)) {
+        slots.fill(*place, number, symbol);
+        return Ok(());
+    }
+    let place = slots.len();
+    places.reserve(1)?;
+    slots.push(number, symbol)?;
+    let _previous = places.insert((scope, number), place);
+    Ok(())
 }
 
-/// Puts the numbers' entries under another scope, which binds none of them, each in its place. There is room for them.
-fn rekey_all(
-    entries: &mut IndexMap<(ScopeId, usize), SymbolId>,
-    from: ScopeId,
-    to: ScopeId,
-    numbers: &[usize],
-)
-    requires room { length numbers.now ≤ spare entries.old }
-    requires apart { (from == to) ≡ false }
-    requires absent { BindsNone entries.old.entries to numbers.now }
-    requires distinct { IsDistinct nat_eq numbers.now }
-    ensures { entries.new.entries ≡ fold (rekeyed from to) entries.old.entries numbers.now }
+/// Moves what the slot binds to the end of the packed ones, or unbinds it if it goes with the types. Tells how many
+/// are packed then.
+fn settle(
+    places: &mut IndexMap<(ScopeId, usize), usize>,
+    slots: &mut ScopeSlots,
+    scope: ScopeId,
+    rows: &[SymbolRow],
+    place: usize,
+    packed: usize,
+) -> usize
+    requires places { HasPlaces places.old.entries scope slots.old }
+    requires within { place < length slots.old }
+    requires packed { IsPacked rows.now slots.old packed place }
+    ensures places { HasPlaces places.new.entries scope slots.new }
+    ensures elsewhere { KeepsElsewhere places.old.entries places.new.entries scope }
+    ensures count { length slots.new ≡ length slots.old }
+    ensures kept { rows_without_types rows.now (filled slots.new) ≡ rows_without_types rows.now (filled slots.old) }
+    ensures packed { IsPacked rows.now slots.new result (place + 1) }
 {
-    for number in numbers {
-        rekey(entries, from, to, *number);
+    let (number, symbol) = match slots.get(place) {
+        Some(bound) => bound,
+        None => return packed,
+    };
+    slots.clear(place);
+    if !stays(rows, symbol) {
+        let _place = places.swap_remove(&(scope, number));
+        return packed;
+    }
+    let _count = slots.len();
+    slots.fill(packed, number, symbol);
+    let _previous = places.insert((scope, number), packed);
+    packed + 1
+}
+
+/// Unbinds the symbols that go with the types, and drops the empty slots. The others keep their order.
+fn pack(
+    places: &mut IndexMap<(ScopeId, usize), usize>,
+    slots: &mut ScopeSlots,
+    scope: ScopeId,
+    rows: &[SymbolRow],
+)
+    requires { HasPlaces places.old.entries scope slots.old }
+    ensures places { HasPlaces places.new.entries scope slots.new }
+    ensures elsewhere { KeepsElsewhere places.old.entries places.new.entries scope }
+    ensures kept { filled slots.new ≡ rows_without_types rows.now (filled slots.old) }
+{
+    let mut packed = 0;
+    for place in 0..slots.len() {
+        packed = settle(places, slots, scope, rows, place, packed);
+    }
+    slots.truncate(packed);
+}
+
+/// Does so for each scope.
+fn pack_each(
+    places: &mut IndexMap<(ScopeId, usize), usize>,
+    scopes: &mut Vec<ScopeSlots>,
+    rows: &[SymbolRow],
+)
+    requires places { HasAllPlaces places.old.entries scopes.old.items }
+    requires fits { length scopes.old.items < 4294967296 }
+    ensures places { HasAllPlaces places.new.entries scopes.new.items }
+    ensures kept { map filled scopes.new.items ≡ map (rows_without_types rows.now) (map filled scopes.old.items) }
+{
+    for scope in 0..scopes.len() {
+        pack(places, &mut scopes[scope], ScopeId::new(scope as u32), rows);
     }
 }
 
-/// Drops the numbers that the scope does not bind.
-fn retain_bound(
-    order: &mut Vec<usize>,
-    entries: &IndexMap<(ScopeId, usize), SymbolId>,
+/// Unbinds the number. The others keep their order.
+fn unbind(
+    places: &mut IndexMap<(ScopeId, usize), usize>,
+    slots: &mut ScopeSlots,
     scope: ScopeId,
+    number: usize,
 )
-    ensures { order.new.items ≡ bound_of entries.now.entries scope order.old.items }
+    requires { HasPlaces places.old.entries scope slots.old }
+    ensures places { HasPlaces places.new.entries scope slots.new }
+    ensures elsewhere { KeepsElsewhere places.old.entries places.new.entries scope }
+    ensures gone { filled slots.new ≡ shift_remove_entry (nat_eq number) (filled slots.old) }
 {
-    order.retain(|number| entries.contains_key(&(scope, *number)));
+    let place = match places.swap_remove(&(scope, number)) {
+        Some(place) => place,
+        None => return,
+    };
+    slots.clear(place);
+    if slots.is_sparse() {
+        pack(places, slots, scope, &[]);
+    }
 }
 
-/// Drops from the list of each scope the numbers that it does not bind.
-fn retain_bound_in_each(
-    orders: &mut Vec<Vec<usize>>,
-    entries: &IndexMap<(ScopeId, usize), SymbolId>,
+/// Tells the places of the slots under another scope, which binds nothing. There is room for it.
+fn rekey(
+    places: &mut IndexMap<(ScopeId, usize), usize>,
+    slots: &ScopeSlots,
+    from: ScopeId,
+    to: ScopeId,
 )
-    requires { length orders.old.items < 4294967296 }
-    ensures { AreBoundOf entries.now.entries (map (λ v. v.items) orders.old.items) (map (λ v. v.items) orders.new.items) }
+    requires room { length slots.now ≤ spare places.old }
+    requires apart { (from == to) ≡ false }
+    requires from { HasPlaces places.old.entries from slots.now }
+    requires to { HasPlaces places.old.entries to [] }
+    ensures { IsRekeyed places.old.entries places.new.entries from to slots.now (length slots.now) }
 {
-    for scope in 0..orders.len() {
-        retain_bound(&mut orders[scope], entries, ScopeId::new(scope as u32));
+    for place in 0..slots.len() {
+        if let Some((number, _)) = slots.get(place) {
+            let _place = places.swap_remove(&(from, number));
+            let _previous = places.insert((to, number), place);
+        }
     }
 }
 
@@ -108,8 +180,8 @@ impl BindingTable {
     {
         BindingTable {
             alloc,
-            entries: IndexMap::new(alloc),
-            orders: Vec::new(alloc),
+            places: IndexMap::new(alloc),
+            scopes: Vec::new(alloc),
         }
     }
 
@@ -118,7 +190,7 @@ impl BindingTable {
         ensures ok { OnOk result (self.new ≡ self.old ++ [] ∷ []) }
         ensures err { OnErr result (self.new ≡ self.old) }
     {
-        self.orders.push(Vec::new(self.alloc))?;
+        self.scopes.push(ScopeSlots::new(self.alloc))?;
         Ok(())
     }
 
@@ -127,48 +199,25 @@ impl BindingTable {
         requires { scope < length self.now }
         ensures { result ≡ lookup (nat_eq number) (slice_index_or self.now scope []) }
     {
-        let symbol = self.entries.get(&(scope, number))?;
-        Some(*symbol)
+        let place = self.places.get(&(scope, number))?;
+        let (_, symbol) = self.scopes[scope.index()].get(*place)?;
+        Some(symbol)
     }
 
-    /// Whether the entry at the place of the map is the number's.
-    fn is_at(&self, scope: ScopeId, number: usize, place: usize) -> bool {
-        match self.entries.get_index(place) {
-            Some((key, _)) => key.0 == scope && key.1 == number,
-            None => false,
-        }
-    }
-
-    /// The place of the number's entry in the map. The given one is tried first: the entries of a scope often stand one
-    /// behind the other, and a search costs more.
-    pub fn place_near(&self, scope: ScopeId, number: usize, place: usize) -> usize {
-        if self.is_at(scope, number, place) {
-            return place;
-        }
-        self.entries.get_index_of(&(scope, number)).unwrap_or(place)
-    }
-
-    /// The symbol that the scope binds to the number, whose entry is at the place most likely.
-    pub fn get_at(&self, scope: ScopeId, number: usize, place: usize) -> Option<SymbolId>
+    /// What the scope binds, in the order of binding.
+    pub fn iter(&self, scope: ScopeId) -> BoundIter<'_>
         requires { scope < length self.now }
-        ensures { result ≡ lookup (nat_eq number) (slice_index_or self.now scope []) }
+        ensures { result ≡ slice_index_or self.now scope [] }
     {
-        if let Some((key, symbol)) = self.entries.get_index(place) {
-            if key.0 == scope && key.1 == number {
-                return Some(*symbol);
-            }
-        }
-        self.get(scope, number)
+        self.scopes[scope.index()].iter()
     }
 
-    /// The numbers that the scope binds, in the order of binding.
-    pub fn numbers(&self, scope: ScopeId) -> &[usize]
+    /// How many numbers the scope binds.
+    pub fn bound_len(&self, scope: ScopeId) -> usize
         requires { scope < length self.now }
-        ensures value { result.now ≡ keys_of (slice_index_or self.now scope []) }
-        ensures distinct { IsDistinct nat_eq result.now }
+        ensures { result ≡ length (slice_index_or self.now scope []) }
     {
-        let _count = self.entries.len();
-        self.orders[scope.index()].as_slice()
+        self.scopes[scope.index()].bound_len()
     }
 
     /// Binds the number to the symbol. A new number goes last, a bound one keeps its place.
@@ -182,12 +231,13 @@ impl BindingTable {
         ensures ok { OnOk result (self.new ≡ slice_set self.old scope (insert_entry nat_eq (slice_index_or self.old scope []) number symbol)) }
         ensures err { OnErr result (self.new ≡ self.old) }
     {
-        let order = &mut self.orders[scope.index()];
-        order.reserve(1)?;
-        if self.entries.insert((scope, number), symbol)?.is_none() {
-            order.push(number)?;
-        }
-        Ok(())
+        bind(
+            &mut self.places,
+            &mut self.scopes[scope.index()],
+            scope,
+            number,
+            symbol,
+        )
     }
 
     /// Unbinds the number. The others keep their order.
@@ -195,11 +245,12 @@ impl BindingTable {
         requires { scope < length self.old }
         ensures { self.new ≡ slice_set self.old scope (shift_remove_entry (nat_eq number) (slice_index_or self.old scope [])) }
     {
-        let _symbol = self.entries.shift_remove(&(scope, number));
-        let order = &mut self.orders[scope.index()];
-        if let Some(place) = place_of_number(order, number) {
-            let _number = order.remove(place);
-        }
+        unbind(
+            &mut self.places,
+            &mut self.scopes[scope.index()],
+            scope,
+            number,
+        );
     }
 
     /// Moves the number from one scope to the other, where it is bound.
@@ -248,10 +299,11 @@ impl BindingTable {
         ensures ok { OnOk result (self.new ≡ slice_set (slice_set self.old from []) to (slice_index_or self.old from [])) }
         ensures err { OnErr result (self.new ≡ self.old) }
     {
-        self.entries.reserve(self.orders[from.index()].len())?;
-        let numbers = mem::replace(&mut self.orders[from.index()], Vec::new(self.alloc));
-        rekey_all(&mut self.entries, from, to, &numbers);
-        self.orders[to.index()] = numbers;
+        self.places.reserve(self.scopes[from.index()].len())?;
+        let empty = ScopeSlots::new(self.alloc);
+        let slots = mem::replace(&mut self.scopes[from.index()], empty);
+        rekey(&mut self.places, &slots, from, to);
+        self.scopes[to.index()] = slots;
         Ok(())
     }
 
@@ -260,17 +312,15 @@ impl BindingTable {
         requires { length self.old < 4294967296 }
         ensures { self.new ≡ map (rows_without_types rows.now) self.old }
     {
-        let _count = self.entries.len();
-        self.entries.retain(|_, symbol| stays(rows, *symbol));
-        retain_bound_in_each(&mut self.orders, &self.entries);
+        pack_each(&mut self.places, &mut self.scopes, rows);
     }
 
     /// Makes room for more scopes and bindings.
     pub fn reserve(&mut self, scopes: usize, bindings: usize) -> Result<(), AllocError>
         ensures { self.new ≡ self.old }
     {
-        self.orders.reserve(scopes)?;
-        self.entries.reserve(bindings)?;
+        self.scopes.reserve(scopes)?;
+        self.places.reserve(bindings)?;
         Ok(())
     }
 }
@@ -281,8 +331,8 @@ impl Clone for BindingTable {
     fn clone(&self) -> Result<BindingTable, AllocError> {
         Ok(BindingTable {
             alloc: self.alloc,
-            entries: self.entries.clone()?,
-            orders: self.orders.clone()?,
+            places: self.places.clone()?,
+            scopes: self.scopes.clone()?,
         })
     }
 }

@@ -10,17 +10,16 @@ ghost use Rattle.scoping.specs.Numbering.{numbered_from};
 
 use crate::binding_table::BindingTable;
 use crate::name_table::NameTable;
+use crate::scope_slots::BoundIter;
 use semantic_syntax::{Ident, ScopeId, SymbolId};
 use std::marker::Model;
-use std::slice::Iter;
 
-/// What one scope binds, in the order of binding, and where its first entry is most likely.
+/// What one scope binds, in the order of binding.
 #[derive(Drop)]
 pub struct Bindings<'s> {
     names: &'s NameTable,
     table: &'s BindingTable,
     scope: ScopeId,
-    place: usize,
 }
 
 impl<'s> Model for Bindings<'s> {
@@ -36,12 +35,7 @@ impl<'s> Model for Bindings<'s> {
 }
 
 impl<'s> Bindings<'s> {
-    pub(crate) fn new(
-        names: &'s NameTable,
-        table: &'s BindingTable,
-        scope: ScopeId,
-        place: usize,
-    ) -> Bindings<'s>
+    pub(crate) fn new(names: &'s NameTable, table: &'s BindingTable, scope: ScopeId) -> Bindings<'s>
         requires scope { scope < length table.now }
         requires known { AllByRecursion (λ (e : ℕ × ℕ). e.0 < length names.now) (slice_index_or table.now scope []) }
         ensures { result ≡ named names.now (slice_index_or table.now scope []) }
@@ -50,7 +44,6 @@ impl<'s> Bindings<'s> {
             names,
             table,
             scope,
-            place,
         }
     }
 
@@ -68,10 +61,7 @@ impl<'s> Bindings<'s> {
     {
         BindingsIter {
             names: self.names,
-            table: self.table,
-            scope: self.scope,
-            numbers: self.table.numbers(self.scope).iter(),
-            place: self.place,
+            bound: self.table.iter(self.scope),
         }
     }
 
@@ -79,25 +69,22 @@ impl<'s> Bindings<'s> {
     pub fn len(&self) -> usize
         ensures { result ≡ length self.now }
     {
-        self.table.numbers(self.scope).len()
+        self.table.bound_len(self.scope)
     }
 
     /// Whether there are none.
     pub fn is_empty(&self) -> bool
         ensures { result ≡ (length self.now == 0) }
     {
-        self.table.numbers(self.scope).is_empty()
+        self.len() == 0
     }
 }
 
-/// The pairs of a name and its symbol that are left, and where the first entry of them is most likely.
+/// The pairs of a name and its symbol that are left.
 #[derive(Drop)]
 pub struct BindingsIter<'s> {
     names: &'s NameTable,
-    table: &'s BindingTable,
-    scope: ScopeId,
-    numbers: Iter<'s, usize>,
-    place: usize,
+    bound: BoundIter<'s>,
 }
 
 impl<'s> Model for BindingsIter<'s> {
@@ -121,22 +108,15 @@ impl<'s> Iterator for BindingsIter<'s> {
     ghost remaining = { λ s. at_most (length s) };
 
     fn next(&mut self) -> Option<(Ident<'s>, SymbolId)> {
-        let number = self.numbers.next()?;
-        let place = self.table.place_near(self.scope, *number, self.place);
-        self.place = place.wrapping_add(1);
-        let symbol = self.table.get_at(self.scope, *number, place)?;
-        Some((Ident::new(self.names.name(*number)), symbol))
+        let (number, symbol) = self.bound.next()?;
+        Some((Ident::new(self.names.name(number)), symbol))
     }
 }
 
-/// The symbols that a scope binds, in the order of binding, that are left, and where the first entry of them is most
-/// likely.
+/// The symbols that a scope binds, in the order of binding, that are left.
 #[derive(Drop)]
 pub struct BoundSymbols<'s> {
-    table: &'s BindingTable,
-    scope: ScopeId,
-    numbers: Iter<'s, usize>,
-    place: usize,
+    bound: BoundIter<'s>,
 }
 
 impl<'s> Model for BoundSymbols<'s> {
@@ -144,11 +124,9 @@ impl<'s> Model for BoundSymbols<'s> {
 
     ghost Value = { List ℕ };
 
-    ghost use Rattle.scoping.specs.Left.{symbols_left, AreSymbolsLeft};
+    ghost use Rattle.std.specs.Map.{values_of};
 
-    ghost view = { symbols_left };
-
-    ghost invariant = { AreSymbolsLeft };
+    ghost view = { λ a. values_of a.bound };
 }
 
 impl<'s> BoundSymbols<'s> {
@@ -157,10 +135,7 @@ impl<'s> BoundSymbols<'s> {
         ensures { result ≡ values_of (slice_index_or table.now scope []) }
     {
         BoundSymbols {
-            table,
-            scope,
-            numbers: table.numbers(scope).iter(),
-            place: 0,
+            bound: table.iter(scope),
         }
     }
 
@@ -168,7 +143,7 @@ impl<'s> BoundSymbols<'s> {
     pub fn len(&self) -> usize
         ensures { result ≡ length self.now }
     {
-        self.numbers.len()
+        self.bound.len()
     }
 }
 
@@ -180,22 +155,18 @@ impl<'s> Iterator for BoundSymbols<'s> {
     ghost remaining = { λ s. at_most (length s) };
 
     fn next(&mut self) -> Option<SymbolId> {
-        let number = self.numbers.next()?;
-        let place = self.table.place_near(self.scope, *number, self.place);
-        self.place = place.wrapping_add(1);
-        let symbol = self.table.get_at(self.scope, *number, place)?;
+        let (_, symbol) = self.bound.next()?;
         Some(symbol)
     }
 }
 
-/// The scopes with what they bind that are left. Where scopes bind one after the other, the next entry is at the place.
+/// The scopes with what they bind that are left.
 #[derive(Drop)]
 pub struct AllBindings<'s> {
     names: &'s NameTable,
     table: &'s BindingTable,
     next: usize,
     left: usize,
-    place: usize,
 }
 
 impl<'s> Model for AllBindings<'s> {
@@ -227,7 +198,6 @@ impl<'s> AllBindings<'s> {
             table,
             next: 0,
             left: count,
-            place: 0,
         }
     }
 
@@ -251,8 +221,7 @@ impl<'s> Iterator for AllBindings<'s> {
             return None;
         }
         let scope = ScopeId::new(self.next as u32);
-        let bindings = Bindings::new(self.names, self.table, scope, self.place);
-        self.place = self.place.wrapping_add(bindings.len());
+        let bindings = Bindings::new(self.names, self.table, scope);
         self.next += 1;
         self.left -= 1;
         Some((scope, bindings))

@@ -11,6 +11,7 @@ pub mod node_tables;
 pub mod places;
 pub mod reference_iterators;
 pub mod scope_iterators;
+pub mod scope_slots;
 pub mod scoping;
 pub mod source;
 pub mod symbol_iterators;

@@ -5,14 +5,6 @@ ghost use Rattle.indexmap.specs.IndexMap.{swap_remove_by};
 use itertools::Itertools;
 use semantic_syntax::ReferenceId;
 
-/// The first place of the number.
-pub fn place_of_number(numbers: &[usize], number: usize) -> Option<usize>
-    ensures { result ≡ position (nat_eq number) numbers.now }
-{
-    let (place, _) = numbers.iter().copied().find_position(|n| *n == number)?;
-    Some(place)
-}
-
 /// The first place of the reference.
 pub fn place_of_reference(references: &[ReferenceId], reference: ReferenceId) -> Option<usize>
     ensures { result ≡ position (nat_eq reference) references.now }

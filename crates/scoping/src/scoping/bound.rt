@@ -83,7 +83,7 @@ impl Scoping {
         requires { scope < length self.now.scopes }
         ensures { result ≡ bindings_of self.now scope }
     {
-        Bindings::new(&self.names, &self.bindings, scope, 0)
+        Bindings::new(&self.names, &self.bindings, scope)
     }
 
     /// Binds the name to the symbol. A new name goes last, a bound one keeps its place.

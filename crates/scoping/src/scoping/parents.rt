@@ -1,7 +1,6 @@
 //! Scopes that get another parent.
 ghost use Rattle.std.specs.Prelude.{◌≡◌, ◌<◌, length, nat_eq, false, IfSome};
 ghost use Rattle.std.specs.List.{list_any};
-ghost use Rattle.scoping.specs.Ancestry.{RunsOutward};
 ghost use Rattle.scoping.specs.Reading.{scope_of, chain};
 ghost use Rattle.scoping.specs.Writing.{with_scope};
 
@@ -28,13 +27,5 @@ impl Scoping {
         ensures { self.new ≡ with_scope self.old scope (record (scope_of self.old scope) { parent = parent }) }
     {
         self.set_scope_parent_id(scope, parent);
-    }
-
-    /// The scopes outward from the scope begin with it, end with one that has none around it, and repeat none.
-    pub fn attest_ancestors(&self, scope: ScopeId)
-        requires { scope < length self.now.scopes }
-        ensures { RunsOutward self.now.scopes scope }
-    {
-        let _scopes = &self.scopes;
     }
 }

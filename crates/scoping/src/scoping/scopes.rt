@@ -2,6 +2,7 @@
 ghost use Rattle.std.specs.Prelude.{◌≡◌, ◌==◌, ◌<◌, ◌++◌, [], ◌∷◌, length, drop, nat_eq, not, if◌then◌else◌, IfOk, OnOk, OnErr, IfSome};
 ghost use Rattle.std.specs.List.{range_with_len, list_any};
 ghost use Rattle.std.specs.Int.RustNames.{bit_and, bit_or};
+ghost use Rattle.scoping.specs.Ancestry.{RunsOutward};
 ghost use Rattle.scoping.specs.Reading.{scope_of, chain};
 
 use super::{ScopeRow, Scoping};
@@ -68,10 +69,12 @@ impl Scoping {
         self.scopes.is_empty()
     }
 
-    /// The scope and those around it, from within.
+    /// The scope and those around it, from within. They begin with the scope, end with one that has none around it,
+    /// and repeat none.
     pub fn scope_ancestors(&self, scope: ScopeId) -> ScopeAncestors<'_>
         requires { scope < length self.now.scopes }
-        ensures { result ≡ chain self.now.scopes scope }
+        ensures chain { result ≡ chain self.now.scopes scope }
+        ensures outward { RunsOutward self.now.scopes scope result }
     {
         ScopeAncestors::new(self.scopes.as_slice(), scope)
     }

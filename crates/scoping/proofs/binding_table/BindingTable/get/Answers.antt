@@ -1,13 +1,36 @@
-use Rattle.std.proofs.Common.{sym, ◌∙◌}
-use Rattle.scoping.proofs.Flat.{lookup-bindings_in, bindings_by_scope-at, length-bindings_by_scope}
+use Rattle.std.proofs.Common.{ℕ, None, Some, [], get_or, sym, ap, subst, ◌∙◌}
+use Rattle.std.specs.Option.{option_map}
+use Rattle.std.proofs.lemmas.List.{length-map}
+use Rattle.scoping.specs.Flat.{SlotList, StandsAt}
+use Rattle.scoping.proofs.Filled.{lookup_filled}
+use Rattle.scoping.proofs.Indexed.{shown_row, row_read}
 use Rattle.scoping.proofs.binding_table.BindingTable.get.Goals as goal
+
+pub returns-in_err-place : goal.returns-in_err-place
+returns-in_err-place c =
+    let row = get_or c.self.inside.scopes.items c.args.scope [] in
+    rw (← c.self.view_is, shown_row _ _)
+    (c.from_residual.ensures ∙ sym (lookup_filled c.args.number row None (subst (StandsAt row c.args.number) (sym c.in_err-place.ensures.value) (c.self.invariant c.args.scope c.args.number))))
 
 pub returns-in_err-symbol : goal.returns-in_err-symbol
 returns-in_err-symbol c =
-    let within = rw length-bindings_by_scope at (rw (← c.self.view_is) at c.requires) in
-    rw (← c.self.view_is, bindings_by_scope-at _ _ _ within) (c.from_residual.ensures ∙ c.in_err-symbol.ensures.value ∙ sym (lookup-bindings_in c.args.number c.args.scope c.self.inside.entries.entries))
+    let rows = c.self.inside.scopes.items in
+    let row = get_or rows c.args.scope [] in
+    let place = c.in_ok-place.place.now in
+    let within = rw length-map at (rw (← c.self.view_is) at c.requires) in
+    let read = row_read rows c.args.scope c.index.result c.index-2.result.now c.index.ensures within c.index-2.ensures in
+    rw (← c.self.view_is, shown_row _ _)
+    (c.from_residual-in_err-symbol.ensures
+    ∙ ap (option_map (λ (b : ℕ × ℕ). b.1)) (c.in_err-symbol.ensures ∙ ap (λ (r : SlotList). get_or r place None) read)
+    ∙ sym (lookup_filled c.args.number row (Some place) (subst (StandsAt row c.args.number) (sym c.in_ok-place.ensures.value) (c.self.invariant c.args.scope c.args.number))))
 
 pub returns : goal.returns
 returns c =
-    let within = rw length-bindings_by_scope at (rw (← c.self.view_is) at c.requires) in
-    rw (← c.self.view_is, bindings_by_scope-at _ _ _ within) (c.in_ok-symbol.ensures.value ∙ sym (lookup-bindings_in c.args.number c.args.scope c.self.inside.entries.entries))
+    let rows = c.self.inside.scopes.items in
+    let row = get_or rows c.args.scope [] in
+    let place = c.in_ok-place.place.now in
+    let within = rw length-map at (rw (← c.self.view_is) at c.requires) in
+    let read = row_read rows c.args.scope c.index.result c.index-2.result.now c.index.ensures within c.index-2.ensures in
+    rw (← c.self.view_is, shown_row _ _)
+    (ap (option_map (λ (b : ℕ × ℕ). b.1)) (c.in_ok-symbol.ensures ∙ ap (λ (r : SlotList). get_or r place None) read)
+    ∙ sym (lookup_filled c.args.number row (Some place) (subst (StandsAt row c.args.number) (sym c.in_ok-place.ensures.value) (c.self.invariant c.args.scope c.args.number))))

@@ -1,0 +1,12 @@
+-- What the fields of a table of bindings show, and what is true of them.
+use Rattle.std.specs.Prelude.{List, map}
+use Rattle.scoping.specs.declared.binding_table.BindingTable.TheInside.{Inside}
+use Rattle.scoping.specs.Flat.{Numbered, filled, HasAllPlaces}
+
+-- what each scope binds
+abbrev pub bindings_of_table : Inside → List Numbered
+bindings_of_table a = map filled a.scopes.items
+
+-- the map tells the places of all bindings
+abbrev pub IsKept : Inside → Type 0
+IsKept a = HasAllPlaces a.places.entries a.scopes.items
