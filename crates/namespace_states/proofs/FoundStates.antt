@@ -1,11 +1,10 @@
 -- Whether a statement reaches a value or a `const` enum is whether it is reached backward.
-use Rattle.std.proofs.Common.{◌≡◌, ℕ, zero, suc, ◌+◌, ◌<◌, ◌≤◌, List, [], ◌∷◌, ◌++◌, Bool, true, false, cond, ◌⊎◌, inl, inr, map, length, get_or, drop, All, Vec, Result, Ok, Err, IfOk, refl, ap, sym, subst, ◌∙◌, arith, append_assoc, add-one}
+use Rattle.std.proofs.Common.{◌≡◌, ℕ, zero, suc, ◌+◌, ◌<◌, ◌≤◌, List, [], ◌∷◌, ◌++◌, Bool, true, false, inl, inr, length, get_or, drop, All, Vec, Result, Ok, Err, IfOk, refl, ap, sym, subst, ◌∙◌, arith, append_assoc, add-one}
 use Rattle.std.proofs.lemmas.List.{map-append, length-map}
 use Rattle.std.specs.declared.alloc.Global.{Global}
-use Rattle.std.proofs.lemmas.List.Elements.{All-nil, All-cons}
 use Rattle.std.proofs.Math.ListN.{drop_of_length-le}
 use Rattle.std.proofs.Math.Seq.{drop-cons}
-use Rattle.reachability.specs.Rows.{row, lists, rows_of, Reached, seed, onward as step, AreWithin, Among as IsListed}
+use Rattle.reachability.specs.Rows.{lists, rows_of, Reached, seed, onward as step, AreWithin, Among as IsListed}
 use Rattle.reachability.specs.Marked.{is_marked}
 use Rattle.reachability.proofs.Pairs.{rows_have, rows_have_only}
 use Rattle.reachability.proofs.Within.{all_from, length_rows_of, rows_of_within}
@@ -13,8 +12,6 @@ use Rattle.semantic_tree.specs.Children.{node_count}
 use Rattle.semantic_tree.specs.Tree.{Tree, IsNumbered}
 use Rattle.semantic_tree.specs.declared.node.Node.{Node}
 use Rattle.semantic_model.specs.Entries.{Among}
-use Rattle.semantic_model.specs.Place.{Place}
-use Rattle.semantic_model.specs.Step.{entering, steps}
 use Rattle.semantic_model.specs.Namespace.{InstanceState, non_instantiated, const_enum_only, instantiated, Item, greater, instance_state, nodes_around}
 use Rattle.namespace_laws.specs.Reaches.{Reaches, itself, onward, LeadsTo, CountsAs, IsGreatestReached, standing_at}
 use Rattle.namespace_laws.specs.Statements.{items_from}
@@ -24,8 +21,6 @@ use Rattle.namespace_laws.proofs.Around.{place-in}
 use Rattle.namespace_laws.proofs.Greatest.{searched, only-one}
 use Rattle.namespace_leads.specs.Led.{Led}
 use Rattle.namespace_leads.proofs.Ties.{IsNoted}
-use Rattle.namespace_states.specs.declared.instance_state.ModuleInstanceState.{ModuleInstanceState}
-use Rattle.namespace_states.specs.InstanceStates.{state_of}
 use Rattle.namespace_states.specs.StatesByMarks.{state_by, states_by, state_in, AreStatesOf, AreSearched}
 
 listed : {X : Type 0} (x : X) (xs : List X) → Among x xs → IsListed x xs
@@ -163,15 +158,6 @@ states_placed (Err e) program h = tt
 pub states_searched : {E : Type 0} (r : Result (List InstanceState) E) (program : Tree) → IsNumbered program.root → IfOk r (λ made. AreStatesOf program made) → IfOk r (λ made. AreSearched program made)
 states_searched (Ok made) program n h = λ p a. only-one (standing_at p) (state_in made p.node.node_id) (instance_state p.node p.path (nodes_around p.node p.path)) (h p a) (searched program p n a)
 states_searched (Err e) program n h = tt
-
--- a state that the search finds at a place is the greatest that is reached
-pub searched_at : {E : Type 0} (r : Result ModuleInstanceState E) (node : Node) (path : List Node) (bound : ℕ) → IfOk r (λ s. state_of s ≡ instance_state node path bound)
-    → (program : Tree) (p : Place) → IsNumbered program.root → Among (entering p) (steps program) → p.node ≡ node → p.path ≡ path → nodes_around p.node p.path ≡ bound → IfOk r (λ s. IsGreatestReached (standing_at p) (state_of s))
-searched_at (Ok s) node path bound h program p n a e q b =
-    let same : state_of s ≡ instance_state p.node p.path (nodes_around p.node p.path) =
-    h ∙ ap (λ (x : Node). instance_state x path bound) (sym e) ∙ ap (λ (xs : List Node). instance_state p.node xs bound) (sym q) ∙ ap (λ k. instance_state p.node p.path k) (sym b) in
-    subst (λ t. IsGreatestReached (standing_at p) t) (sym same) (searched program p n a)
-searched_at (Err err) node path bound h program p n a e q b = tt
 
 -- the state at a place
 pub state_at : (values const_enums : List Bool) (n : ℕ) → length const_enums ≡ length values → n < length values → state_in (states_by values const_enums) n ≡ state_by (is_marked values n) (is_marked const_enums n)

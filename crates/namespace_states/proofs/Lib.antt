@@ -1,6 +1,2 @@
-pub mod Nested
-pub mod Marks
-pub mod Closing
-pub mod Descending
 pub mod FoundStates
 pub mod NoNamespaces

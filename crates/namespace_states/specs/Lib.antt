@@ -1,4 +1,2 @@
-pub mod Chains
 pub mod InstanceStates
-pub mod Rounds
 pub mod StatesByMarks

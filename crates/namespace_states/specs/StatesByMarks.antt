@@ -1,12 +1,7 @@
 -- The states of the nodes of a program, by what they reach.
-use Rattle.std.specs.Prelude.{◌≡◌, ℕ, List, [], ◌∷◌, Bool, false, ◌||◌, cond, slice_index_or}
-use Rattle.semantic_kinds.specs.Kinds.{same_kind}
-use Rattle.semantic_kinds.specs.declared.kind.AstType.TheVariants as kind
-use Rattle.semantic_tree.specs.Forest.{Forest, nothing, tree}
+use Rattle.std.specs.Prelude.{◌≡◌, ℕ, List, [], ◌∷◌, Bool, cond, slice_index_or}
 use Rattle.semantic_tree.specs.Tree.{Tree}
-use Rattle.semantic_tree.specs.declared.node.Node.{Node}
 use Rattle.semantic_model.specs.Entries.{Among}
-use Rattle.semantic_model.specs.Nodes.{is}
 use Rattle.semantic_model.specs.Place.{Place}
 use Rattle.semantic_model.specs.Step.{entering, steps}
 use Rattle.semantic_model.specs.Namespace.{InstanceState, non_instantiated, instantiated, const_enum_only, instance_state, nodes_around}
@@ -32,12 +27,3 @@ AreStatesOf program states = (p : Place) → Among (entering p) (steps program) 
 -- the search of the definition finds them, too
 abbrev pub AreSearched : Tree → List InstanceState → Type 0
 AreSearched program states = (p : Place) → Among (entering p) (steps program) → state_in states p.node.node_id ≡ instance_state p.node p.path (nodes_around p.node p.path)
-
--- some node of the forest is a namespace
-abbrev pub has_namespaces : Forest → Bool
-has_namespaces nothing = false
-has_namespaces (tree role k span text marks below id after) = (same_kind k kind.TSNamespaceDeclaration || has_namespaces below) || has_namespaces after
-
--- the node or one below it
-abbrev pub has_namespace : Node → Bool
-has_namespace node = is kind.TSNamespaceDeclaration node || has_namespaces node.children

@@ -1,4 +1,4 @@
-//! The states of all namespaces of a program, each found once.
+//! The states of all namespaces of a program, each found once (TypeScript's `getModuleInstanceState` in binder.ts).
 
 ghost use Rattle.std.specs.Prelude.{◌≡◌, [], true, length, map, IfOk};
 ghost use Rattle.semantic_tree.specs.Children.{node_count};
@@ -13,7 +13,7 @@ ghost use Rattle.namespace_laws.specs.Reaches.{IsGreatestReached, standing_at};
 ghost use Rattle.namespace_laws.specs.Statements.{items_from};
 ghost use Rattle.namespace_leads.specs.Led.{nothing_led, led_from};
 ghost use Rattle.namespace_states.specs.InstanceStates.{state_of};
-ghost use Rattle.namespace_states.specs.StatesByMarks.{state_by, states_by, state_in, AreStatesOf, AreSearched, has_namespace};
+ghost use Rattle.namespace_states.specs.StatesByMarks.{state_by, states_by, state_in, AreStatesOf, AreSearched};
 
 use crate::instance_state::ModuleInstanceState;
 use namespace_leads::{Leads, leads_of};
@@ -42,7 +42,7 @@ impl Model for NamespaceStates {
     ghost view = { λ s. map state_of s.states.items };
 }
 
-/// The state of a statement that reaches a value, or a `const` enum.
+/// The state of a statement that reaches a value, or a `const` enum (TypeScript's `ModuleInstanceState`).
 fn state_by(value: bool, const_enum: bool) -> ModuleInstanceState
     ensures { state_of result ≡ state_by value const_enum }
 {
@@ -92,22 +92,6 @@ fn search_back(
     Ok(NamespaceStates { states })
 }
 
-/// Whether the node or one below it is a namespace.
-#[tactic(auto, using(semantic_tree::specs::Falls::below))]
-fn has_namespace(kind: AstKind<'_>) -> bool
-    ensures { result ≡ has_namespace kind.entry.node.now }
-{
-    if kind.ty() == AstType::TSNamespaceDeclaration {
-        return true;
-    }
-    for (_, child) in kind.node().children.as_slice() {
-        if has_namespace(AstKind::new(child)) {
-            return true;
-        }
-    }
-    false
-}
-
 impl NamespaceStates {
     /// The states of a program. Takes time linear in the nodes, but that each exported name asks the statement lists
     /// around it. The only error is want of memory.
@@ -124,7 +108,7 @@ impl NamespaceStates {
         ensures reached { IfOk result (λ made. (p : Place) → Among (entering p) (steps program.now) → is namespace_declaration p.node ≡ true → IsGreatestReached (standing_at p) (state_in made p.node.node_id)) }
         ensures searched { IfOk result (λ made. (p : Place) → Among (entering p) (steps program.now) → is namespace_declaration p.node ≡ true → state_in made p.node.node_id ≡ instance_state p.node p.path (nodes_around p.node p.path)) }
     {
-        if has_namespace(program.root()) {
+        if 0 < program.count_of(AstType::TSNamespaceDeclaration) {
             NamespaceStates::of(alloc, program)
         } else {
             Ok(NamespaceStates {
@@ -133,7 +117,7 @@ impl NamespaceStates {
         }
     }
 
-    /// The state of a namespace.
+    /// Whether the namespace has values, nothing but `const` enums, or only types.
     pub fn state(&self, namespace: NodeId) -> ModuleInstanceState
         ensures { state_of result ≡ state_in self.now namespace }
     {

@@ -3,7 +3,8 @@ use Rattle.std.specs.Prelude.{◌≡◌, ℕ, ◌+◌, ◌*◌, ◌/◌, ◌≤�
 use Rattle.semantic_syntax.specs.Tables.{Tables}
 use Rattle.semantic_tree.specs.Forest.{Forest, count}
 use Rattle.semantic_model.specs.Inside.{scopes_in}
-use Rattle.count_laws.specs.Counted.{how_many, is_symbol, is_reference}
+use Rattle.semantic_tree.specs.KindCounts.{how_many}
+use Rattle.count_laws.specs.Counted.{is_symbol, is_reference}
 use Rattle.semantic.specs.declared.stats.Stats.{Stats}
 
 -- the counts of a forest
@@ -18,19 +19,6 @@ pub record IsSizeOf (stats : Stats) (t : Tables) : Type 0 where
   pub scopes : stats.scopes ≡ length t.scopes
   pub symbols : length t.symbols ≤ stats.symbols
   pub references : stats.references ≡ length t.references
-
--- the new counts are the old ones and those of a forest
-pub record AddsCount (old new : Stats) (f : Forest) : Type 0 where
-  pub nodes : new.nodes ≡ old.nodes + count f
-  pub scopes : new.scopes ≡ old.scopes + scopes_in f
-  pub symbols : new.symbols ≡ old.symbols + how_many is_symbol f
-  pub references : new.references ≡ old.references + how_many is_reference f
-
--- there are at most as many of the others as nodes
-pub record IsWithin (stats : Stats) : Type 0 where
-  pub scopes : stats.scopes ≤ stats.nodes
-  pub symbols : stats.symbols ≤ stats.nodes
-  pub references : stats.references ≤ stats.nodes
 
 -- a number and so many thousandths of it, rounded down, within the limit of a count
 abbrev pub increased : ℕ → ℕ → ℕ

@@ -2,14 +2,14 @@
 
 ghost use Rattle.std.specs.Prelude.{◌≡◌, ◌+◌, ◌<◌, ◌^◌, cond};
 ghost use Rattle.semantic_kinds.specs.declared.role.Role.TheVariants as role;
-ghost use Rattle.semantic_tree.specs.Children.{single, node_count};
+ghost use Rattle.semantic_tree.specs.Children.{single};
 ghost use Rattle.semantic_model.specs.Inside.{opens};
 ghost use Rattle.semantic_model.specs.TablesOf.{tables_of};
 ghost use Rattle.count_laws.specs.Counted.{is_symbol, is_reference};
-ghost use Rattle.semantic.specs.Tally.{increased, IsCount, IsSizeOf, AddsCount, IsWithin, IsAccurate};
+ghost use Rattle.semantic.specs.Tally.{increased, IsCount, IsSizeOf, IsAccurate};
 
 use node_rules::inside::opens;
-use semantic_tree::{AstKind, AstType, Node, Program};
+use semantic_tree::{AstType, Program};
 
 /// How many nodes, scopes, symbols and references there are.
 #[derive(Clone, Copy, PartialEq, Eq, Debug, Default)]
@@ -25,6 +25,13 @@ fn is_symbol(kind: AstType) -> bool
     ensures { result ≡ is_symbol kind }
 {
     matches!(kind, AstType::BindingIdentifier | AstType::TSEnumMember)
+}
+
+/// The count, where the test passes.
+fn count_where(passes: bool, count: u32) -> u32
+    ensures { result ≡ cond passes count 0 }
+{
+    if passes { count } else { 0 }
 }
 
 /// A number and so many thousandths of it, rounded down, and at most `u32::MAX`.
@@ -55,48 +62,28 @@ impl Stats {
         ensures nodes { IsCount result (single role.Root p.now.root) }
         ensures tables { IsSizeOf result (tables_of p.now) }
     {
-        let _count = p.node_count();
-        Stats::of_root(p.root())
-    }
-
-    /// Counts a root and all that is below it.
-    fn of_root(root: AstKind<'_>) -> Stats
-        requires { node_count root.node.now < 2 ^ 32 }
-        ensures { IsCount result (single role.Root root.entry.node.now) }
-    {
-        let mut stats = Stats::default();
-        stats.add_tree(root.node());
+        p.root();
+        let mut stats = Stats::new(p.node_count(), 0, 0, 0);
+        for kind in AstType::all() {
+            stats.add_kind(*kind, p.count_of(*kind));
+        }
         stats
     }
 
-    /// Counts one node of the kind.
-    fn add_kind(&mut self, kind: AstType)
-        requires room { self.old.nodes + 1 < 2 ^ 32 }
-        requires within { IsWithin self.old }
-        ensures within { IsWithin self.new }
-        ensures nodes { self.new.nodes ≡ self.old.nodes + 1 }
-        ensures scopes { self.new.scopes ≡ self.old.scopes + cond (opens kind) 1 0 }
-        ensures symbols { self.new.symbols ≡ self.old.symbols + cond (is_symbol kind) 1 0 }
-        ensures references { self.new.references ≡ self.old.references + cond (is_reference kind) 1 0 }
+    /// Counts so many nodes of a kind, but for the nodes themselves.
+    fn add_kind(&mut self, kind: AstType, count: u32)
+        requires scopes { self.old.scopes + cond (opens kind) count 0 < 2 ^ 32 }
+        requires symbols { self.old.symbols + cond (is_symbol kind) count 0 < 2 ^ 32 }
+        requires references { self.old.references + cond (is_reference kind) count 0 < 2 ^ 32 }
+        ensures { self.new ≡ record self.old {
+          scopes = self.old.scopes + cond (opens kind) count 0;
+          symbols = self.old.symbols + cond (is_symbol kind) count 0;
+          references = self.old.references + cond (is_reference kind) count 0;
+        } }
     {
-        self.nodes += 1;
-        self.scopes += u32::from(opens(kind));
-        self.symbols += u32::from(is_symbol(kind));
-        self.references += u32::from(kind == AstType::IdentifierReference);
-    }
-
-    /// Counts a node and all that is below it.
-    #[tactic(auto, using(semantic_tree::specs::Falls::below, crate::proofs::Counting::child_fits))]
-    fn add_tree(&mut self, node: &Node)
-        requires room { self.old.nodes + node_count node.now < 2 ^ 32 }
-        requires within { IsWithin self.old }
-        ensures within { IsWithin self.new }
-        ensures adds { AddsCount self.old self.new (single role.Root node.now) }
-    {
-        self.add_kind(node.kind);
-        for (_, child) in node.children.as_slice() {
-            self.add_tree(child);
-        }
+        self.scopes += count_where(opens(kind), count);
+        self.symbols += count_where(is_symbol(kind), count);
+        self.references += count_where(kind == AstType::IdentifierReference, count);
     }
 
     /// Scopes, symbols and references with so many thousandths more, rounded down, and at most `u32::MAX` each.

@@ -40,7 +40,7 @@ join_nothing nothing = refl
 join_nothing (tree role kind span text marks below id after) =
     ap (λ f. tree role kind span text marks below id f) (join_nothing after)
 
-drop_here : {A : Type 0} (items : List A) (i : ℕ) (here : A) → i < length items → here ≡ get_or items i here → drop i items ≡ here ∷ drop (i + 1) items
+pub drop_here : {A : Type 0} (items : List A) (i : ℕ) (here : A) → i < length items → here ≡ get_or items i here → drop i items ≡ here ∷ drop (i + 1) items
 drop_here items i here h e = rw (drop-cons items i here h, ← e, add-one) refl
 
 -- a child in its place gets its numbers, and the rest begins after them

@@ -1,4 +1,6 @@
 pub mod Forests
+pub mod KindCounting
+pub mod KindSums
 pub mod Fits
 pub mod Faults
 pub mod FitLaws

@@ -3,6 +3,7 @@ pub mod ForestCode
 pub mod Children
 pub mod Falls
 pub mod Limits
+pub mod KindCounts
 pub mod Tree
 pub mod Nodes
 pub mod ChildIter

@@ -8,6 +8,7 @@ pub mod fault;
 pub mod groups;
 pub mod inner;
 pub mod key_names;
+mod kind_counts;
 pub mod laws;
 pub mod node;
 pub mod place;

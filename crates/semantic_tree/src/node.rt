@@ -6,7 +6,10 @@ ghost use Rattle.semantic_tree.specs.Forest.{Forest, nothing, join, count, numbe
 ghost use Rattle.semantic_tree.specs.Limits.{room_left};
 ghost use Rattle.semantic_tree.specs.Nodes.{trees};
 ghost use Rattle.semantic_tree.specs.Children.{single, node_count, numbered_node, forest_of};
+ghost use Rattle.semantic_tree.specs.KindCounts.{AreWithin, AddsKinds};
+ghost use Rattle.semantic_kinds.specs.declared.role.Role.TheVariants as role;
 
+use crate::kind_counts::KindCounts;
 use semantic_kinds::{AstType, Marks, Role};
 use semantic_syntax::{NodeId, Span, Text};
 use std::alloc::{AllocError, Global};
@@ -69,13 +72,34 @@ impl Node {
           node_id = 0;
         }) }
     {
+        Node::with_room(alloc, kind, span, text, marks, 0)
+    }
+
+    /// A node without children, with the id 0, and with room for so many children.
+    pub fn with_room(
+        alloc: Global,
+        kind: AstType,
+        span: Span,
+        text: &str,
+        marks: Marks,
+        room: usize,
+    ) -> Result<Node, AllocError>
+        ensures { IfOk result (λ made. made ≡ record {
+          kind = kind;
+          span = span;
+          text = chars text.now;
+          marks = marks;
+          children = nothing;
+          node_id = 0;
+        }) }
+    {
         Ok(Node {
             kind,
             span,
             text: Text::new(alloc, text)?,
             marks,
             children: Children {
-                nodes: Vec::new(alloc),
+                nodes: Vec::with_capacity(alloc, room)?,
             },
             node_id: NodeId::ROOT,
         })
@@ -91,15 +115,18 @@ impl Node {
         self.children.push(role, child)
     }
 
-    /// Numbers the nodes from this one down in preorder, and gives the next number.
+    /// Numbers the nodes from this one down in preorder, counts their kinds, and gives the next number.
     #[cycle(number)]
-    pub fn number(&mut self, next: u32) -> u32
-        requires { next + node_count self.old < 2 ^ 32 - 1 }
+    pub(crate) fn number(&mut self, next: u32, kinds: &mut KindCounts) -> u32
+        requires fits { next + node_count self.old < 2 ^ 32 - 1 }
+        requires within { AreWithin next kinds.old }
         ensures numbered { self.new ≡ numbered_node next self.old }
         ensures next { result ≡ next + node_count self.old }
+        ensures kinds { AddsKinds kinds.old kinds.new (single role.Root self.old) }
     {
+        kinds.add(self.kind);
         self.node_id = NodeId::new(next);
-        self.children.number_all(next + 1)
+        self.children.number_all(next + 1, kinds)
     }
 
     /// What is left of some room for nodes after this one and all below it, if they fit.
@@ -142,15 +169,16 @@ impl Children {
         self.nodes.as_slice()
     }
 
-    /// Adds a node as the last one, or hands it back for want of memory. Most lists are short, so there is
-    /// no room to spare for up to two nodes.
+    /// Adds a node as the last one, or hands it back for want of memory. Most lists are short, so a list
+    /// without room gets none to spare for up to two nodes.
     #[tactic(auto, using(crate::proofs::Forests::forests))]
     fn push(&mut self, role: Role, child: Node) -> Result<(), Node>
         ensures ok { OnOk result (self.new ≡ join self.old (single role child)) }
         ensures err { OnErr result (self.new ≡ self.old) }
         ensures back { IfErr result (λ given. given ≡ child) }
     {
-        if self.nodes.len() < 2 && self.nodes.reserve_exact(1).is_err() {
+        let has_room = self.nodes.len() < self.nodes.capacity();
+        if !has_room && self.nodes.len() < 2 && self.nodes.reserve_exact(1).is_err() {
             return Err(child);
         }
         if let Err(refused) = self.nodes.push((role, child)) {
@@ -160,16 +188,18 @@ impl Children {
         Ok(())
     }
 
-    /// Numbers the nodes of all trees in preorder, and gives the next number.
+    /// Numbers the nodes of all trees in preorder, counts their kinds, and gives the next number.
     #[cycle(number)]
-    fn number_all(&mut self, first: u32) -> u32
-        requires { first + count self.old < 2 ^ 32 - 1 }
+    fn number_all(&mut self, first: u32, kinds: &mut KindCounts) -> u32
+        requires fits { first + count self.old < 2 ^ 32 - 1 }
+        requires within { AreWithin first kinds.old }
         ensures numbered { self.new ≡ numbered first self.old }
         ensures next { result ≡ first + count self.old }
+        ensures kinds { AddsKinds kinds.old kinds.new self.old }
     {
         let mut next = first;
         for i in 0..self.nodes.len() {
-            next = self.nodes[i].1.number(next);
+            next = self.nodes[i].1.number(next, kinds);
         }
         next
     }

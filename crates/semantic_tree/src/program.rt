@@ -3,7 +3,9 @@
 ghost use Rattle.std.specs.Prelude.{◌≡◌, ◌<◌, ◌≤◌, Some, None, IfOk, IfErr, IsOk, length};
 ghost use Rattle.std.specs.Option.{option_map};
 ghost use Rattle.std.specs.Str.{chars, encode_utf8_all};
-ghost use Rattle.semantic_tree.specs.Children.{node_count, numbered_node};
+ghost use Rattle.semantic_tree.specs.Children.{node_count, numbered_node, single};
+ghost use Rattle.semantic_tree.specs.KindCounts.{kind_count};
+ghost use Rattle.semantic_kinds.specs.declared.role.Role.TheVariants as role;
 ghost use Rattle.semantic_tree.specs.Limits.{room_left, node_limit, comment_limit};
 ghost use Rattle.semantic_tree.specs.Tree.{IsNumbered, numbered_tree};
 ghost use Rattle.semantic_tree.specs.Renamed.{swapped_tree};
@@ -15,12 +17,13 @@ ghost use Rattle.semantic_tree.specs.declared.error.SpanFault.TheVariants as spa
 use crate::comment::Comment;
 use crate::error::{SpanFault, TreeError};
 use crate::fault::{Check, first_breaking};
+use crate::kind_counts::KindCounts;
 use crate::node::Node;
 use crate::place::Place;
 use crate::sound::is_sound;
 use crate::swap::Setting;
 use crate::view::AstKind;
-use semantic_kinds::Role;
+use semantic_kinds::{AstType, Role};
 use semantic_syntax::{SourceType, Text};
 use std::alloc::{AllocError, Global};
 use std::marker::Model;
@@ -43,6 +46,7 @@ pub struct Program {
     comments: Vec<Comment>,
     root: Node,
     nodes: u32,
+    kinds: KindCounts,
 }
 
 impl Model for Program {
@@ -50,6 +54,9 @@ impl Model for Program {
     ghost use Rattle.semantic_tree.specs.Tree.{Tree, IsNumbered};
     ghost use Rattle.semantic_tree.specs.Children.{node_count};
     ghost use Rattle.semantic_tree.specs.Faults.{first_fault};
+    ghost use Rattle.semantic_tree.specs.Children.{single};
+    ghost use Rattle.semantic_tree.specs.KindCounts.{AreKindsOf};
+    ghost use Rattle.semantic_kinds.specs.declared.role.Role.TheVariants as role;
     ghost use Rattle.std.specs.Coded.{codes};
     ghost use Rattle.semantic_tree.specs.contracts.node.Node as node;
     ghost use Rattle.semantic_tree.specs.contracts.comment.Comment as comment;
@@ -61,7 +68,7 @@ impl Model for Program {
 
     ghost view = { λ p. record { source = p.source; source_type = p.source_type; comments = p.comments.items; root = p.root } };
 
-    ghost invariant = { λ p. (IsNumbered p.root) × (first_fault (record { source = p.source; source_type = p.source_type; comments = p.comments.items; root = p.root }) ≡ None) × (p.nodes ≡ node_count p.root) };
+    ghost invariant = { λ p. (IsNumbered p.root) × (first_fault (record { source = p.source; source_type = p.source_type; comments = p.comments.items; root = p.root }) ≡ None) × (p.nodes ≡ node_count p.root) × (AreKindsOf p.kinds (single role.Root p.root)) };
 }
 
 /// The place of the first comment that is not sound or starts before the end of the one before.
@@ -145,7 +152,8 @@ impl Program {
         if is_too_large(source.as_str(), comments.as_slice(), &root) {
             return Err(TreeError::TooMany);
         }
-        let nodes = root.number(0);
+        let mut kinds = KindCounts::new();
+        let nodes = root.number(0, &mut kinds);
         match form_fault(source.as_str(), comments.as_slice(), &root) {
             Some(fault) => Err(fault),
             None => Ok(Program {
@@ -154,6 +162,7 @@ impl Program {
                 comments,
                 root,
                 nodes,
+                kinds,
             }),
         }
     }
@@ -196,6 +205,13 @@ impl Program {
         self.nodes
     }
 
+    /// How many nodes of the kind there are.
+    pub fn count_of(&self, kind: AstType) -> u32
+        ensures { result ≡ kind_count kind (single role.Root self.now.root) }
+    {
+        self.kinds.of(kind)
+    }
+
     /// The program with two names swapped, neither of them empty: in each binding identifier,
     /// identifier reference and name of an enum member. All else is equal.
     pub fn swap_names(&self, alloc: Global, a: &str, b: &str) -> Result<Program, AllocError>
@@ -211,6 +227,7 @@ impl Program {
                 .root
                 .swapped(alloc, Setting::Elsewhere, Role::Root, a, b)?,
             nodes: self.nodes,
+            kinds: self.kinds,
         })
     }
 }

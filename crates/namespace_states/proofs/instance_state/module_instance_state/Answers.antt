@@ -1,4 +1,4 @@
-use Rattle.std.proofs.Common.{◌≡◌, ap, sym, subst, ◌∙◌}
+use Rattle.std.proofs.Common.{ap, sym, subst, ◌∙◌}
 use Rattle.semantic_model.specs.Namespace.{InstanceState}
 use Rattle.namespace_laws.specs.Reaches.{IsGreatestReached, standing_at}
 use Rattle.namespace_states.specs.StatesByMarks.{state_in}

@@ -1,7 +1,6 @@
-use Rattle.std.proofs.Common.{◌≡◌, ◌<◌, ℕ, List, [], Vec, Bool, All, true, map, length, sym, ap, subst, ◌∙◌, arith, rules}
+use Rattle.std.proofs.Common.{◌≡◌, ◌<◌, ℕ, List, [], Vec, Bool, All, length, sym, ap, subst, ◌∙◌, arith, rules}
 use Rattle.std.specs.declared.alloc.Global.{Global}
-use Rattle.reachability.specs.Rows.{lists, rows_of, Reached}
-use Rattle.reachability.specs.Marked.{is_marked}
+use Rattle.reachability.specs.Rows.{lists, rows_of}
 use Rattle.semantic_tree.specs.Children.{node_count}
 use Rattle.semantic_tree.specs.declared.node.Node.{Node}
 use Rattle.semantic_model.specs.Namespace.{InstanceState, instantiated, const_enum_only}
@@ -9,8 +8,8 @@ use Rattle.namespace_laws.specs.Reaches.{IsGreatestReached}
 use Rattle.namespace_laws.proofs.Standing.{below_count}
 use Rattle.namespace_leads.specs.Led.{Led, led_from, nothing_led}
 use Rattle.namespace_leads.proofs.Ties.{IsNoted, noted_of}
-use Rattle.namespace_states.specs.StatesByMarks.{state_in, state_by, states_by}
-use Rattle.namespace_states.proofs.FoundStates.{firsts, seconds, seeds_within, values_of, const_enums_of, AreMarks, made_count, made_within, marks_of, state-found, state_at}
+use Rattle.namespace_states.specs.StatesByMarks.{state_in, states_by}
+use Rattle.namespace_states.proofs.FoundStates.{firsts, seconds, seeds_within, values_of, const_enums_of, made_count, made_within, marks_of, state-found, state_at}
 use Rattle.namespace_states.proofs.states.search_back.Goals as goal
 
 noted_by : (root : Node) (led : Led) → led ≡ led_from [] root nothing_led → IsNoted root led

@@ -1,11 +1,10 @@
-use Rattle.std.proofs.Common.{◌≡◌, List, IfOk, sym, ap, subst, ◌∙◌}
-use Rattle.semantic_tree.specs.Tree.{IsNumbered}
+use Rattle.std.proofs.Common.{IfOk, subst}
 use Rattle.semantic_tree.specs.declared.node.Node.{Node}
 use Rattle.semantic_model.specs.Entries.{Among}
-use Rattle.semantic_model.specs.Namespace.{InstanceState, Item}
+use Rattle.semantic_model.specs.Namespace.{Item}
 use Rattle.namespace_laws.specs.Reaches.{IsGreatestReached}
 use Rattle.namespace_laws.specs.Statements.{items_from}
-use Rattle.namespace_states.specs.StatesByMarks.{state_in, AreStatesOf}
+use Rattle.namespace_states.specs.StatesByMarks.{state_in}
 use Rattle.namespace_states.proofs.FoundStates.{states_placed, states_searched}
 use Rattle.namespace_states.proofs.states.NamespaceStates.of.Goals as goal
 

@@ -1,4 +1,4 @@
-use Rattle.std.proofs.Common.{◌≡◌, ℕ, ◌+◌, List, true, false, ◌||◌, if◌then◌else◌, nat_lt, Option, Some, None, length, ap, sym, ◌∙◌}
+use Rattle.std.proofs.Common.{rules, ◌≡◌, ℕ, ◌+◌, List, true, false, ◌||◌, if◌then◌else◌, nat_lt, Option, Some, None, length, ap, sym, ◌∙◌}
 use Rattle.std.specs.Str.{encode_utf8_all}
 use Rattle.semantic_tree.specs.Children.{numbered_node}
 use Rattle.semantic_tree.specs.Limits.{node_limit, comment_limit, source_limit}
@@ -8,7 +8,9 @@ use Rattle.semantic_tree.specs.declared.comment.Comment.{Comment}
 use Rattle.semantic_tree.specs.declared.node.Node.{Node}
 use Rattle.semantic_tree.specs.declared.error.TreeError.{TreeError}
 use Rattle.semantic_tree.specs.declared.error.TreeError.TheVariants.{TooMany}
-use Rattle.semantic_tree.proofs.Forests.{count-numbered}
+use Rattle.semantic_tree.specs.KindCounts.{counted}
+use Rattle.semantic_tree.proofs.KindCounting.{counts_all}
+use Rattle.semantic_tree.proofs.Forests.{count-numbered, numbers}
 use Rattle.semantic_tree.proofs.ShapedLaws.{IsShaped-no_fault}
 use Rattle.semantic_tree.proofs.program.Program.new.Goals as goal
 
@@ -31,3 +33,11 @@ returns-in-Some-clause-complete c = λ shaped.
     faulty_is_not_faultless p c.in-Some.fault (IsShaped-no_fault p shaped)
     (fault_of (encode_utf8_all c.args.source) c.as_str.result.now c.as_str-2.result.now c.args.comments.items c.as_slice.result.now c.as_slice-2.result.now c.args.root c.number-nodes.new.self c.in-Some.fault
     c.as_str.ensures.bytes c.as_str-2.ensures.bytes c.as_slice.ensures.value c.as_slice-2.ensures.value c.number-nodes.ensures.numbered small (sym c.in-Some.ensures))
+
+pub invariant_of-result : goal.invariant_of-result
+invariant_of-result c = (
+  search (rules, numbers),
+  search (rules, numbers),
+  search (rules, numbers),
+  λ k. counts_all k c.args.root c.number-nodes.new.self (counted c.new-kinds.result k) (counted c.number-nodes.new.kinds k) c.number-nodes.ensures.numbered (c.new-kinds.ensures k) (c.number-nodes.ensures.kinds k),
+)

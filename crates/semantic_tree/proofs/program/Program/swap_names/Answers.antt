@@ -1,7 +1,8 @@
 use Rattle.std.proofs.Common.{◌+◌, ap, sym, ◌∙◌, subst}
 use Rattle.std.specs.Str.{chars}
 use Rattle.semantic_kinds.specs.declared.role.Role.TheVariants.{Root}
-use Rattle.semantic_tree.specs.Children.{node_count}
+use Rattle.semantic_tree.specs.Children.{node_count, single}
+use Rattle.semantic_tree.specs.KindCounts.{kind_count}
 use Rattle.semantic_tree.specs.Tree.{Tree, IsNumbered}
 use Rattle.semantic_tree.specs.Faults.{first_fault}
 use Rattle.semantic_tree.specs.Renamed.{swap, setting_below}
@@ -9,6 +10,7 @@ use Rattle.semantic_tree.specs.declared.swap.Setting.TheVariants.{Elsewhere}
 use Rattle.semantic_tree.proofs.SameTexts.{has_chars}
 use Rattle.semantic_tree.proofs.RenamedKinds.{KeepsEmpty, swap_keeps_empty}
 use Rattle.semantic_tree.proofs.RenamedShape.{count-renamed, numbers_kept, faults_kept}
+use Rattle.semantic_tree.proofs.KindCounting.{kinds-renamed}
 use Rattle.semantic_tree.proofs.program.Program.swap_names.Goals as goal
 
 pub invariant_of-result : goal.invariant_of-result
@@ -25,4 +27,5 @@ invariant_of-result c =
       subst IsNumbered (sym root) (numbers_kept f Elsewhere Root before.root c.self.invariant.0),
       (λ i. first_fault (record { source = source i; source_type = before.source_type; comments = comments i; root = root i })) ∙ faults_kept f keeps p ∙ c.self.invariant.1,
       c.self.invariant.2 ∙ sym (ap node_count root ∙ ap (λ n. n + 1) (count-renamed f (setting_below Elsewhere Root before.root.kind) before.root.children)),
+      λ k. c.self.invariant.3 k ∙ sym (ap (λ n. kind_count k (single Root n)) root ∙ kinds-renamed k f Elsewhere (single Root before.root)),
     )
