@@ -5,7 +5,7 @@ use Rattle.semantic_tree.specs.Forest.{Forest, nothing, tree, count, numbered}
 use Rattle.semantic_tree.specs.Children.{numbered_node}
 use Rattle.semantic_tree.specs.declared.node.Node.{Node}
 use Rattle.tree_json.specs.Lines.{Line, lines_of, line_of, listing}
-use Rattle.tree_json.specs.Listing.{Continues, IsListing}
+use Rattle.tree_json.specs.Listing.{Continues, Ends, IsListing}
 
 -- ---- a tree's listing is a listing
 
@@ -23,11 +23,6 @@ listing-IsListing root =
     (refl, (omega arith, (λ h. absurd (omega arith)), subst (λ ls. Continues 1 ls) (append-nil (lines_of 1 root.children)) (lines_of-Continues root.children 1 [] 1 (omega arith) (omega arith) (λ k h. tt))))
 
 -- ---- no other tree has it
-
--- what follows is less deep
-abbrev Ends : ℕ → List Line → Type 0
-Ends depth [] = Unit {0}
-Ends depth (l ∷ ls) = l.depth < depth
 
 Ends-after : (f : Forest) (depth : ℕ) (xs : List Line) → Ends depth xs → Ends (depth + 1) (lines_of depth f ++ xs)
 Ends-after nothing depth [] ends = tt

@@ -1,4 +1,4 @@
-pub mod Open
+pub mod Built
 pub mod Laws
 pub mod RowForm
 pub mod CommentForm

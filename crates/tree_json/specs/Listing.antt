@@ -1,10 +1,8 @@
 -- Which lines are the listing of a tree.
-use Rattle.std.specs.Prelude.{◌≡◌, ◌<◌, ◌≤◌, ℕ, ◌+◌, List, [], ◌∷◌, ◌++◌}
+use Rattle.std.specs.Prelude.{◌≡◌, ◌<◌, ◌≤◌, ℕ, ◌+◌, List, [], ◌∷◌}
 use Rattle.std.specs.Str.{chars}
-use Rattle.semantic_kinds.specs.declared.role.Role.{Role}
 use Rattle.semantic_kinds.specs.declared.role.Role.TheVariants.{Root}
-use Rattle.semantic_tree.specs.declared.node.Node.{Node}
-use Rattle.tree_json.specs.Lines.{Line, node_lines}
+use Rattle.tree_json.specs.Lines.{Line}
 use Rattle.tree_json.specs.declared.row.Row.{Row}
 
 -- the line that a row says
@@ -20,7 +18,7 @@ abbrev pub IsListing : List Line → Type 0
 IsListing [] = ⊥
 IsListing (l ∷ ls) = (l.role ≡ Root) × Continues 0 (l ∷ ls)
 
--- the lines of open nodes, each the parent of the next
-abbrev pub open_lines : ℕ → List (Role × Node) → List Line
-open_lines depth [] = []
-open_lines depth (b ∷ bs) = node_lines depth b.0 b.1 ++ open_lines (depth + 1) bs
+-- what follows is less deep
+abbrev pub Ends : ℕ → List Line → Type 0
+Ends depth [] = Unit {0}
+Ends depth (l ∷ ls) = l.depth < depth
