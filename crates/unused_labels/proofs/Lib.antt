@@ -1,4 +1,5 @@
 pub mod Innermost
+pub mod Places
 pub mod Used
 pub mod Walked
 pub mod StepsWalked

@@ -1,7 +1,6 @@
 -- What the steps of a walk note of labels is what the walk notes.
-use Rattle.std.proofs.Common.{◌≡◌, ℕ, ◌+◌, List, [], ◌∷◌, ◌++◌, Bool, true, false, ◌&&◌, not, cond, Option, None, Some, refl, sym, ap, ◌∙◌}
+use Rattle.std.proofs.Common.{◌≡◌, ℕ, ◌+◌, List, [], ◌∷◌, ◌++◌, Bool, true, false, ◌&&◌, not, cond, Option, None, Some, refl, ap, ◌∙◌}
 use Rattle.semantic_kinds.specs.declared.role.Role.{Role}
-use Rattle.semantic_kinds.specs.declared.kind.AstType.TheVariants as kind
 use Rattle.semantic_tree.specs.Forest.{Forest, nothing, tree}
 use Rattle.semantic_tree.specs.Tree.{Tree}
 use Rattle.semantic_tree.specs.Faults.{first_fault}
@@ -14,7 +13,7 @@ use Rattle.semantic_model.specs.Cursor.{on_entering}
 use Rattle.semantic_model.specs.Label.{label_of, is_jump, is_labelled, unused_labels}
 use Rattle.semantic_model.specs.Step.{Step, entering, opening, leaving, header_ending, closing, scope_at, next_at, opening_at, ending_after, opening_last, child_place, cursor_past, steps_below, steps_of, root_place, steps}
 use Rattle.semantic_model.proofs.Shape.{has_form}
-use Rattle.unused_labels.specs.LabelStack.{LabelLists, no_labels, left}
+use Rattle.unused_labels.specs.LabelStack.{LabelLists, no_labels}
 use Rattle.unused_labels.specs.Labelling.{label_met, node_entered, node_left, walked_below}
 use Rattle.unused_labels.specs.LabelSteps.{labelling, labelling_all}
 use Rattle.unused_labels.proofs.Innermost.{lists}

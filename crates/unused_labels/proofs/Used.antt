@@ -1,11 +1,11 @@
 -- How labels come to be used.
-use Rattle.std.proofs.Common.{◌≡◌, ℕ, suc, ◌+◌, ◌-◌, List, [], ◌∷◌, ◌++◌, Bool, true, false, ◌&&◌, ◌||◌, not, cond, Option, Some, None, length, take, slice_get, refl, sym, ap, subst, ◌∙◌, inl, inr, arith, length-append}
+use Rattle.std.proofs.Common.{◌≡◌, ℕ, ◌-◌, List, [], ◌∷◌, ◌++◌, Bool, true, false, ◌&&◌, ◌||◌, not, cond, Some, length, take, slice_get, refl, sym, ap, ◌∙◌, inl, inr, arith, length-append}
 use Rattle.std.specs.List.{list_any}
 use Rattle.semantic_syntax.specs.Tables.{Name}
 use Rattle.std.specs.Prelude.{bytes_eq}
 use Rattle.std.proofs.lemmas.Slice.Eq.{bytes_eq-Decides}
 use Rattle.semantic_model.proofs.Under.{name_tells}
-use Rattle.unused_labels.specs.LabelStack.{Labelled, LabelLists, is_of, innermost_used, if_unused, left}
+use Rattle.unused_labels.specs.LabelStack.{Labelled, is_of, innermost_used, if_unused, left}
 use Rattle.unused_labels.specs.Labelling.{used_where}
 use Rattle.unused_labels.proofs.Innermost.{lists, unmoved}
 

@@ -9,8 +9,8 @@ use Rattle.semantic_tree.specs.Forest.{Forest, nothing, tree}
 use Rattle.semantic_tree.specs.declared.node.Node.{Node}
 use Rattle.semantic_model.specs.Nodes.{reads, holds}
 use Rattle.semantic_model.specs.Label.{label_of, is_jump, is_labelled, is_named_in, is_used, unused_in, unused_labels}
-use Rattle.unused_labels.specs.LabelStack.{Labelled, LabelLists, no_labels, entered, left, if_unused}
-use Rattle.unused_labels.specs.Labelling.{label_met, node_entered, node_left, walked_below, used_where, used_by}
+use Rattle.unused_labels.specs.LabelStack.{Labelled, LabelLists, no_labels, entered, left}
+use Rattle.unused_labels.specs.Labelling.{label_met, node_entered, walked_below, used_where, used_by}
 use Rattle.unused_labels.proofs.Innermost.{lists}
 use Rattle.unused_labels.proofs.Used.{marked, used_nowhere, used_alike, used_twice, used_inside, used_by_jump, left_last}
 

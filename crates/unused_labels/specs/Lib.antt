@@ -1,3 +1,5 @@
 pub mod LabelStack
 pub mod Labelling
 pub mod LabelSteps
+pub mod OpenNames
+pub mod OpenPlaces

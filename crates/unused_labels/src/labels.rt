@@ -2,8 +2,9 @@
 
 ghost use Rattle.std.specs.Prelude.{◌≡◌, [], OnOk, OnErr};
 ghost use Rattle.std.specs.Str.{chars};
-ghost use Rattle.unused_labels.specs.LabelStack.{label_seen, labels_seen, no_labels, entered, jumped, left, is_of};
+ghost use Rattle.unused_labels.specs.OpenNames.{names_around};
 
+use crate::open_labels::OpenLabels;
 use semantic_syntax::{Ident, NodeId};
 use std::alloc::{AllocError, Global};
 
@@ -17,33 +18,30 @@ pub struct LabeledScope<'a> {
 }
 
 /// The labelled statements around the place where a walk stands, and those that it left and no jump names. A jump
-/// names the innermost of its label, also across functions.
+/// names the innermost of its label, also across functions, where ECMAScript sees an error
+/// (ContainsUndefinedBreakTarget).
 #[derive(Drop)]
 pub struct UnusedLabels<'a> {
     /// The labelled statements around the place, innermost last.
     pub stack: Vec<LabeledScope<'a>>,
     /// The labelled statements that no jump names, in the order in which they were left.
     pub labels: Vec<NodeId>,
-}
-
-impl LabeledScope<'_> {
-    /// Whether the statement has the label.
-    #[tactic(auto, using(semantic_tree::proofs::SameTexts::texts))]
-    fn is_of(&self, name: Ident<'_>) -> bool
-        ensures { result ≡ is_of (chars name.entry.text.now) (label_seen self.now) }
-    {
-        self.name.as_str() == name.as_str()
-    }
+    /// The labels of the stack, by their names.
+    names: OpenLabels<'a>,
+    ghost named: { names ≡ names_around stack.items },
 }
 
 impl<'a> UnusedLabels<'a> {
-    /// No labels.
+    ghost use Rattle.unused_labels.specs.LabelStack.{labels_seen, no_labels, entered, jumped, left};
+
+    /// The walk has come to no label yet.
     pub fn new(alloc: Global) -> Self
         ensures { labels_seen result ≡ no_labels }
     {
         UnusedLabels {
             stack: Vec::new(alloc),
             labels: Vec::new(alloc),
+            names: OpenLabels::new(alloc),
         }
     }
 
@@ -57,23 +55,18 @@ impl<'a> UnusedLabels<'a> {
             used: false,
             node_id: node,
         };
-        match self.stack.push(label) {
-            Ok(()) => Ok(()),
-            Err(_) => Err(AllocError),
-        }
+        self.stack.reserve(1)?;
+        self.names.push(name)?;
+        let _ = self.stack.push(label);
+        Ok(())
     }
 
     /// A jump names the label: the innermost statement of that label, if there is one, is used.
     pub fn reference(&mut self, name: Ident<'_>)
         ensures { labels_seen self.new ≡ jumped (labels_seen self.old) (chars name.entry.text.now) }
     {
-        let mut place = self.stack.len();
-        while place > 0 {
-            place -= 1;
-            if self.stack[place].is_of(name) {
-                self.stack[place].used = true;
-                return;
-            }
+        if let Some(place) = self.names.innermost(name) {
+            self.stack[place].used = true;
         }
     }
 
@@ -88,6 +81,7 @@ impl<'a> UnusedLabels<'a> {
                 self.labels.push(label.node_id)?;
             }
         }
+        self.names.pop();
         let _left = self.stack.pop();
         Ok(())
     }
