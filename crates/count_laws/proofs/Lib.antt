@@ -5,3 +5,7 @@ pub mod Declarers
 pub mod MadeOnce
 pub mod Fewer
 pub mod Symbols
+pub mod InSteps
+pub mod Growth
+pub mod Rooms
+pub mod ProgramRoom

@@ -1,8 +1,7 @@
 -- A program has a reference for each identifier reference.
-use Rattle.std.proofs.Common.{◌≡◌, ℕ, suc, ◌+◌, List, [], ◌∷◌, ◌++◌, Option, Some, None, Bool, true, false, ◌&&◌, not, cond, length, map, filter_map, refl, ap, ◌∙◌, arith}
+use Rattle.std.proofs.Common.{◌≡◌, ℕ, suc, ◌+◌, List, [], ◌∷◌, ◌++◌, Option, Some, None, Bool, true, false, ◌&&◌, not, cond, length, refl, ap, arith}
 use Rattle.std.specs.List.{cons_option}
 use Rattle.std.proofs.lemmas.List.{length-map}
-use Rattle.semantic_kinds.specs.declared.kind.AstType.{AstType}
 use Rattle.semantic_kinds.specs.declared.kind.AstType.TheVariants as kind
 use Rattle.semantic_kinds.specs.declared.role.Role.{Role}
 use Rattle.semantic_kinds.specs.declared.role.Role.TheVariants as role
@@ -15,23 +14,21 @@ use Rattle.semantic_model.specs.Inside.{opens, is_inside, any_inside, header_rol
 use Rattle.semantic_model.specs.Place.{Place, OpenScope}
 use Rattle.semantic_model.specs.ScopeKind.{opened_scope}
 use Rattle.semantic_model.specs.Cursor.{on_entering}
-use Rattle.semantic_model.specs.Step.{Step, entering, opening, header_ending, closing, leaving, scope_at, next_at, opening_at, ending_after, opening_last, child_place, cursor_past, steps_below, steps_of, root_place, steps}
+use Rattle.semantic_model.specs.Step.{Step, entering, opening, header_ending, closing, leaving, scope_at, next_at, opening_at, ending_after, opening_last, child_place, cursor_past, steps_below, root_place, steps}
 use Rattle.semantic_model.specs.Reference.{Occurrence, reference_at, references}
 use Rattle.semantic_model.specs.Event.{Event, events}
 use Rattle.semantic_model.specs.Fold.{State, start}
 use Rattle.semantic_model.specs.Hoist.{run}
-use Rattle.semantic_model.specs.Tie.{Tie, ties}
+use Rattle.semantic_model.specs.Tie.{ties}
 use Rattle.semantic_model.specs.TablesOf.{entry_of, tables_of}
-use Rattle.count_laws.specs.Counted.{how_many, is_reference}
+use Rattle.semantic_tree.specs.KindCounts.{how_many}
+use Rattle.count_laws.specs.Counted.{is_reference}
+use Rattle.count_laws.specs.Room.{referred_by, in_all}
+use Rattle.count_laws.proofs.InSteps.{all-append}
 
 -- how many references the steps enter
 abbrev entered : List Step → ℕ
-entered [] = 0
-entered (entering p ∷ ss) = cond (is_reference p.node.kind) 1 0 + entered ss
-entered (opening p s ∷ ss) = entered ss
-entered (header_ending p s ∷ ss) = entered ss
-entered (closing p s ∷ ss) = entered ss
-entered (leaving p ∷ ss) = entered ss
+entered ss = in_all referred_by ss
 
 entered_all : (ss : List Step) → length (references ss) ≡ entered ss
 entered_all [] = refl
@@ -40,18 +37,13 @@ entered_all (entering p ∷ ss) = by (is kind.IdentifierReference p.node) (enter
     by : (b : Bool) → length (references ss) ≡ entered ss → length (cons_option (cond b (Some (reference_at p)) None) (references ss)) ≡ cond b 1 0 + entered ss
     by true h = omega (arith, h)
     by false h = omega (arith, h)
-entered_all (opening p s ∷ ss) = entered_all ss
-entered_all (header_ending p s ∷ ss) = entered_all ss
-entered_all (closing p s ∷ ss) = entered_all ss
-entered_all (leaving p ∷ ss) = entered_all ss
+entered_all (opening p s ∷ ss) = omega (arith, entered_all ss)
+entered_all (header_ending p s ∷ ss) = omega (arith, entered_all ss)
+entered_all (closing p s ∷ ss) = omega (arith, entered_all ss)
+entered_all (leaving p ∷ ss) = omega (arith, entered_all ss)
 
 entered_append : (xs ys : List Step) → entered (xs ++ ys) ≡ entered xs + entered ys
-entered_append [] ys = omega arith
-entered_append (entering p ∷ xs) ys = omega (arith, entered_append xs ys)
-entered_append (opening p s ∷ xs) ys = entered_append xs ys
-entered_append (header_ending p s ∷ xs) ys = entered_append xs ys
-entered_append (closing p s ∷ xs) ys = entered_append xs ys
-entered_append (leaving p ∷ xs) ys = entered_append xs ys
+entered_append = all-append referred_by
 
 none_opening : (p : Place) (r : Role) (own : Option OpenScope) (n : ℕ) → entered (opening_at p r own n) ≡ 0
 none_opening p r (Some s) n = refl
@@ -109,15 +101,23 @@ ties_length : (st : State) (es : List Event) (n : ℕ) (rs : List Occurrence) �
 ties_length st es n [] = refl
 ties_length st es n (r ∷ rs) = ap suc (ties_length st es (suc n) rs)
 
+-- and the steps of a program
+pub entered_counted : (p : Tree) → in_all referred_by (steps p) ≡ how_many is_reference (single role.Root p.root)
+entered_counted p =
+    let below : List Step = steps_below (root_place p) None 0 (on_entering p.root.kind 0) p.root.children in
+    omega (
+      arith,
+      entered_append below (leaving (root_place p) ∷ []),
+      entered_below (root_place p) None 0 (on_entering p.root.kind 0) p.root.children,
+    )
+
 pub references_counted : (p : Tree) → length (tables_of p).references ≡ how_many is_reference (single role.Root p.root)
 references_counted p =
     let es : List Event = events (steps p) in
-    let below : List Step = steps_below (root_place p) None 0 (on_entering p.root.kind 0) p.root.children in
     omega (
       arith,
       length-map (ties (run start es) es 0 (references (steps p))) entry_of,
       ties_length (run start es) es 0 (references (steps p)),
       entered_all (steps p),
-      entered_append below (leaving (root_place p) ∷ []),
-      entered_below (root_place p) None 0 (on_entering p.root.kind 0) p.root.children,
+      entered_counted p,
     )

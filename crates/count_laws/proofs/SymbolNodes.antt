@@ -12,7 +12,8 @@ use Rattle.semantic_model.specs.Entries.{times}
 use Rattle.semantic_model.specs.Nodes.{is_role_of, children_of}
 use Rattle.semantic_model.specs.Names.{binding_roles, bound_below, bound_names, names_at}
 use Rattle.walk_model.proofs.NameTimes.{name_times, names_append}
-use Rattle.count_laws.specs.Counted.{how_many, is_symbol}
+use Rattle.semantic_tree.specs.KindCounts.{how_many}
+use Rattle.count_laws.specs.Counted.{is_symbol}
 
 -- the ids of the nodes that may declare a symbol
 abbrev pub symbol_ids : Forest → List ℕ

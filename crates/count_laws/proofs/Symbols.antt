@@ -1,5 +1,5 @@
 -- A program has no more symbols than nodes that may declare one.
-use Rattle.std.proofs.Common.{◌≡◌, ℕ, suc, ◌+◌, ◌<◌, ◌≤◌, List, [], ◌∷◌, ◌++◌, Option, Some, None, length, map, refl, sym, ap, ◌∙◌, arith, inl, inr, length-append}
+use Rattle.std.proofs.Common.{◌≡◌, ℕ, ◌+◌, ◌≤◌, List, [], ◌∷◌, Option, Some, None, length, map, refl, ap, ◌∙◌, arith, inl, inr, length-append}
 use Rattle.std.proofs.lemmas.Bool.Decides.{leb_tells}
 use Rattle.std.proofs.lemmas.List.{length-map}
 use Rattle.semantic_syntax.specs.Tables.{Name, Symbol, Bindings}
@@ -8,20 +8,20 @@ use Rattle.semantic_tree.specs.Children.{single}
 use Rattle.semantic_tree.specs.Faults.{first_fault}
 use Rattle.semantic_tree.specs.Tree.{Tree, IsNumbered}
 use Rattle.semantic_model.specs.Entries.{times}
-use Rattle.semantic_model.specs.Place.{OpenScope}
 use Rattle.semantic_model.specs.Declaration.{Declaration, How, plain, hoisted, moved, caught, stands_in}
 use Rattle.semantic_model.specs.Step.{steps}
 use Rattle.semantic_model.specs.Event.{Event, declares, takes_over, ends_header, events}
 use Rattle.semantic_model.specs.Fold.{State, Made, start, found, update, united, redeclared, in_scope, gets, make, against, declare_in, chosen, new_symbol}
 use Rattle.semantic_model.specs.Binding.{get, bound_by}
-use Rattle.semantic_model.specs.Hoist.{Hit, hit, asked, against_all, remembering, move_symbol, hoist_by, hoist, move_out, move_function, declare_by, rescoped, act, run}
+use Rattle.semantic_model.specs.Hoist.{Hit, hit, asked, against_all, move_symbol, hoist_by, move_out, move_function, declare_by, rescoped, act, run}
 use Rattle.semantic_model.specs.NodeTable.{belonging}
 use Rattle.semantic_model.specs.TablesOf.{tables_of}
 use Rattle.semantic_model.proofs.Bounds.{update_length}
 use Rattle.walk_model.proofs.SymbolsOnce.{symbols_times}
-use Rattle.count_laws.specs.Counted.{how_many, is_symbol}
+use Rattle.semantic_tree.specs.KindCounts.{how_many}
+use Rattle.count_laws.specs.Counted.{is_symbol}
 use Rattle.count_laws.proofs.Fewer.{no_longer}
-use Rattle.count_laws.proofs.SymbolNodes.{symbol_ids, ids_counted, symbol_times, node_symbols, ids_times}
+use Rattle.count_laws.proofs.SymbolNodes.{symbol_ids, ids_counted, ids_times}
 use Rattle.count_laws.proofs.MadeOnce.{identifiers, made_within}
 
 -- each symbol that is made has a declaration that made it
@@ -109,13 +109,16 @@ identifiers_fewer p h e x =
     same x [] = refl
     same x (m ∷ ms) = omega (arith, same x ms)
 
-pub symbols_counted : (p : Tree) → first_fault p ≡ None → IsNumbered p.root → length (tables_of p).symbols ≤ how_many is_symbol (single role.Root p.root)
-symbols_counted p h e =
+-- so no more are made than there are nodes that may declare one
+pub made_counted : (p : Tree) → first_fault p ≡ None → IsNumbered p.root → length (run start (events (steps p))).made ≤ how_many is_symbol (single role.Root p.root)
+made_counted p h e =
     let ms : List Made = (run start (events (steps p))).made in
     omega (
       arith,
-      symbols_made (events (steps p)),
       length-map ms (λ m. m.declaration.identifier),
       no_longer (identifiers ms) (symbol_ids (single role.Root p.root)) (identifiers_fewer p h e),
       ids_counted (single role.Root p.root),
     )
+
+pub symbols_counted : (p : Tree) → first_fault p ≡ None → IsNumbered p.root → length (tables_of p).symbols ≤ how_many is_symbol (single role.Root p.root)
+symbols_counted p h e = omega (arith, symbols_made (events (steps p)), made_counted p h e)

@@ -5,3 +5,4 @@ pub mod Paths
 pub mod Rests
 pub mod Ways
 pub mod Walking
+pub mod Following

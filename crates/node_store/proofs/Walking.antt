@@ -45,6 +45,14 @@ way_below parents n parent before long h =
     ap (λ p. suc n ∷ outward_within (suc n) (parents ++ parent ∷ []) p) here
     ∙ ap (λ ns. suc n ∷ ns) (same_way parents (parent ∷ []) before (suc n) parent (omega arith) ∙ enough parents before (suc n) (suc parent) parent (omega arith) (omega arith) (omega arith))
 
+-- each node has a parent, which stands before it
+pub record HasParents (list : NodeList) : Type 0 where
+  pub with_parents : length list.parents ≡ length list.nodes
+  pub before : StandBefore list.parents
+
+pub has_parents : (list : NodeList) → IsNodeList list → HasParents list
+has_parents list h = record { with_parents = h.with_parents; before = h.before }
+
 empty_list : {X : Type 0} (xs : List X) → length xs ≡ 0 → xs ≡ []
 empty_list [] h = refl
 empty_list (x ∷ xs) h = absurd (omega arith)
@@ -58,7 +66,7 @@ first_path list node id scope parent flags none root =
     ∙ sym (ap (λ (p : ℕ). node ∷ kinds_of (numbered_of list.nodes (outward list.parents p))) root ∙ ap (λ (ns : List SeenNode). node ∷ kinds_of (numbered_of ns (0 ∷ []))) empty)
 
 -- the path of a later one
-later_path : (list : NodeList) → IsNodeList list → (node : Node) (id scope parent : ℕ) (flags : NodeFlags) (n : ℕ) → length list.nodes ≡ suc n → parent ≤ n → path_in (with_node list node id scope parent flags) (suc n) ≡ node ∷ path_in list parent
+later_path : (list : NodeList) → HasParents list → (node : Node) (id scope parent : ℕ) (flags : NodeFlags) (n : ℕ) → length list.nodes ≡ suc n → parent ≤ n → path_in (with_node list node id scope parent flags) (suc n) ≡ node ∷ path_in list parent
 later_path list h node id scope parent flags n long le =
     let s : SeenNode = record { node = node; id = id; scope = scope } in
     let same = h.with_parents in
@@ -70,7 +78,7 @@ later_path list h node id scope parent flags n long le =
     ∙ ap (λ (x : SeenNode). x.node ∷ kinds_of (numbered_of (list.nodes ++ s ∷ []) (outward list.parents parent))) last
     ∙ ap (λ (l : List (ℕ × SeenNode)). node ∷ kinds_of l) (same_nodes list.nodes (s ∷ []) (outward list.parents parent) below)
 
-pub next_path : (list : NodeList) → IsNodeList list → (node : Node) (id scope parent : ℕ) (flags : NodeFlags) (n : ℕ) → n ≡ length list.nodes → parent ≤ length list.nodes - 1 → path_in (with_node list node id scope parent flags) n ≡ node ∷ path_in list parent
+pub next_path : (list : NodeList) → HasParents list → (node : Node) (id scope parent : ℕ) (flags : NodeFlags) (n : ℕ) → n ≡ length list.nodes → parent ≤ length list.nodes - 1 → path_in (with_node list node id scope parent flags) n ≡ node ∷ path_in list parent
 next_path list h node id scope parent flags zero e le = first_path list node id scope parent flags (sym e) (omega arith)
 next_path list h node id scope parent flags (suc n) e le = later_path list h node id scope parent flags n (sym e) (omega arith)
 
@@ -80,7 +88,7 @@ alone [] h = omega arith
 alone (s ∷ nodes) h = omega arith
 
 -- the path above a node is its parent's
-pub back_path : (list : NodeList) → IsNodeList list → (n : ℕ) → n ≤ length list.nodes - 1 → 1 < length (path_in list n) → path_in list (slice_index list.parents n) ≡ drop 1 (path_in list n)
+pub back_path : (list : NodeList) → HasParents list → (n : ℕ) → n ≤ length list.nodes - 1 → 1 < length (path_in list n) → path_in list (slice_index list.parents n) ≡ drop 1 (path_in list n)
 back_path list h zero le long = absurd (alone list.nodes long)
 back_path list h (suc m) le long =
     let same = h.with_parents in

@@ -2,7 +2,7 @@
 ghost use Rattle.std.specs.Prelude.{◌≡◌, ◌+◌, ◌<◌, [], ◌∷◌, OnOk, OnErr, length, drop, option_map};
 ghost use Rattle.node_store.specs.Entered.{entering, leaving};
 ghost use Rattle.node_store.specs.PathLeft.{path_left};
-ghost use Rattle.node_store.specs.PathOf.{path_of};
+ghost use Rattle.node_store.specs.PathOf.{path_of, IsInStore};
 ghost use Rattle.node_store.specs.Store.{IsKept, IsCounted, Stands, path_kept, path_to, nodes_kept, emptied, entered_kept, entered_in, kept_with, kept_behind, back_from, after_entering, after_leaving};
 
 use crate::ancestor_kinds::AncestorKinds;
@@ -177,7 +177,8 @@ impl<'a> AstNodeStore<'a> {
     /// The path to the node at which the walk stands.
     pub fn ancestry(&self) -> Ancestry<'a, '_>
         requires { IsKept self.now.current_node_id self.now.kind }
-        ensures { path_of result ≡ path_kept self.now.current_node_id self.now.kind }
+        ensures path { path_of result ≡ path_to self.now }
+        ensures store { IsInStore result }
     {
         match &self.kind {
             AstNodeStoreKind::Full(nodes) => Ancestry::Nodes {

@@ -23,7 +23,7 @@ pub hoists-append : (ds es : List Naming) (w : Standing) (passed : List ℕ) (s 
 hoists-append [] es w passed s = refl
 hoists-append (d ∷ ds) es w passed s = hoists-append ds es (hoist w passed s d) passed s
 
-module _ (f : Node → Naming) (parent : AstType) (items : List (Role × Node)) (i : ℕ) (child : Role × Node) (within : i < length items) (is : child ≡ get_or items i child) where
+module _ (parent : AstType) (items : List (Role × Node)) (i : ℕ) (child : Role × Node) (within : i < length items) (is : child ≡ get_or items i child) where
   abbrev later : List Node
   later = bound_below parent (forest_of (drop (i + 1) items))
 
@@ -31,20 +31,27 @@ module _ (f : Node → Naming) (parent : AstType) (items : List (Role × Node)) 
   here_and_later = ap (λ (xs : List (Role × Node)). bound_below parent (forest_of xs)) (drop_here items i child within is)
 
   -- the names of a child in a binding role come before those of the children behind it
-  pub named_here : is_role_of child.0 (binding_roles parent) ≡ true → map f (bound_below parent (forest_of (drop i items))) ≡ map f (bound_names child.1) ++ map f later
-  named_here e = ap (map f) (here_and_later ∙ ap (λ b. cond b (bound_names child.1) [] ++ later) e) ∙ map-append f (bound_names child.1) later
+  pub binds_here : is_role_of child.0 (binding_roles parent) ≡ true → bound_below parent (forest_of (drop i items)) ≡ bound_names child.1 ++ later
+  binds_here e = here_and_later ∙ ap (λ b. cond b (bound_names child.1) [] ++ later) e
 
   -- and a child in another role has none
   pub named_past : is_role_of child.0 (binding_roles parent) ≡ false → bound_below parent (forest_of (drop i items)) ≡ later
   named_past e = here_and_later ∙ ap (λ b. cond b (bound_names child.1) [] ++ later) e
 
+module _ (f : Node → Naming) (parent : AstType) (items : List (Role × Node)) (i : ℕ) (child : Role × Node) (within : i < length items) (is : child ≡ get_or items i child) where
+  abbrev names_later : List Node
+  names_later = bound_below parent (forest_of (drop (i + 1) items))
+
+  pub named_here : is_role_of child.0 (binding_roles parent) ≡ true → map f (bound_below parent (forest_of (drop i items))) ≡ map f (bound_names child.1) ++ map f names_later
+  named_here e = ap (map f) (binds_here parent items i child within is e) ∙ map-append f (bound_names child.1) names_later
+
   pub declares_here : (w : Standing) (s : ℕ) → is_role_of child.0 (binding_roles parent) ≡ true
       → declare_each (declare_each w s (map f (bound_names child.1))) s (map f (bound_below parent (forest_of (drop (i + 1) items)))) ≡ declare_each w s (map f (bound_below parent (forest_of (drop i items))))
-  declares_here w s e = sym (ap (λ ds. declare_each w s ds) (named_here e) ∙ declares-append (map f (bound_names child.1)) (map f later) w s)
+  declares_here w s e = sym (ap (λ ds. declare_each w s ds) (named_here e) ∙ declares-append (map f (bound_names child.1)) (map f names_later) w s)
 
   pub hoists_here : (w : Standing) (passed : List ℕ) (s : ℕ) → is_role_of child.0 (binding_roles parent) ≡ true
       → hoist_each (hoist_each w passed s (map f (bound_names child.1))) passed s (map f (bound_below parent (forest_of (drop (i + 1) items)))) ≡ hoist_each w passed s (map f (bound_below parent (forest_of (drop i items))))
-  hoists_here w passed s e = sym (ap (λ ds. hoist_each w passed s ds) (named_here e) ∙ hoists-append (map f (bound_names child.1)) (map f later) w passed s)
+  hoists_here w passed s e = sym (ap (λ ds. hoist_each w passed s ds) (named_here e) ∙ hoists-append (map f (bound_names child.1)) (map f names_later) w passed s)
 
 -- no names are left at the end
 pub named_end : (parent : AstType) (items : List (Role × Node)) (i : ℕ) → length items ≤ i → bound_below parent (forest_of (drop i items)) ≡ []

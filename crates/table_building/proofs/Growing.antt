@@ -1,11 +1,12 @@
 -- Tables that grow, and symbols that are remembered.
-use Rattle.std.proofs.Common.{◌≡◌, ℕ, ◌<◌, ◌≤◌, Bool, true, false, cond, List, [], ◌∷◌, ◌++◌, length, Some, IfSome, All, arith, fold, slice_index_or, refl, ◌∙◌}
+use Rattle.std.proofs.Common.{ℕ, ◌<◌, ◌≤◌, Bool, true, false, cond, List, [], ◌∷◌, ◌++◌, length, Some, IfSome, All, arith}
 use Rattle.std.proofs.lemmas.List.Elements.{All-nil, All-cons, All-append}
-use Rattle.std.proofs.lemmas.List.{map-append, length-set}
+use Rattle.std.proofs.lemmas.List.{map-append}
 use Rattle.std.specs.Map.{values_of}
-use Rattle.semantic_syntax.specs.Tables.{Tables, Name, Symbol}
-use Rattle.scoping.specs.Reading.{bindings_of, no_symbol}
-use Rattle.scoping.specs.Writing.{with_home, taken_over}
+use Rattle.semantic_syntax.specs.Tables.{Tables, Name}
+use Rattle.scoping.specs.Reading.{bindings_of}
+use Rattle.scoping.specs.Writing.{taken_over}
+use Rattle.count_laws.proofs.Growth.{homes_count}
 use Rattle.semantic_model.specs.Binding.{Binding, is_of, get, put}
 use Rattle.semantic_model.specs.Outcome.{Pending}
 use Rattle.table_building.specs.Growth.{Grows, Goes}
@@ -62,11 +63,6 @@ pub waiting_more : (t : Tables) (es : List Pending) (e : Pending) → AreWaiting
     → AreWaiting t (es ++ e ∷ [])
 waiting_more t [] e h below exists = (record { scope = below; reference = exists }, tt)
 waiting_more t (d ∷ es) e h below exists = (h.0, waiting_more t es e h.1 below exists)
-
--- symbols that change their scope stay as many
-pub homes_count : (to : ℕ) (ids : List ℕ) (ys : List Symbol) → length (fold (with_home to) ys ids) ≡ length ys
-homes_count to [] ys = refl
-homes_count to (y ∷ ids) ys = homes_count to ids (with_home to ys y) ∙ length-set ys y (record (slice_index_or ys y no_symbol) { scope = to })
 
 pub taken_grows : (t : Tables) (from to : ℕ) → Grows t (taken_over t from to)
 taken_grows t from to = record { scopes = omega arith; symbols = omega (arith, homes_count to (values_of (bindings_of t from)) t.symbols); references = omega arith }

@@ -9,3 +9,4 @@ pub mod Bridging
 pub mod Asking
 pub mod Outside
 pub mod EachName
+pub mod Rooms

@@ -1,4 +1,5 @@
-//! Names that are declared although they may not be.
+//! Names that are declared although they may not be, by the early errors on LexicallyDeclaredNames and
+//! VarDeclaredNames (ECMAScript 14.2.1, 16.1.1, 16.2.1.1; TypeScript 2300, 2451).
 
 ghost use Rattle.std.specs.Prelude.{◌≡◌, [], ◌∷◌, ◌++◌, length, map, drop, OnOk, OnErr};
 ghost use Rattle.std.specs.Str.{chars};
@@ -35,7 +36,7 @@ impl<'a> Model for Conflicts<'a> {
 }
 
 impl<'a> Conflicts<'a> {
-    /// No conflicts.
+    /// No conflict is found yet.
     pub fn new(alloc: Global) -> Conflicts<'a>
         ensures { result ≡ [] }
     {
@@ -60,7 +61,7 @@ impl<'a> Conflicts<'a> {
         }
     }
 
-    /// How many there are.
+    /// How many conflicts there are.
     pub fn len(&self) -> usize
         ensures { result ≡ length self.now }
     {

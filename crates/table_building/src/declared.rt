@@ -70,7 +70,7 @@ impl<'a> Declared<'a> {
         }
     }
 
-    /// Nothing is made yet.
+    /// Tables without any scope: not even the root's is open yet.
     fn empty(alloc: Global) -> Declared<'a>
         ensures { result ≡ nothing_made }
     {
@@ -96,7 +96,7 @@ impl<'a> Declared<'a> {
         self.scoping.reserve(symbols, references, scopes)
     }
 
-    /// The tables.
+    /// The scopes, symbols, bindings and references so far.
     pub fn scoping(&self) -> &Scoping
         ensures { result.now ≡ self.now.tables }
     {
@@ -124,7 +124,7 @@ impl<'a> Declared<'a> {
         self.conflicts.tell_from(self.alloc, from, out)
     }
 
-    /// The tables, and what belongs to each node.
+    /// Hands out the tables, and what belongs to each node.
     pub fn into_tables(self) -> (Scoping, NodeTables)
         ensures scoping { result.0 ≡ self.entry.tables }
         ensures tables { result.1 ≡ self.entry.nodes }
@@ -185,7 +185,8 @@ impl<'a> Declared<'a> {
         self.recalled(scope, name)
     }
 
-    /// The symbol that the scope knows for the name. The own name of a function expression counts as none.
+    /// The symbol that the scope knows for the name. The own name of a function expression counts as none: it is
+    /// bound around what the function declares (ECMAScript 15.2.5).
     pub(crate) fn found(&self, scope: ScopeId, name: Ident<'_>) -> Option<SymbolId>
         requires { scope < length self.now.tables.scopes }
         ensures value { result ≡ walked.found self.now scope (name_of name.entry) }
@@ -199,7 +200,8 @@ impl<'a> Declared<'a> {
         Some(symbol)
     }
 
-    /// Notes a conflict where the symbol may not be declared once more in this way.
+    /// Notes a conflict where the symbol may not be declared once more in this way (ECMAScript 14.2.1,
+    /// LexicallyDeclaredNames and VarDeclaredNames; TypeScript 2300, 2451).
     pub(crate) fn note_conflict(
         &mut self,
         symbol: SymbolId,
@@ -207,6 +209,7 @@ impl<'a> Declared<'a> {
     ) -> Result<(), AllocError>
         requires { symbol < length self.old.tables.symbols }
         ensures made { OnOk result (self.new ≡ walked.against self.old (naming declaration.now) symbol) }
+        ensures symbols { length self.new.tables.symbols ≡ length self.old.tables.symbols }
         ensures goes { Goes self.old self.new }
     {
         let flags = self.scoping.symbol_flags(symbol);
@@ -224,13 +227,13 @@ impl<'a> Declared<'a> {
         scope: ScopeId,
         declaration: &Declaration<'a>,
     ) -> Result<SymbolId, AllocError>
-        requires { scope < length self.old.tables.scopes }
+        requires scope { scope < length self.old.tables.scopes }
+        requires room { length self.old.tables.symbols < u32.MAX }
         ensures made { OnOk result (self.new ≡ walked.make self.old scope (naming declaration.now)) }
         ensures symbol { IfOk result (λ y. y ≡ length self.old.tables.symbols) }
         ensures goes { Goes self.old self.new }
         ensures within { IfOk result (λ y. y < length self.new.tables.symbols) }
     {
-        check_room(self.scoping.symbols_len())?;
         self.scoping.create_symbol_with_binding(
             declaration.span,
             Ident::new(declaration.name),
@@ -303,7 +306,8 @@ impl<'a> Declared<'a> {
         scope: ScopeId,
         declaration: &Declaration<'a>,
     ) -> Result<SymbolId, AllocError>
-        requires { scope < length self.old.tables.scopes }
+        requires scope { scope < length self.old.tables.scopes }
+        requires room { length self.old.tables.symbols < u32.MAX }
         ensures made { OnOk result (self.new ≡ walked.with_symbol_in self.old scope (naming declaration.now)) }
         ensures symbol { IfOk result (λ y. y ≡ walked.symbol_in self.old scope (naming declaration.now)) }
         ensures goes { Goes self.old self.new }
@@ -318,13 +322,14 @@ impl<'a> Declared<'a> {
         }
     }
 
-    /// Declares in a scope.
+    /// Declares in a scope, and notes which symbol the declaration has.
     pub(crate) fn declare(
         &mut self,
         scope: ScopeId,
         declaration: &Declaration<'a>,
     ) -> Result<(), AllocError>
-        requires { scope < length self.old.tables.scopes }
+        requires scope { scope < length self.old.tables.scopes }
+        requires room { length self.old.tables.symbols < u32.MAX }
         ensures made { OnOk result (self.new ≡ walked.declare self.old scope (naming declaration.now)) }
         ensures goes { Goes self.old self.new }
     {
@@ -332,13 +337,14 @@ impl<'a> Declared<'a> {
         self.gets(symbol, declaration)
     }
 
-    /// Declares in a scope, always anew.
+    /// Declares in a scope, always anew, as a catch clause does (ECMAScript 14.15.2, CatchClauseEvaluation).
     pub(crate) fn declare_anew(
         &mut self,
         scope: ScopeId,
         declaration: &Declaration<'a>,
     ) -> Result<(), AllocError>
-        requires { scope < length self.old.tables.scopes }
+        requires scope { scope < length self.old.tables.scopes }
+        requires room { length self.old.tables.symbols < u32.MAX }
         ensures made { OnOk result (self.new ≡ walked.declare_anew self.old scope (naming declaration.now)) }
         ensures goes { Goes self.old self.new }
     {
@@ -355,7 +361,8 @@ impl<'a> Declared<'a> {
         row: Row,
         is_pure: bool,
     ) -> Result<(), AllocError>
-        requires { scope < length self.old.tables.scopes }
+        requires scope { scope < length self.old.tables.scopes }
+        requires room { length self.old.tables.symbols < u32.MAX }
         ensures made { OnOk result (self.new ≡ walked.declare self.old scope (named_by node.entry.node.now row is_pure name.entry.node.now)) }
         ensures goes { Goes self.old self.new }
     {
@@ -369,15 +376,3 @@ fn drop_scoping(_scoping: Scoping) {}
 
 /// Drops what belongs to each node, out of line too.
 fn drop_tables(_tables: NodeTables) {}
-
-/// Whether there is room for one more id. There always is: scopes, symbols and references are at most the nodes of
-/// the program, which have ids themselves.
-pub(crate) fn check_room(count: usize) -> Result<(), AllocError>
-    ensures { OnOk result (count < u32.MAX) }
-{
-    if count < u32::MAX as usize {
-        Ok(())
-    } else {
-        Err(AllocError)
-    }
-}

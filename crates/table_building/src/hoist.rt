@@ -1,4 +1,4 @@
-//! How `var` variables and block functions reach past a scope.
+//! How `var` variables and block functions reach past a scope (ECMAScript 8.2.7, VarScopedDeclarations; Annex B.3.2).
 
 ghost use Rattle.std.specs.Prelude.{◌≡◌, ◌<◌, Some, length, option_map, IfSome, IfOk, OnOk};
 ghost use Rattle.scoping.specs.Names.{name_of};
@@ -41,7 +41,7 @@ impl<'a> Declared<'a> {
     }
 
     /// The symbol that the scope has for the name, if it counts as the variable. A symbol that is found may be a
-    /// conflict.
+    /// conflict (ECMAScript 14.2.1, VarDeclaredNames; TypeScript 2481, `checkVarDeclaredNamesNotShadowed`).
     fn asked(
         &mut self,
         scope: ScopeId,
@@ -50,6 +50,7 @@ impl<'a> Declared<'a> {
         requires { scope < length self.old.tables.scopes }
         ensures noted { OnOk result (self.new ≡ walked.against_found self.old (naming declaration.now) (found self.old scope (naming declaration.now).name)) }
         ensures symbol { IfOk result (λ o. o ≡ walked.counting self.old.tables (found self.old scope (naming declaration.now).name)) }
+        ensures symbols { length self.new.tables.symbols ≡ length self.old.tables.symbols }
         ensures goes { Goes self.old self.new }
         ensures within { IfOk result (λ o. IfSome o (λ y. y < length self.new.tables.symbols)) }
     {
@@ -72,6 +73,7 @@ impl<'a> Declared<'a> {
         requires { IsRoute (length self.old.tables.scopes) route.now }
         ensures noted { OnOk result (self.new ≡ walked.against_way self.old (naming declaration.now) route.now.passed.items) }
         ensures hit { IfOk result (λ o. option_map hit_of o ≡ walked.hit self.old route.now.passed.items (naming declaration.now).name) }
+        ensures symbols { length self.new.tables.symbols ≡ length self.old.tables.symbols }
         ensures goes { Goes self.old self.new }
         ensures within { IfOk result (λ o. IfSome o (λ h. (h.scope < length self.new.tables.scopes) × (h.symbol < length self.new.tables.symbols))) }
     {
@@ -86,7 +88,7 @@ impl<'a> Declared<'a> {
         Ok(None)
     }
 
-    /// The symbol is the scope's.
+    /// Makes the scope the one that the symbol belongs to.
     fn give(&mut self, symbol: SymbolId, scope: ScopeId)
         requires { symbol < length self.old.tables.symbols }
         ensures made { self.new ≡ walked.give self.old symbol scope }
@@ -185,14 +187,15 @@ impl<'a> Declared<'a> {
         self.move_symbol(hit.scope, target, hit.symbol, Ident::new(declaration.name))
     }
 
-    /// The symbol of a `var`: that of a passed scope that counts, which moves to the target, else it is declared
-    /// in the target.
+    /// The symbol of a `var`: that of a passed scope that counts, which moves to the target, else it is declared in
+    /// the target. So `catch (e) { var e }` moves the catch name, of which ECMAScript keeps two (Annex B.3.4).
     fn hoisted_symbol(
         &mut self,
         route: &Route,
         declaration: &Declaration<'a>,
     ) -> Result<SymbolId, AllocError>
-        requires { IsRoute (length self.old.tables.scopes) route.now }
+        requires route { IsRoute (length self.old.tables.scopes) route.now }
+        requires room { length self.old.tables.symbols < u32.MAX }
         ensures made { OnOk result (self.new ≡ hoisted self.old route.now.passed.items route.now.target (naming declaration.now)) }
         ensures symbol { IfOk result (λ y. y ≡ symbol_hoisted self.old route.now.passed.items route.now.target (naming declaration.now)) }
         ensures goes { Goes self.old self.new }
@@ -207,9 +210,11 @@ impl<'a> Declared<'a> {
         }
     }
 
-    /// Declares a `var` (ECMAScript 14.3.2): its home is the target, and each scope on the way there remembers it.
+    /// Declares a `var` (ECMAScript 14.3.2, 8.2.7, VarScopedDeclarations): its home is the target, and each scope on
+    /// the way there remembers it.
     fn hoist(&mut self, route: &Route, declaration: &Declaration<'a>) -> Result<(), AllocError>
-        requires { IsRoute (length self.old.tables.scopes) route.now }
+        requires route { IsRoute (length self.old.tables.scopes) route.now }
+        requires room { length self.old.tables.symbols < u32.MAX }
         ensures made { OnOk result (self.new ≡ walked.hoist self.old route.now.passed.items route.now.target (naming declaration.now)) }
         ensures goes { Goes self.old self.new }
     {
@@ -255,7 +260,8 @@ impl<'a> Declared<'a> {
         }
     }
 
-    /// Declares a function in a block of sloppy code (ECMAScript, Annex B.3.2): it is declared in the block, and
+    /// Declares a function in a block of sloppy code (ECMAScript, Annex B.3.2,
+    /// sec-block-level-function-declarations-web-legacy-compatibility-semantics): it is declared in the block, and
     /// moves to the target.
     fn declare_and_move(
         &mut self,
@@ -265,6 +271,7 @@ impl<'a> Declared<'a> {
     ) -> Result<(), AllocError>
         requires block { block < length self.old.tables.scopes }
         requires target { target < length self.old.tables.scopes }
+        requires room { length self.old.tables.symbols < u32.MAX }
         ensures made { OnOk result (self.new ≡ walked.declare_and_move self.old block target (naming declaration.now)) }
         ensures goes { Goes self.old self.new }
     {
@@ -282,7 +289,8 @@ impl<'a> Declared<'a> {
         row: Row,
         is_pure: bool,
     ) -> Result<(), AllocError>
-        requires { IsRoute (length self.old.tables.scopes) route.now }
+        requires route { IsRoute (length self.old.tables.scopes) route.now }
+        requires room { length self.old.tables.symbols < u32.MAX }
         ensures made { OnOk result (self.new ≡ walked.hoist self.old route.now.passed.items route.now.target (named_by node.entry.node.now row is_pure name.entry.node.now)) }
         ensures goes { Goes self.old self.new }
     {
@@ -290,7 +298,7 @@ impl<'a> Declared<'a> {
         self.hoist(route, &declaration)
     }
 
-    /// The node declares the name as a function of a block, which moves to the target.
+    /// The node declares the name as a function of a block, which moves to the target (ECMAScript, Annex B.3.2).
     pub(crate) fn move_function(
         &mut self,
         node: AstKind<'a>,
@@ -302,6 +310,7 @@ impl<'a> Declared<'a> {
     ) -> Result<(), AllocError>
         requires block { block < length self.old.tables.scopes }
         requires target { target < length self.old.tables.scopes }
+        requires room { length self.old.tables.symbols < u32.MAX }
         ensures made { OnOk result (self.new ≡ walked.declare_and_move self.old block target (named_by node.entry.node.now row is_pure name.entry.node.now)) }
         ensures goes { Goes self.old self.new }
     {

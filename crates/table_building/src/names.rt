@@ -1,6 +1,6 @@
 //! Declarations of all the names of a node.
 
-ghost use Rattle.std.specs.Prelude.{◌≡◌, ◌==◌, ◌<◌, [], false, length, map, filter, IfSome, OnOk};
+ghost use Rattle.std.specs.Prelude.{◌≡◌, ◌==◌, ◌<◌, ◌≤◌, ◌+◌, [], false, length, map, flat_map, filter, IfSome, OnOk};
 ghost use Rattle.semantic_kinds.specs.declared.kind.AstType.TheVariants.{TemplateElement as template_element};
 ghost use Rattle.semantic_kinds.specs.declared.role.Role.TheVariants.{Pattern as pattern_role, Id as id_role, Quasis as quasis_role};
 ghost use Rattle.scoping.specs.Reading.{bindings_of};
@@ -36,7 +36,8 @@ impl<'a> Declared<'a> {
         row: Row,
         is_pure: bool,
     ) -> Result<(), AllocError>
-        requires { scope < length self.old.tables.scopes }
+        requires scope { scope < length self.old.tables.scopes }
+        requires room { length self.old.tables.symbols + length (bound_names part.node.now) ≤ u32.MAX }
         ensures made { OnOk result (self.new ≡ each.declare_each self.old scope (map (named_by node.entry.node.now row is_pure) (bound_names part.entry.node.now))) }
         ensures goes { Goes self.old self.new }
     {
@@ -59,7 +60,8 @@ impl<'a> Declared<'a> {
         scope: ScopeId,
         row: Row,
     ) -> Result<(), AllocError>
-        requires { scope < length self.old.tables.scopes }
+        requires scope { scope < length self.old.tables.scopes }
+        requires room { length self.old.tables.symbols + length (names_at role node.node.now) ≤ u32.MAX }
         ensures made { OnOk result (self.new ≡ each.declare_each self.old scope (map (named_by node.entry.node.now row false) (names_at role node.entry.node.now))) }
         ensures goes { Goes self.old self.new }
     {
@@ -69,7 +71,7 @@ impl<'a> Declared<'a> {
         Ok(())
     }
 
-    /// The node declares the names that a part of it binds as `var` variables.
+    /// The node declares the names that a part of it binds as `var` variables (ECMAScript 8.2.6, VarDeclaredNames).
     #[tactic(auto, using(semantic_tree::specs::Falls::below, crate::proofs::Growing::growing, crate::proofs::EachName::naming))]
     pub fn hoist_names(
         &mut self,
@@ -79,7 +81,8 @@ impl<'a> Declared<'a> {
         row: Row,
         is_pure: bool,
     ) -> Result<(), AllocError>
-        requires { IsRoute (length self.old.tables.scopes) route.now }
+        requires route { IsRoute (length self.old.tables.scopes) route.now }
+        requires room { length self.old.tables.symbols + length (bound_names part.node.now) ≤ u32.MAX }
         ensures made { OnOk result (self.new ≡ each.hoist_each self.old route.now.passed.items route.now.target (map (named_by node.entry.node.now row is_pure) (bound_names part.entry.node.now))) }
         ensures goes { Goes self.old self.new }
     {
@@ -94,7 +97,8 @@ impl<'a> Declared<'a> {
         Ok(())
     }
 
-    /// The node declares the name as a function of a block. It moves to the target, if there is one, else it stays.
+    /// The node declares the name as a function of a block. It moves to the target, if there is one, else it stays
+    /// (ECMAScript, Annex B.3.2).
     pub fn declare_block_function(
         &mut self,
         node: AstKind<'a>,
@@ -106,6 +110,7 @@ impl<'a> Declared<'a> {
     ) -> Result<(), AllocError>
         requires block { block < length self.old.tables.scopes }
         requires target { IfSome target (λ s. s < length self.old.tables.scopes) }
+        requires room { length self.old.tables.symbols < u32.MAX }
         ensures made { OnOk result (self.new ≡ each.settle_in_block self.old block target (named_by node.entry.node.now row is_pure name.entry.node.now)) }
         ensures goes { Goes self.old self.new }
     {
@@ -115,14 +120,15 @@ impl<'a> Declared<'a> {
         }
     }
 
-    /// The catch clause declares a plain name, which is always new.
+    /// The catch clause declares a plain name, which is always new (ECMAScript 14.15.2, CatchClauseEvaluation).
     fn declare_caught_name(
         &mut self,
         parameter: AstKind<'a>,
         name: AstKind<'a>,
         scope: ScopeId,
     ) -> Result<(), AllocError>
-        requires { scope < length self.old.tables.scopes }
+        requires scope { scope < length self.old.tables.scopes }
+        requires room { length self.old.tables.symbols < u32.MAX }
         ensures made { OnOk result (self.new ≡ declare_anew self.old scope (caught_naming parameter.entry.node.now name.entry.node.now)) }
         ensures goes { Goes self.old self.new }
     {
@@ -130,14 +136,16 @@ impl<'a> Declared<'a> {
         self.declare_anew(scope, &declaration)
     }
 
-    /// A catch clause declares a plain name, which is always new, or the names of a pattern, which are lexical.
+    /// A catch clause declares a plain name, which is always new, or the names of a pattern, which are lexical
+    /// (ECMAScript 14.15.1).
     fn declare_caught_pattern(
         &mut self,
         parameter: AstKind<'a>,
         pattern: AstKind<'a>,
         scope: ScopeId,
     ) -> Result<(), AllocError>
-        requires { scope < length self.old.tables.scopes }
+        requires scope { scope < length self.old.tables.scopes }
+        requires room { length self.old.tables.symbols + length (bound_names pattern.node.now) ≤ u32.MAX }
         ensures made { OnOk result (self.new ≡ each.declare_pattern self.old scope parameter.entry.node.now pattern.entry.node.now) }
         ensures goes { Goes self.old self.new }
     {
@@ -148,13 +156,14 @@ impl<'a> Declared<'a> {
         }
     }
 
-    /// A catch clause declares the names that it catches.
+    /// A catch clause declares the BoundNames of its parameter (ECMAScript 14.15.2).
     pub fn declare_catch_names(
         &mut self,
         parameter: AstKind<'a>,
         scope: ScopeId,
     ) -> Result<(), AllocError>
-        requires { scope < length self.old.tables.scopes }
+        requires scope { scope < length self.old.tables.scopes }
+        requires room { length self.old.tables.symbols + length (flat_map bound_names (all_in pattern_role parameter.node.now)) ≤ u32.MAX }
         ensures made { OnOk result (self.new ≡ each.declare_patterns self.old scope parameter.entry.node.now (all_in pattern_role parameter.entry.node.now)) }
         ensures goes { Goes self.old self.new }
     {
@@ -164,7 +173,8 @@ impl<'a> Declared<'a> {
         Ok(())
     }
 
-    /// What the clause's scope binds is bound by its body's, which binds nothing yet.
+    /// What the clause's scope binds is bound by its body's, which binds nothing yet: so a lexical declaration of the
+    /// body conflicts with it (ECMAScript 14.15.1; TypeScript 2492).
     pub fn take_over(&mut self, clause: ScopeId, body: ScopeId) -> Result<(), AllocError>
         requires clause { clause < length self.old.tables.scopes }
         requires body { body < length self.old.tables.scopes }
@@ -185,7 +195,8 @@ impl<'a> Declared<'a> {
         named: AstKind<'a>,
         scope: ScopeId,
     ) -> Result<(), AllocError>
-        requires { scope < length self.old.tables.scopes }
+        requires scope { scope < length self.old.tables.scopes }
+        requires room { length self.old.tables.symbols < u32.MAX }
         ensures made { OnOk result (self.new ≡ declare self.old scope (member_naming member.entry.node.now id.entry.node.now named.entry.node.now)) }
         ensures goes { Goes self.old self.new }
     {
@@ -200,7 +211,8 @@ impl<'a> Declared<'a> {
         id: AstKind<'a>,
         scope: ScopeId,
     ) -> Result<(), AllocError>
-        requires { scope < length self.old.tables.scopes }
+        requires scope { scope < length self.old.tables.scopes }
+        requires room { length self.old.tables.symbols + length (filter (is template_element) (all_in quasis_role id.node.now)) ≤ u32.MAX }
         ensures made { OnOk result (self.new ≡ each.declare_each self.old scope (map (member_naming member.entry.node.now id.entry.node.now) (filter (is template_element) (all_in quasis_role id.entry.node.now)))) }
         ensures goes { Goes self.old self.new }
     {
@@ -219,7 +231,8 @@ impl<'a> Declared<'a> {
         id: AstKind<'a>,
         scope: ScopeId,
     ) -> Result<(), AllocError>
-        requires { scope < length self.old.tables.scopes }
+        requires scope { scope < length self.old.tables.scopes }
+        requires room { length self.old.tables.symbols + length (member_names id.node.now) ≤ u32.MAX }
         ensures made { OnOk result (self.new ≡ each.declare_each self.old scope (map (member_naming member.entry.node.now id.entry.node.now) (member_names id.entry.node.now))) }
         ensures goes { Goes self.old self.new }
     {
@@ -234,7 +247,8 @@ impl<'a> Declared<'a> {
 
     /// A member of an enum declares its name, which is its id's text.
     pub fn declare_member(&mut self, member: AstKind<'a>, scope: ScopeId) -> Result<(), AllocError>
-        requires { scope < length self.old.tables.scopes }
+        requires scope { scope < length self.old.tables.scopes }
+        requires room { length self.old.tables.symbols + length (flat_map member_names (all_in id_role member.node.now)) ≤ u32.MAX }
         ensures made { OnOk result (self.new ≡ each.declare_members self.old scope member.entry.node.now (all_in id_role member.entry.node.now)) }
         ensures goes { Goes self.old self.new }
     {

@@ -1,4 +1,5 @@
-//! Names that a scope doesn't bind, but knows of.
+//! Names that a scope doesn't bind, but knows of, since a `var` passed it or a function moved out of it: a lexical
+//! declaration conflicts with them (ECMAScript 14.2.1, VarDeclaredNames).
 
 ghost use Rattle.std.specs.Prelude.{◌≡◌, [], OnOk, OnErr};
 ghost use Rattle.scoping.specs.Names.{name_of};
@@ -31,7 +32,7 @@ impl Model for Remembered {
 }
 
 impl Remembered {
-    /// No names.
+    /// No scope remembers a name yet.
     pub fn new(alloc: Global) -> Remembered
         ensures { result ≡ [] }
     {

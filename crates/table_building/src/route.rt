@@ -1,4 +1,5 @@
-//! A way outward through scopes.
+//! A way outward through scopes: of a `var` to its function (ECMAScript 8.2.7, VarScopedDeclarations), and of what
+//! `infer` declares to its conditional type (TypeScript's `getInferTypeContainer`).
 
 ghost use Rattle.std.specs.Prelude.{◌≡◌, ◌<◌, length, IfOk, IfSome};
 ghost use Rattle.scoping.specs.Reading.{scope_of};
@@ -27,7 +28,7 @@ impl Model for PassedScope {
 }
 
 impl PassedScope {
-    /// The scope.
+    /// The scope that is passed.
     pub fn id(self) -> ScopeId
         ensures { result ≡ self }
     {
@@ -51,7 +52,7 @@ pub struct Route {
     pub target: ScopeId,
 }
 
-/// The scope around the scope.
+/// The scope around the scope, which the root's has not.
 fn parent(scoping: &Scoping, scope: ScopeId) -> Option<ScopeId>
     requires { scope < length scoping.now.scopes }
     ensures value { result ≡ (scope_of scoping.now scope).parent }

@@ -9,7 +9,7 @@ ghost use Rattle.semantic_syntax.specs.declared.scope_flags.TheConstants.ScopeFl
 ghost use Rattle.walk_model.specs.Opens as walked;
 ghost use Rattle.table_building.specs.Growth.{Goes};
 
-use crate::declared::{Declared, check_room};
+use crate::declared::Declared;
 use resolver::UnresolvedReference;
 use semantic_syntax::{Reference, ReferenceFlags, ReferenceId, ScopeFlags, ScopeId};
 use semantic_tree::AstKind;
@@ -23,37 +23,37 @@ impl<'a> Declared<'a> {
         root: AstKind<'_>,
         flags: ScopeFlags,
     ) -> Result<ScopeId, AllocError>
+        requires { length self.old.tables.scopes < u32.MAX }
         ensures made { OnOk result (self.new ≡ walked.open_in self.old None root.entry.node.now.node_id (length self.old.tables.scopes) flags.bits) }
         ensures number { IfOk result (λ s. s ≡ length self.old.tables.scopes) }
         ensures goes { Goes self.old self.new }
         ensures within { IfOk result (λ s. s < length self.new.tables.scopes) }
     {
-        check_room(self.scoping.scopes_len())?;
         let scope = self.scoping.add_scope(None, root.node_id(), flags)?;
         self.tables.set_scope(root.node_id(), scope)?;
         Ok(scope)
     }
 
-    /// Opens a scope in another one.
+    /// Opens a scope with these flags in another one.
     fn open_in(
         &mut self,
         kind: AstKind<'_>,
         outer: ScopeId,
         flags: ScopeFlags,
     ) -> Result<ScopeId, AllocError>
-        requires { outer < length self.old.tables.scopes }
+        requires outer { outer < length self.old.tables.scopes }
+        requires room { length self.old.tables.scopes < u32.MAX }
         ensures made { OnOk result (self.new ≡ walked.open_in self.old (Some outer) kind.entry.node.now.node_id (length self.old.tables.scopes) flags.bits) }
         ensures number { IfOk result (λ s. s ≡ length self.old.tables.scopes) }
         ensures goes { Goes self.old self.new }
         ensures within { IfOk result (λ s. s < length self.new.tables.scopes) }
     {
-        check_room(self.scoping.scopes_len())?;
         let scope = self.scoping.add_scope(Some(outer), kind.node_id(), flags)?;
         self.tables.set_scope(kind.node_id(), scope)?;
         Ok(scope)
     }
 
-    /// The flags, strict where the outer scope is.
+    /// The flags, strict where the outer scope is (ECMAScript 11.2.2, Strict Mode Code).
     fn flags_within(&self, outer: ScopeId, flags: ScopeFlags) -> ScopeFlags
         requires { outer < length self.now.tables.scopes }
         ensures { result.bits ≡ union flags.bits (strict_if (meets (scope_of self.now.tables outer).flags.bits scope_flag.StrictMode.bits)) }
@@ -66,14 +66,15 @@ impl<'a> Declared<'a> {
         flags.union(strict)
     }
 
-    /// Opens a scope in another one. It is strict where that one is.
+    /// Opens a scope in another one. It is strict where that one is (ECMAScript 11.2.2, Strict Mode Code).
     pub fn open(
         &mut self,
         kind: AstKind<'_>,
         outer: ScopeId,
         flags: ScopeFlags,
     ) -> Result<ScopeId, AllocError>
-        requires { outer < length self.old.tables.scopes }
+        requires outer { outer < length self.old.tables.scopes }
+        requires room { length self.old.tables.scopes < u32.MAX }
         ensures made { OnOk result (self.new ≡ walked.open_in self.old (Some outer) kind.entry.node.now.node_id (length self.old.tables.scopes) (union flags.bits (strict_if (meets (scope_of self.old.tables outer).flags.bits scope_flag.StrictMode.bits)))) }
         ensures number { IfOk result (λ s. s ≡ length self.old.tables.scopes) }
         ensures goes { Goes self.old self.new }
@@ -90,11 +91,11 @@ impl<'a> Declared<'a> {
         scope: ScopeId,
         way: ReferenceFlags,
     ) -> Result<ReferenceId, AllocError>
+        requires { length self.old.tables.references < u32.MAX }
         ensures made { OnOk result (self.new ≡ walked.with_reference_at self.old kind.entry.node.now.node_id scope way.bits) }
         ensures number { IfOk result (λ r. r ≡ length self.old.tables.references) }
         ensures goes { Goes self.old self.new }
     {
-        check_room(self.scoping.references_len())?;
         let reference = Reference::new(kind.node_id(), scope, way);
         let id = self.scoping.create_reference(reference)?;
         self.tables.set_reference(kind.node_id(), id)?;
@@ -108,7 +109,8 @@ impl<'a> Declared<'a> {
         scope: ScopeId,
         way: ReferenceFlags,
     ) -> Result<(), AllocError>
-        requires { scope < length self.old.tables.scopes }
+        requires scope { scope < length self.old.tables.scopes }
+        requires room { length self.old.tables.references < u32.MAX }
         ensures made { OnOk result (self.new ≡ walked.refer_to self.old kind.entry.node.now.node_id kind.entry.node.now.text scope way.bits) }
         ensures goes { Goes self.old self.new }
     {
@@ -120,7 +122,7 @@ impl<'a> Declared<'a> {
         })
     }
 
-    /// Notes a call of `eval` in the scope.
+    /// Notes a direct call of `eval` in the scope (ECMAScript 19.2.1.1, PerformEval).
     pub fn add_direct_eval(&mut self, scope: ScopeId)
         requires { scope < length self.old.tables.scopes }
         ensures made { self.new ≡ walked.add_eval self.old scope }
@@ -142,7 +144,8 @@ impl<'a> Declared<'a> {
         }
     }
 
-    /// Closes the scope: a call of `eval` inside is one in the scope around it, too.
+    /// Closes the scope: a call of `eval` inside is one in the scope around it, too, whose names it sees as well
+    /// (ECMAScript 19.2.1.1, PerformEval).
     pub fn close(&mut self, scope: ScopeId)
         requires { scope < length self.old.tables.scopes }
         ensures made { self.new ≡ walked.close_scope self.old scope }

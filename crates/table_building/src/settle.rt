@@ -16,7 +16,8 @@ use std::alloc::AllocError;
 
 #[tactic(auto, using(crate::proofs::Growing::growing))]
 impl<'a> Declared<'a> {
-    /// Ties a reference to a symbol: it has the settled flags, and stands last in the symbol's uses.
+    /// Ties a reference to a symbol (ECMAScript 9.4.2, ResolveBinding): it has the settled flags, and stands last in
+    /// the symbol's uses.
     fn tie(&mut self, reference: ReferenceId, symbol: SymbolId) -> Result<(), AllocError>
         requires reference { reference < length self.old.tables.references }
         requires symbol { symbol < length self.old.tables.symbols }
@@ -144,7 +145,9 @@ impl<'a> Declared<'a> {
         resolve_all(self.alloc, &self.pending, &self.scoping, steps)
     }
 
-    /// At the end of a header the references that wait since its start are looked up as far as its scope.
+    /// At the end of a header the references that wait since its start are looked up as far as its scope: they don't
+    /// see what the body declares (ECMAScript 10.2.11, FunctionDeclarationInstantiation; 14.15.2,
+    /// CatchClauseEvaluation).
     ///
     /// A step is taken for each scope that is asked. After want of memory at most as many steps have been taken.
     #[tactic(auto, using(crate::proofs::Growing::growing, crate::proofs::Outside::outside))]

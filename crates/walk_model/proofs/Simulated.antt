@@ -57,7 +57,7 @@ declare_by_as moved n chain w st d g k h =
     let q : (stands_in d < n) × (stands_in d ≡ d.target.number → ⊥) = stands_apart n d d.passed g.rest refl g.leaves down in
     declare_and_move_as n w st d q.0 (target_below n d.passed d.target g.rest down) q.1 h
 
-declares_as : (n : ℕ) (chain : List OpenScope) (w : Standing) (st : State) (ds new : List Declaration) → AllGoOut chain new → Descends n (grounded chain) → Represents n w st
+pub declares_as : (n : ℕ) (chain : List OpenScope) (w : Standing) (st : State) (ds new : List Declaration) → AllGoOut chain new → Descends n (grounded chain) → Represents n w st
     → Represents n (walk.act_all w (declares_all ds new)) (run st (declares_all ds new))
 declares_as n chain w st ds [] g k h = h
 declares_as n chain w st ds (d ∷ new) g k h =
@@ -72,7 +72,7 @@ solid n (s ∷ ss) v h = h
 pub root_declares_none : (p : Place) → p.node.kind ≡ kind.Program → declared_on_entering p ≡ []
 root_declares_none p e = ap (λ k. declared_by k p) e
 
-entering_as : (n : ℕ) (ds : List Declaration) (w : Standing) (st : State) (p : Place) → IsGrounded p → Descends n p.chain → Represents n w st
+pub entering_as : (n : ℕ) (ds : List Declaration) (w : Standing) (st : State) (p : Place) → IsGrounded p → Descends n p.chain → Represents n w st
     → Represents n (walk.act_all w (declares_all ds (declared_on_entering p))) (run st (declares_all ds (declared_on_entering p)))
 entering_as n ds w st p (inl v) k h = declares_as n p.chain w st ds (declared_on_entering p) (entering_goes p.node.kind p v) (solid n p.chain v k) h
 entering_as n ds w st p (inr e) k h = rw (root_declares_none p e) h

@@ -1,4 +1,4 @@
-use Rattle.std.proofs.Common.{map, flat_map, false, sym, ap, ◌∙◌}
+use Rattle.std.proofs.Common.{length, map, flat_map, false, sym, ap, ◌∙◌, arith}
 use Rattle.walk_model.specs.Standing.{Standing}
 use Rattle.semantic_tree.specs.ChildIter.{left_of}
 use Rattle.table_building.specs.Named.{named_by}
@@ -6,6 +6,7 @@ use Rattle.semantic_model.specs.Names.{bound_names}
 use Rattle.table_building.specs.Each.{declare_each}
 use Rattle.table_building.proofs.Growing.{goes-trans}
 use Rattle.table_building.proofs.EachName.{parts_turn}
+use Rattle.table_building.proofs.Rooms.{named_adds, parts_room}
 use Rattle.table_building.proofs.declared.Declared.declare_under.Goals as goal
 
 pub loop-part-preserved : goal.loop-part-preserved
@@ -17,5 +18,7 @@ loop-part-preserved c =
           ap (λ (w : Standing). declare_each w c.args.scope (map f (flat_map bound_names left))) c.in_ok-declare_names.ensures.made
           ∙ sym (parts_turn f c.loop-part.self c.args.scope _ _ left c.in-Some.ensures.steps)
           ∙ c.loop-part.invariant.rest;
+      room = parts_room bound_names _ _ left c.in-Some.ensures.steps (length c.loop-part.self.tables.symbols) (length c.declare_names.new.self.tables.symbols) 4294967295 c.loop-part.invariant.room
+          (omega (arith, ap (λ (w : Standing). length w.tables.symbols) c.in_ok-declare_names.ensures.made, named_adds f (bound_names c.in-Some.part.node.now) c.loop-part.self c.args.scope));
       goes = goes-trans _ _ _ c.loop-part.invariant.goes c.in_ok-declare_names.ensures.goes;
     }

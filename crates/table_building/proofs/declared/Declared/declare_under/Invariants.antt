@@ -1,4 +1,4 @@
-use Rattle.std.proofs.Common.{◌≡◌, map, flat_map}
+use Rattle.std.proofs.Common.{◌≡◌, ◌+◌, ◌-◌, ◌^◌, ◌≤◌, length, map, flat_map}
 use Rattle.semantic_tree.specs.ChildIter.{left_of}
 use Rattle.table_building.specs.Growth.{Goes}
 use Rattle.table_building.specs.Named.{named_by}
@@ -12,5 +12,6 @@ abbrev pub invariant-loop-part : goal.invariant-loop-part
 invariant-loop-part l = record {
   rest : declare_each l.self l.scope (map (named_by l.node.node.now l.row false) (flat_map bound_names (left_of l.part-iterator)))
       ≡ declare_each l.initial.self l.scope (map (named_by l.node.node.now l.row false) (names_at l.fn.role l.node.node.now));
+  room : length l.self.tables.symbols + length (flat_map bound_names (left_of l.part-iterator)) ≤ 2 ^ 32 - 1;
   goes : Goes l.initial.self l.self;
 }

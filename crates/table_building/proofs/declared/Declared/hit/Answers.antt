@@ -21,5 +21,6 @@ loop-scope-preserved c =
       items = c.loop-scope.invariant.items;
       noted = ap (λ v. against_way v d (drop (i + 1) items)) noted ∙ sym (way_on w d items i here within is none) ∙ c.loop-scope.invariant.noted;
       asked = ap (λ v. hit v (drop (i + 1) items) d.name) noted ∙ sym (hit_on w d items i here within is none) ∙ c.loop-scope.invariant.asked;
+      symbols = c.in_ok-symbol.ensures.symbols ∙ c.loop-scope.invariant.symbols;
       goes = goes-trans _ _ _ c.loop-scope.invariant.goes c.in_ok-symbol.ensures.goes;
     }

@@ -1,4 +1,4 @@
-use Rattle.std.proofs.Common.{◌≡◌, drop}
+use Rattle.std.proofs.Common.{◌≡◌, length, drop}
 use Rattle.walk_model.specs.Hoists.{against_way, hit}
 use Rattle.table_building.specs.Growth.{Goes}
 use Rattle.table_building.specs.Named.{naming}
@@ -10,5 +10,6 @@ invariant-loop-scope l = record {
   items : l.scope-items ≡ l.route.passed.items;
   noted : against_way l.self (naming l.declaration) (drop l.scope-index l.scope-items) ≡ against_way l.initial.self (naming l.declaration) l.route.passed.items;
   asked : hit l.self (drop l.scope-index l.scope-items) (naming l.declaration).name ≡ hit l.initial.self l.route.passed.items (naming l.declaration).name;
+  symbols : length l.self.tables.symbols ≡ length l.initial.self.tables.symbols;
   goes : Goes l.initial.self l.self;
 }
