@@ -1,7 +1,8 @@
--- The names that are written, as they are collected before the walk.
-use Rattle.std.specs.Prelude.{◌≡◌, ℕ, List, [], ◌||◌, slice_index_or}
+-- The names that are written, as a pass over the program collects them.
+use Rattle.std.specs.Prelude.{◌≡◌, ℕ, List, [], ◌||◌, slice_index_or, cond}
 use Rattle.semantic_syntax.specs.Tables.{Name}
-use Rattle.walk_model.specs.WrittenNames.{Written, is_written}
+use Rattle.semantic_tree.specs.Tree.{Tree}
+use Rattle.walk_model.specs.WrittenNames.{Written, is_written, is_sloppy, names_written}
 use Rattle.walk_model.specs.WrittenNames as written
 use Rattle.namesakes.specs.declared.namesakes.Openers.{Openers}
 
@@ -16,3 +17,11 @@ openers_of o = record { innermost = o.innermost; around = o.around }
 -- a name under its number
 abbrev pub written_of : List Name → ℕ × ℕ → Written
 written_of names key = record { opener = key.0; name = slice_index_or names key.1 [] }
+
+-- the names past which block functions of the program don't move: none where functions don't move at all
+abbrev pub barring : Tree → List Written
+barring program = cond (is_sloppy program.source_type) (names_written program) []
+
+-- these are the names, in whatever order
+abbrev pub HoldsNames : List Written → List Written → Type 0
+HoldsNames names held = (opener : ℕ) (name : Name) → is_written held opener name ≡ is_written names opener name

@@ -1,4 +1,5 @@
-//! The declarations past which a block function doesn't move, collected before the walk.
+//! The declarations past which a block function doesn't move, as a pass over the program collects them: a `var` in its
+//! place would be an early error (ECMAScript, Annex B.3.2).
 
 ghost use Rattle.std.specs.Prelude.{◌≡◌, ℕ, ◌∷◌, [], ◌&&◌, not, option_map, OnOk, IfOk};
 ghost use Rattle.std.specs.Str.{chars};
@@ -51,14 +52,15 @@ struct Openers {
     around: NodeId,
 }
 
-/// Whether functions in blocks move.
+/// Whether functions in blocks move: Annex B.3.2 of ECMAScript is of sloppy code.
 fn is_sloppy(source_type: SourceType) -> bool
     ensures { result ≡ is_sloppy source_type }
 {
     !source_type.is_typescript() && !source_type.is_strict()
 }
 
-/// Whether the name of a function or class is known in its own scope alone, as that of an expression is.
+/// Whether the name of a function or class is known in its own scope alone, as that of an expression is (ECMAScript
+/// 15.2.5, 15.7.14).
 fn is_known_inside(kind: AstKind<'_>) -> bool
     ensures { result ≡ is_known_inside kind.entry.node.now }
 {
@@ -66,7 +68,8 @@ fn is_known_inside(kind: AstKind<'_>) -> bool
         && !(reads(kind, "declaration") || reads(kind, "ts-declare"))
 }
 
-/// Whether the variables of a declaration are lexical: all but those of `var`.
+/// Whether the variables of a declaration are lexical: all but those of `var` (ECMAScript 14.3.1, Let and Const
+/// Declarations).
 fn is_lexical(declaration: Option<AstKind<'_>>) -> bool
     ensures { result ≡ is_lexical (option_map shown declaration.entry) }
 {
@@ -78,7 +81,8 @@ fn is_lexical(declaration: Option<AstKind<'_>>) -> bool
     }
 }
 
-/// Whether the names that a catch clause declares are those of a pattern.
+/// Whether the names that a catch clause declares are those of a pattern: past a plain one a `var` may go
+/// (ECMAScript, Annex B.3.4).
 fn has_pattern(parameter: AstKind<'_>) -> bool
     ensures { result ≡ holds (λ p. not (is binding_identifier p)) (child_of pattern_role parameter.entry.node.now) }
 {
@@ -150,7 +154,7 @@ impl Namesakes {
         Ok(namesakes)
     }
 
-    /// None yet.
+    /// No declaration is collected yet.
     fn new(alloc: Global) -> Namesakes
         ensures { result ≡ [] }
     {

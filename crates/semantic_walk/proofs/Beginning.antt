@@ -1,5 +1,5 @@
 -- The walk over a program begins at the root, and ends with the tables of the definitions.
-use Rattle.std.proofs.Common.{◌≡◌, ℕ, ◌≤◌, List, [], ◌∷◌, ◌++◌, Some, None, Bool, true, false, IfSome, option_map, length, refl, sym, ap, subst, ◌∙◌, inl, inr, Result, Ok, Err, IfOk}
+use Rattle.std.proofs.Common.{◌≡◌, ℕ, ◌≤◌, List, [], ◌∷◌, ◌++◌, Some, None, Bool, true, false, IfSome, option_map, length, refl, sym, ap, subst, ◌∙◌, inl, inr, Result, Ok, Err, IfOk, arith}
 use Rattle.std.specs.Prelude.{◌||◌}
 use Rattle.std.specs.Str.{encode_utf8_all}
 use Rattle.std.proofs.Math.Bool.{or-true}
@@ -20,18 +20,18 @@ use Rattle.semantic_tree.specs.Tree.{Tree, IsNumbered}
 use Rattle.semantic_tree.proofs.Preorder.{root_in_preorder}
 use Rattle.semantic_tree.proofs.ShapedLaws.{IsShaped-no_fault}
 use Rattle.semantic_model.specs.Namespace.{InstanceState}
-use Rattle.semantic_model.specs.Place.{Place, at}
+use Rattle.semantic_model.specs.Place.{Place, OpenScope, at}
 use Rattle.semantic_model.specs.Cursor.{on_entering}
 use Rattle.semantic_model.specs.Declaration.{Declaration}
 use Rattle.semantic_model.specs.Event.{written_declarations}
-use Rattle.semantic_model.specs.Step.{Step, entering, opening, leaving, steps_below, root_place, steps}
+use Rattle.semantic_model.specs.Step.{Step, entering, opening, closing, leaving, steps_below, root_place, steps}
 use Rattle.semantic_model.specs.TablesOf.{tables_of}
 use Rattle.walk_model.specs.Agreement.{NotesOnce}
 use Rattle.walk_model.specs.NamedScopes.{AllNamed}
 use Rattle.walk_model.specs.Opens.{open_in, open_scope}
 use Rattle.walk_model.specs.Recursion.{IsBetween}
 use Rattle.walk_model.specs.Settles.{settle_rest}
-use Rattle.walk_model.specs.Standing.{Standing, nothing_made}
+use Rattle.walk_model.specs.Standing.{Standing, no_tables, nothing_made}
 use Rattle.walk_model.specs.Walks.{after, after_all, walked}
 use Rattle.walk_model.specs.WrittenNames.{Written}
 use Rattle.walk_model.proofs.GivesTables.{gives_tables}
@@ -40,6 +40,9 @@ use Rattle.walk_model.proofs.NotedOnce.{notes_once}
 use Rattle.walk_model.proofs.RootSteps.{root_enters, root_scope, root_made, root_walked}
 use Rattle.walk_model.proofs.Seats.{root_is_program}
 use Rattle.walk_model.proofs.WalkTurns.{root_between}
+use Rattle.count_laws.specs.Room.{HasRoom}
+use Rattle.count_laws.proofs.ProgramRoom.{program_room}
+use Rattle.count_laws.proofs.Rooms.{room_first}
 use Rattle.semantic_walk.specs.AtPlace.{IsComing, entered, walked_within, left_at, walked_over}
 use Rattle.semantic_walk.specs.Begun.{begun, notes_classes, IsBegun, BelongsToNodes}
 use Rattle.node_store.specs.NodeList.{no_nodes}
@@ -80,6 +83,20 @@ root_stated states p cursor (tree r k span text marks below id after) e h = λ q
 
     parted : AllStated states (opening p (root_scope p) ∷ steps_below p (Some (root_scope p)) 1 cursor (tree r k span text marks below id after))
     parted = subst (AllStated states) opens_first h
+
+-- nor is a second id taken for the root's scope
+opened_room : (p : Place) (s : OpenScope) (more : List Step) → HasRoom no_tables (entering p ∷ opening p s ∷ more) → HasRoom (open_scope nothing_made p s).tables (entering p ∷ more)
+opened_room p s more h = record { scopes = omega (arith, h.scopes); symbols = omega (arith, h.symbols); references = omega (arith, h.references) }
+
+root_room : (p : Place) (cursor : ℕ) (f : Forest) → p.node.kind ≡ kind.Program → HasRoom no_tables (entering p ∷ steps_below p None 0 cursor f)
+    → HasRoom (open_scope nothing_made p (root_scope p)).tables (entering p ∷ steps_below p (Some (root_scope p)) 1 cursor f)
+root_room p cursor nothing e h =
+    let opens_last : steps_below p None 0 cursor nothing ≡ opening p (root_scope p) ∷ closing p (root_scope p) ∷ [] = rw e refl in
+    room_first (open_scope nothing_made p (root_scope p)).tables (entering p ∷ []) (closing p (root_scope p) ∷ [])
+    (opened_room p (root_scope p) (closing p (root_scope p) ∷ []) (subst (λ (ss : List Step). HasRoom no_tables (entering p ∷ ss)) opens_last h))
+root_room p cursor (tree r k span text marks below id after) e h =
+    let opens_first : steps_below p None 0 cursor (tree r k span text marks below id after) ≡ opening p (root_scope p) ∷ steps_below p (Some (root_scope p)) 1 cursor (tree r k span text marks below id after) = rw e refl in
+    opened_room p (root_scope p) (steps_below p (Some (root_scope p)) 1 cursor (tree r k span text marks below id after)) (subst (λ (ss : List Step). HasRoom no_tables (entering p ∷ ss)) opens_first h)
 
 -- with the root's scope nothing is declared
 made_is : (ds : List Declaration) (p : Place) → p.node.kind ≡ kind.Program → root_made ds p ≡ open_scope nothing_made p (root_scope p)
@@ -125,6 +142,8 @@ root_comes_at ds program states ws keeps on checks fits numbered noted limit h n
           (named_left ds ws (steps_below (root_place program) None 0 (on_entering program.root.kind 0) program.root.children) (leaving (root_place program) ∷ []) named.1);
       stated = root_stated states (root_place program) (on_entering program.root.kind 0) program.root.children e
           (stated_left states (steps_below (root_place program) None 0 (on_entering program.root.kind 0) program.root.children) (leaving (root_place program) ∷ []) (λ q among. stated q (inr among)));
+      room = root_room (root_place program) (on_entering program.root.kind 0) program.root.children e
+          (room_first no_tables (entering (root_place program) ∷ steps_below (root_place program) None 0 (on_entering program.root.kind 0) program.root.children) (leaving (root_place program) ∷ []) (program_room program fits numbered));
       kept = root_next program numbered keeps;
       ready = λ told. root_ready program fits numbered on (noted told);
       limit = limit;

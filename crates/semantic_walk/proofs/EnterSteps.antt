@@ -1,9 +1,14 @@
 -- The walk enters a node.
-use Rattle.std.proofs.Common.{◌≡◌, List, [], ◌∷◌, ◌++◌, Bool, true, false, cond, option_map, refl, sym, ap, subst, ◌∙◌}
+use Rattle.std.proofs.Common.{◌≡◌, List, [], ◌∷◌, ◌++◌, Bool, true, false, ◌&&◌, not, cond, option_map, refl, sym, ap, subst, ◌∙◌}
 use Rattle.std.proofs.lemmas.List.{reverse-append}
+use Rattle.std.specs.Prelude.{codes}
+use Rattle.semantic_kinds.specs.Kinds.{same_kind}
 use Rattle.semantic_kinds.specs.declared.kind.AstType.TheVariants as kind
 use Rattle.semantic_tree.specs.declared.node.Node.{Node}
-use Rattle.semantic_model.specs.Nodes.{is}
+use Rattle.semantic_kinds.specs.declared.mark.Mark.TheVariants as mark
+use Rattle.semantic_kinds.specs.declared.role.Role.TheVariants as role
+use Rattle.semantic_model.specs.Inner.{inner_expression}
+use Rattle.semantic_model.specs.Nodes.{is, has, holds, child_of, reads}
 use Rattle.semantic_model.specs.Place.{Place, at}
 use Rattle.semantic_model.specs.Cursor.{on_entering, way_of}
 use Rattle.semantic_model.specs.Declaration.{Declaration}
@@ -22,11 +27,19 @@ use Rattle.semantic_walk.specs.Binds.{acting}
 use Rattle.semantic_walk.specs.Paths.{parent_in}
 use Rattle.semantic_walk.proofs.Opening.{alone, parent_above}
 use Rattle.walk_notes.specs.NoteLists.{NoteLists, noting}
+use Rattle.walk_notes.proofs.Unnoted.{enters_nothing}
+use Rattle.semantic_walk.specs.EvenKinds.{acts_on_entering}
+use Rattle.semantic_walk.proofs.EvenNodes.{no_reference, no_call, no_names, no_note}
 
 -- no more than the parent is asked for
 noting_alone : (path : List Node) (here : Node) (x : NoteLists) → noting (alone path) here x ≡ noting path here x
 noting_alone [] here x = refl
 noting_alone (parent ∷ path) here x = refl
+
+-- what is no call calls nothing by its name
+no_eval : (node : Node) → same_kind node.kind kind.CallExpression ≡ false → is_direct_eval node ≡ false
+no_eval node h =
+    ap (λ b. b && not (has mark.Optional node) && holds (λ callee. is kind.IdentifierReference (inner_expression callee) && reads (codes "eval") (inner_expression callee)) (child_of role.Callee node)) h
 
 module _ (ds : List Declaration) (w : Walker) (p : Place) (comes : ComesTo w p) (shown : IsShown ds w p) where
   -- the walk has stepped to the node
@@ -102,3 +115,14 @@ module _ (ds : List Declaration) (w : Walker) (p : Place) (comes : ComesTo w p) 
       ∙ ap (λ (v : Walker). record v { notes = noting (parent_in v.path) node v.notes }) h
       ∙ ap (λ (m : Node). record stands_in { notes = noting (parent_in (w.path ++ p.node ∷ [])) m w.notes }) (sym e)
       ∙ ap (λ (x : NoteLists). record stands_in { notes = x }) (parent_is w.notes)
+
+  -- where nothing acts on entering, nothing comes after the step to the node
+  pub enters_quietly : (node : Node) (last : Walker) → p.node ≡ node → acts_on_entering node.kind ≡ false → last ≡ stepped node → last ≡ record stands_in { notes = noting p.path p.node w.notes }
+  enters_quietly node last e quiet h =
+      let here : acts_on_entering p.node.kind ≡ false = ap (λ (x : Node). acts_on_entering x.kind) e ∙ quiet in
+      let stands : last ≡ stands_in =
+      enters node last last last e
+      (h ∙ sym (ap (λ b. cond b (referring (stepped node) node) (stepped node)) (no_reference node.kind quiet)))
+      (sym (ap (λ b. cond b (record last { made = add_eval last.made last.current }) last) (no_eval node (no_call node.kind quiet))))
+      (λ within there. sym (ap (λ (new : List Declaration). acting ds last new) (no_names p.node.kind here p))) in
+      notes_last node last last e stands (λ i. record last { notes = sym (enters_nothing (parent_in last.path) node last.notes (no_note node.kind quiet)) i })

@@ -1,25 +1,30 @@
 -- What is known where a walk is about to leave a node.
-use Rattle.std.proofs.Common.{◌≡◌, ℕ, ◌<◌, List, [], ◌∷◌, inl, inr, Option, true, length, drop, reverse, refl, sym, ap, subst, ◌∙◌, length-append, arith}
+use Rattle.std.proofs.Common.{◌≡◌, ℕ, ◌-◌, ◌<◌, List, [], ◌∷◌, inl, inr, Option, option_map, true, false, length, drop, take, reverse, refl, sym, ap, subst, ◌∙◌, length-append, arith}
 use Rattle.std.proofs.lemmas.List.{reverse-append, reverse-reverse}
 use Rattle.semantic_kinds.specs.declared.kind.AstType.TheVariants as kind
 use Rattle.semantic_tree.specs.Forest.{nothing}
 use Rattle.semantic_tree.specs.declared.node.Node.{Node}
 use Rattle.semantic_model.specs.Ambient.{ambient_inside}
+use Rattle.semantic_model.specs.Cursor.{on_leaving}
 use Rattle.semantic_model.specs.Declaration.{Declaration}
 use Rattle.semantic_model.specs.Place.{Place, OpenScope}
 use Rattle.semantic_model.specs.Step.{opening_last}
+use Rattle.node_store.specs.Entered.{leaving}
+use Rattle.walk_notes.specs.NoteLists.{leaving as leaving_notes}
 use Rattle.walk_model.specs.Shown.{HasVar, IsGrounded}
 use Rattle.walk_model.specs.Standing.{Standing}
 use Rattle.walk_model.specs.Walks.{after_all}
 use Rattle.walk_model.proofs.ChainRows.{chain_after_all}
 use Rattle.check_walk.specs.Leaving.{IsHandedAt}
 use Rattle.check_walk.specs.Ready.{IsReadyAt}
+use Rattle.check_walk.specs.SoFar.{Telling}
 use Rattle.check_walk.specs.Sound.{IsInSource}
+use Rattle.check_walk.specs.TellingAlong.{telling_left}
 use Rattle.check_walk.proofs.Handing.{rows_inside}
 use Rattle.check_walk.proofs.WalkConditions.{steps_apart}
-use Rattle.semantic_walk.specs.AtPlace.{IsWithin, IsComing}
+use Rattle.semantic_walk.specs.AtPlace.{IsWithin, IsComing, left_at}
 use Rattle.semantic_walk.specs.Leaving.{IsFit, IsLeaving, ShowsRows, context_of}
-use Rattle.semantic_walk.specs.Walker.{Walker}
+use Rattle.semantic_walk.specs.Walker.{Walker, telling_of}
 use Rattle.semantic_walk.specs.declared.visit.Turn.{Turn}
 use Rattle.semantic_walk.proofs.Visiting.{Rests}
 
@@ -76,3 +81,13 @@ has_var p (inr root) other = absurd (other root)
 -- below the root that shows the rows of the node
 pub shows_rows : (w : Walker) (p : Place) → IsLeaving w p → (p.node.kind ≡ kind.Program → ⊥) → ShowsRows w p
 shows_rows w p h other on = rows_inside (context_of w p.node) w.source w.made p (handed_at w p h on w.made refl w.source refl) (has_var p h.grounded other) h.chain other
+
+-- the walk has stepped from the node
+abbrev pub left_by : Walker → Node → Walker
+left_by w x = record w { path = take (length w.path - 1) w.path; cursor = on_leaving x.kind w.cursor; nodes = option_map leaving w.nodes; notes = leaving_notes x w.notes }
+
+-- with checks off, that is all
+pub left_untold : (w : Walker) (p : Place) → w.checks ≡ false → left_by w p.node ≡ left_at w p
+left_untold w p off = λ i.
+    let t : Telling = telling_left (sym off i) w.source (telling_of w) p in
+    record (left_by w p.node) { said = t.said; counted = t.counted }

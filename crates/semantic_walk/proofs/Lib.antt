@@ -1,5 +1,6 @@
 pub mod Going
 pub mod MovedNames
+pub mod EvenNodes
 pub mod Turning
 pub mod Parents
 pub mod Beginning
@@ -19,3 +20,8 @@ pub mod PlaceRows
 pub mod PlaceFunctions
 pub mod BindArms
 pub mod EnterSteps
+pub mod NamesBy
+pub mod RoomAt
+pub mod Folding
+pub mod ListedPaths
+pub mod StoredPaths

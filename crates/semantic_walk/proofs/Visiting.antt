@@ -30,6 +30,8 @@ use Rattle.walk_model.specs.Recursion.{IsReady, IsBetween}
 use Rattle.walk_model.proofs.Turned.{node_turn}
 use Rattle.walk_model.proofs.TurnParts.{within_at}
 use Rattle.walk_model.proofs.WalkTurns as turns
+use Rattle.count_laws.specs.Room.{HasRoom}
+use Rattle.count_laws.proofs.Rooms.{room_after}
 use Rattle.node_store.specs.Entered.{Entered}
 use Rattle.semantic_walk.specs.Listed.{IsAmong, all_listed}
 use Rattle.walk_notes.specs.NoteLists.{NoteLists, noting, noted_inside, noted_over}
@@ -45,6 +47,7 @@ use Rattle.check_walk.specs.SoFar.{Telling}
 use Rattle.check_walk.specs.TellingAlong.{telling_along, making, telling_over}
 use Rattle.check_walk.proofs.Along.{last_untold}
 use Rattle.semantic_walk.proofs.Told.{left_told, over_told, told_past}
+use Rattle.semantic_walk.proofs.RoomAt.{child_room, rest_room}
 use Rattle.semantic_walk.proofs.Readying.{ready_first, ready_at_child, ready_past}
 use Rattle.semantic_walk.proofs.Listing.{last_without, child_kept, rest_kept, rest_lists, first_kept, left_kept, still_kept}
 
@@ -185,6 +188,9 @@ module _ (ds : List Declaration) (first : Walker) (p : Place) (own : Option Open
               (subst (λ (g : Forest). AllNamed ds first.namesakes (steps_below p own n cursor g)) (sym is) h.named);
           stated = subst (λ (states : List InstanceState). AllStated states (steps_below p own n cursor f)) (sym (ap (λ (v : Walker). v.states) e))
               (subst (λ (g : Forest). AllStated first.states (steps_below p own n cursor g)) (sym is) h.stated);
+          room = subst (λ (v : Standing). HasRoom v.tables (steps_below p own n cursor f)) (sym made)
+              (subst (λ (g : Forest). HasRoom (entered ds first p).tables (steps_below p own n cursor g)) (sym is)
+              (room_after ds first.made (entering p) (steps_below p own n cursor p.node.children) h.room));
         };
         made = λ i. after_all ds (made i) (steps_below p own n cursor (is i));
         moves = ap (λ (g : Forest). cursor_after p.node p.is_ambient cursor g) is;
@@ -377,6 +383,7 @@ module _ (ds : List Declaration) (p : Place) (own : Option OpenScope) (n cursor 
         between = record { some = below.some; stands = below.stands; holds = record { sound = below.holds.sound; header = omega arith }; seated = below.seated; inside = below.inside };
         named = names.below;
         stated = known.below;
+        room = child_room ds p own n cursor child rest w.made h.room;
         kept = child_kept p own n cursor child rest w.nodes among;
         ready = λ on. ready_at_child ds w.source w.made w.made w.notes w.notes p child rest (ready_here on) (opening_at p child.0 own n) place_here refl refl;
         limit = limit;
@@ -433,6 +440,8 @@ module _ (ds : List Declaration) (p : Place) (own : Option OpenScope) (n cursor 
             (sym (ap (λ (u : Walker). u.namesakes) b ∙ ap (λ (u : Walker). u.namesakes) through)) names.later;
         stated = subst (λ (states : List InstanceState). AllStated states (steps_below p scope_here (next_past p own n child) (cursor_past p child.0 cursor place_here) (forest_of rest)))
             (sym (ap (λ (u : Walker). u.states) b ∙ ap (λ (u : Walker). u.states) through)) known.later;
+        room = subst (λ (u : Standing). HasRoom u.tables (steps_below p scope_here (next_past p own n child) (cursor_past p child.0 cursor place_here) (forest_of rest)))
+            (sym (made_behind w v past ended e k b)) (rest_room ds p own n cursor child rest w.made h.room);
       }
 
 -- the walk goes on over one child

@@ -15,6 +15,7 @@ use Rattle.walk_model.specs.Shown.{ShowsChain, IsGrounded}
 use Rattle.walk_model.specs.NamedScopes.{IsStepNamed, AllNamed}
 use Rattle.walk_model.specs.Recursion.{IsBetween}
 use Rattle.count_model.specs.Asks.{asked_by_steps}
+use Rattle.count_laws.specs.Room.{HasRoom}
 use Rattle.node_store.specs.Entered.{Entered, leaving as leaving_node}
 use Rattle.walk_notes.specs.NoteLists.{noting, noted_inside, noted_over, leaving as leaving_notes}
 use Rattle.semantic_walk.specs.Listed.{IsNext, all_listed, entered_at}
@@ -63,6 +64,8 @@ pub record IsBetweenAt (ds : List Declaration) (w : Walker) (turn : Turn) (p : P
   pub between : IsBetween w.made p own n cursor start f
   pub named : AllNamed ds w.namesakes (steps_below p own n cursor f)
   pub stated : AllStated w.states (steps_below p own n cursor f)
+  -- there are ids for all that they make
+  pub room : HasRoom w.made.tables (steps_below p own n cursor f)
 
 -- the root's scope is open before its node is entered, the others are not
 abbrev pub IsOpenAtRoot : Place → Option OpenScope → Type 0
@@ -85,6 +88,7 @@ pub record IsComing (ds : List Declaration) (w : Walker) (p : Place) (own : Opti
   pub between : IsBetween (entered ds w p) p own n (on_entering p.node.kind p.cursor) (length (entered ds w p).waiting) p.node.children
   pub named : AllNamed ds w.namesakes (steps_below p own n (on_entering p.node.kind p.cursor) p.node.children)
   pub stated : AllStated w.states (steps_below p own n (on_entering p.node.kind p.cursor) p.node.children)
+  pub room : HasRoom w.made.tables (entering p ∷ steps_below p own n (on_entering p.node.kind p.cursor) p.node.children)
   pub kept : IfSome w.nodes (IsNext p)
   -- with checks on, what they ask
   pub ready : w.checks ≡ true → IsReadyAt w.source w.made w.notes.classes p

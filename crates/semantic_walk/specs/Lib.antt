@@ -3,7 +3,11 @@ pub mod Turns
 pub mod Walker
 pub mod Stated
 pub mod Binds
+pub mod Ids
+pub mod Folded
 pub mod Listed
+pub mod EvenKinds
+pub mod Stored
 pub mod AtPlace
 pub mod Leaving
 pub mod Begun

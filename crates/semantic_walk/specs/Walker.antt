@@ -26,7 +26,7 @@ pub record Walker : Type 0 where
   pub source_type : SourceType
   -- the states of the namespaces
   pub states : List InstanceState
-  -- past which names block functions don't move
+  -- past which names block functions don't move, collected or not
   pub namesakes : List Written
   -- the nodes from the root to the one that is visited
   pub path : List Node

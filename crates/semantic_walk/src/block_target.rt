@@ -1,13 +1,14 @@
-//! Whether a namesake stands between a block function and where it would move.
+//! Whether a namesake stands between a block function and where it would move (ECMAScript, Annex B.3.2).
 
-ghost use Rattle.std.specs.Prelude.{◌≡◌, ◌<◌, length, drop};
+ghost use Rattle.std.specs.Prelude.{◌≡◌, ◌<◌, length, drop, IfOk};
 ghost use Rattle.std.specs.Str.{chars};
 ghost use Rattle.table_building.specs.Routes.{IsRoute};
 ghost use Rattle.semantic_walk.specs.Binds.{stands_on};
 
-use namesakes::Namesakes;
+use namesakes::LazyNamesakes;
 use scoping::Scoping;
 use semantic_syntax::Ident;
+use std::alloc::AllocError;
 use table_building::route::{PassedScope, Route};
 
 /// The scopes that the route passes, but for the one where it begins.
@@ -21,20 +22,22 @@ fn between(route: &Route) -> &[PassedScope]
 }
 
 /// Whether a declaration past which a block function doesn't move stands, under the name, in a scope strictly between
-/// the one where the route begins and its target.
+/// the one where the route begins and its target: a `var` in the function's place would conflict with it (ECMAScript,
+/// Annex B.3.2). A route without such a scope asks for no declaration, so that none is collected for it.
 pub(crate) fn stand_on(
-    namesakes: &Namesakes,
+    namesakes: &mut LazyNamesakes<'_>,
     route: &Route,
     scoping: &Scoping,
     name: Ident<'_>,
-) -> bool
+) -> Result<bool, AllocError>
     requires { IsRoute (length scoping.now.scopes) route.now }
-    ensures { result ≡ stands_on scoping.now namesakes.now (chars name.entry.text.now) (drop 1 route.now.passed.items) }
+    ensures stays { namesakes.new ≡ namesakes.old }
+    ensures stands { IfOk result (λ stands. stands ≡ stands_on scoping.now namesakes.old (chars name.entry.text.now) (drop 1 route.now.passed.items)) }
 {
     for scope in between(route) {
-        if namesakes.has(scoping.get_node_id(scope.id()), name) {
-            return true;
+        if namesakes.has(scoping.get_node_id(scope.id()), name)? {
+            return Ok(true);
         }
     }
-    false
+    Ok(false)
 }

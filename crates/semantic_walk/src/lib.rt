@@ -4,6 +4,8 @@
 pub mod analysis;
 pub mod binder;
 mod block_target;
+mod even;
+pub mod laws;
 pub mod path;
 pub mod settings;
 pub mod visit;

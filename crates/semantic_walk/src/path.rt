@@ -9,7 +9,7 @@ ghost use Rattle.semantic_walk.specs.Listed.{kept_from, list_kept};
 ghost use Rattle.semantic_walk.specs.Paths.{parent_in, is_marked, first_mark};
 
 use node_rules::rows::is_simple_list;
-use node_store::{Ancestry, AstNodeStore, AstNodeStoreKind, AstNodes};
+use node_store::{Ancestry, AstNodeStore, AstNodes};
 use semantic_syntax::ScopeId;
 use semantic_tree::{AstKind, AstType};
 use std::alloc::{AllocError, Global};
@@ -39,7 +39,7 @@ impl<'a> Model for Path<'a> {
     ghost invariant = { IsWay };
 }
 
-/// Whether the node is a list of parameters that is simple.
+/// Whether the node is a list of parameters that is simple (ECMAScript 15.1.3, IsSimpleParameterList).
 fn is_marked(kind: AstKind<'_>) -> bool
     ensures { result ≡ is_marked kind.entry.node.now }
 {
@@ -128,13 +128,7 @@ impl<'a> Path<'a> {
         ensures path { outward_path result ≡ reverse self.now.nodes }
         ensures store { IsInStore result }
     {
-        match &self.store.kind {
-            AstNodeStoreKind::Full(nodes) => Ancestry::Nodes {
-                nodes,
-                current_node_id: self.store.current_node_id,
-            },
-            AstNodeStoreKind::Ancestry(stack) => Ancestry::Stack(stack),
-        }
+        self.store.ancestry()
     }
 
     /// The nodes that were entered, if all are kept, and else none.

@@ -1,12 +1,12 @@
 //! The recursion over the tree.
 
-ghost use Rattle.std.specs.Prelude.{◌≡◌, ◌<◌, ◌≤◌, ◌&&◌, not, cond, ℕ, Option, Some, None, List, ◌∷◌, length, map, drop, IfOk, OnOk, OnErr};
+ghost use Rattle.std.specs.Prelude.{◌≡◌, ◌<◌, ◌≤◌, ◌&&◌, true, not, cond, ℕ, Option, Some, None, List, ◌∷◌, length, map, drop, IfOk, OnOk, OnErr};
 ghost use Rattle.semantic_kinds.specs.Kinds.{same_kind};
 ghost use Rattle.semantic_kinds.specs.declared.kind.AstType.TheVariants.{Program as program_kind};
 ghost use Rattle.semantic_tree.specs.Children.{forest_of};
 ghost use Rattle.semantic_tree.specs.Forest.{Forest, nothing};
 ghost use Rattle.semantic_model.specs.Nodes.{has_role};
-ghost use Rattle.semantic_model.specs.Inside.{is_inside, any_inside, is_in_header, header_roles};
+ghost use Rattle.semantic_model.specs.Inside.{opens, is_inside, any_inside, is_in_header, header_roles};
 ghost use Rattle.semantic_model.specs.Place.{Place, OpenScope, at};
 ghost use Rattle.semantic_model.specs.ScopeKind.{opened_scope};
 ghost use Rattle.semantic_model.specs.Declaration.{Declaration};
@@ -24,8 +24,10 @@ ghost use Rattle.count_model.specs.Asks.{asked_by_steps};
 ghost use Rattle.table_building.specs.Settled.{settled_from, asked_from};
 ghost use Rattle.semantic_walk.specs.Turns.{IsTurn, child_scope};
 ghost use Rattle.semantic_walk.specs.AtPlace.{IsWithin, IsTurnAt, IsBetweenAt, IsComing, IsSomewhere, walked_within, asked_over};
+ghost use Rattle.semantic_walk.specs.Ids.{MayOpen};
 ghost use Rattle.semantic_walk.specs.Leaving.{IsLeaving};
 
+use crate::even::{acts_between, stands_alike};
 use crate::walk::Walk;
 use node_rules::ambient::{is_ambient_in_child, is_ambient_inside};
 use node_rules::cursor::{before_child, behind_child};
@@ -117,7 +119,8 @@ impl<'a> Walk<'a> {
         parent_role: Role,
         turn: &mut Turn,
     ) -> Result<(), AllocError>
-        requires { IsTurn self.old.made turn.old }
+        requires turn { IsTurn self.old.made turn.old }
+        requires ids { MayOpen self.old parent.node.now }
         ensures opens { (ds : List Declaration) (p : Place) → p.node ≡ parent.entry.node.now → p.role ≡ parent_role → IsWithin self.old p p.chain → ShowsChain self.old.made.tables p.chain → HasVar p.chain →
             OnOk result (self.new ≡ record self.old { made = after ds self.old.made (opening p (opened_scope p (length self.old.made.tables.scopes))); current = length self.old.made.tables.scopes }) }
         ensures own { OnOk result (turn.new ≡ record turn.old { own = Some (length self.old.made.tables.scopes); header_start = length self.old.made.waiting }) }
@@ -130,7 +133,8 @@ impl<'a> Walk<'a> {
         Ok(())
     }
 
-    /// Before a child: the node's scope opens where the child is the first inside it.
+    /// Before a child: the node's scope opens where the child is the first inside it, so that what stands outside
+    /// isn't in it.
     fn open_for(
         &mut self,
         parent: AstKind<'a>,
@@ -138,7 +142,8 @@ impl<'a> Walk<'a> {
         turn: &mut Turn,
         role: Role,
     ) -> Result<(), AllocError>
-        requires { IsTurn self.old.made turn.old }
+        requires turn { IsTurn self.old.made turn.old }
+        requires ids { turn.old.own ≡ None → is_inside parent.node.now.kind role ≡ true → MayOpen self.old parent.node.now }
         ensures opens { (ds : List Declaration) (p : Place) (own : Option OpenScope) (n cursor start : ℕ) (f : Forest) → p.node ≡ parent.entry.node.now → p.role ≡ parent_role → IsBetweenAt ds self.old turn.old p own n cursor start f →
             OnOk result ((record self.new { current = self.old.current } ≡ record self.old { made = after_all ds self.old.made (opening_at p role own n) }) × IsTurnAt turn.new p (scope_at p role own n) (start_at p role own start self.old.made)) }
         ensures goes { OnOk result (Goes self.old.made self.new.made) }
@@ -177,7 +182,8 @@ impl<'a> Walk<'a> {
         role: Role,
         child: AstKind<'a>,
     ) -> Result<(), AllocError>
-        requires { IsTurn self.old.made turn.old }
+        requires turn { IsTurn self.old.made turn.old }
+        requires ids { turn.old.own ≡ None → is_inside parent.node.now.kind role ≡ true → MayOpen self.old parent.node.now }
         ensures comes { (ds : List Declaration) (p : Place) (own : Option OpenScope) (n cursor start : ℕ) (rest : List (Role × Node)) → p.node ≡ parent.entry.node.now → p.role ≡ parent_role →
             IsBetweenAt ds self.old turn.old p own n cursor start (forest_of ((role, child.entry.node.now) ∷ rest)) →
             let place = child_place p (scope_at p role own n) cursor role child.entry.node.now in
@@ -191,6 +197,9 @@ impl<'a> Walk<'a> {
         ensures stands { OnOk result (IsTurn self.new.made turn.new) }
         ensures start { OnOk result (turn.old.header_start ≤ turn.new.header_start) }
     {
+        if stands_alike(parent, role) {
+            return Ok(());
+        }
         self.open_for(parent, parent_role, turn, role)?;
         self.come_to(parent, turn, role, child);
         Ok(())
@@ -206,7 +215,8 @@ impl<'a> Walk<'a> {
         self.is_ambient = turn.is_ambient;
     }
 
-    /// The header of the scope ends after its last part.
+    /// The header of the scope ends after its last part, before the body declares (ECMAScript 10.2.11,
+    /// FunctionDeclarationInstantiation; 14.15.2, CatchClauseEvaluation).
     fn end_header_behind<L>(
         &mut self,
         parent: AstType,
@@ -276,7 +286,8 @@ impl<'a> Walk<'a> {
 
     /// Opens the node's scope, and closes it at once.
     fn open_empty(&mut self, kind: AstKind<'a>, role: Role, turn: &Turn) -> Result<(), AllocError>
-        requires { IsTurn self.old.made turn.now }
+        requires turn { IsTurn self.old.made turn.now }
+        requires ids { MayOpen self.old kind.node.now }
         ensures ends { (ds : List Declaration) (p : Place) → p.node ≡ kind.entry.node.now → p.role ≡ role → IsWithin self.old p p.chain → ShowsChain self.old.made.tables p.chain → HasVar p.chain →
             OnOk result (self.new ≡ record self.old {
               made = close_scope (after ds self.old.made (opening p (opened_scope p (length self.old.made.tables.scopes)))) (length self.old.made.tables.scopes);
@@ -291,9 +302,15 @@ impl<'a> Walk<'a> {
         Ok(())
     }
 
-    /// A scope without any child inside opens, and closes at once, behind all children.
-    fn open_last(&mut self, kind: AstKind<'a>, role: Role, turn: &Turn) -> Result<(), AllocError>
-        requires { IsTurn self.old.made turn.now }
+    /// The scope of the node opens behind all children, if it has one and it isn't open.
+    fn open_unopened(
+        &mut self,
+        kind: AstKind<'a>,
+        role: Role,
+        turn: &Turn,
+    ) -> Result<(), AllocError>
+        requires turn { IsTurn self.old.made turn.now }
+        requires ids { turn.now.own ≡ None → opens kind.node.now.kind ≡ true → MayOpen self.old kind.node.now }
         ensures ends { (ds : List Declaration) (p : Place) (own : Option OpenScope) (n cursor start : ℕ) → p.node ≡ kind.entry.node.now → p.role ≡ role → IsBetweenAt ds self.old turn.now p own n cursor start nothing →
             OnOk result (self.new ≡ record self.old { made = after_all ds self.old.made (opening_last p own n) }) }
         ensures goes { OnOk result (Goes self.old.made self.new.made) }
@@ -305,7 +322,22 @@ impl<'a> Walk<'a> {
         }
     }
 
-    /// The cursor of the walk.
+    /// A scope without any child inside opens, and closes at once, behind all children.
+    fn open_last(&mut self, kind: AstKind<'a>, role: Role, turn: &Turn) -> Result<(), AllocError>
+        requires turn { IsTurn self.old.made turn.now }
+        requires ids { turn.now.own ≡ None → opens kind.node.now.kind ≡ true → MayOpen self.old kind.node.now }
+        ensures ends { (ds : List Declaration) (p : Place) (own : Option OpenScope) (n cursor start : ℕ) → p.node ≡ kind.entry.node.now → p.role ≡ role → IsBetweenAt ds self.old turn.now p own n cursor start nothing →
+            OnOk result (self.new ≡ record self.old { made = after_all ds self.old.made (opening_last p own n) }) }
+        ensures goes { OnOk result (Goes self.old.made self.new.made) }
+    {
+        if acts_between(kind.ty()) {
+            self.open_unopened(kind, role, turn)
+        } else {
+            Ok(())
+        }
+    }
+
+    /// The flags of the next reference, as the walk stands.
     fn cursor(&self) -> ReferenceFlags
         ensures { result.bits ≡ self.now.cursor }
     {
@@ -347,8 +379,12 @@ impl<'a> Walk<'a> {
             OnErr result (steps.new ≤ raised steps.old (asked_by_steps ds self.old.made (ending_after p role own (forest_of rest.now)))) }
     {
         self.come_back(turn);
-        self.turn_cursor(parent, role, before);
-        self.end_child(parent, turn, role, rest, steps)
+        if acts_between(parent) {
+            self.turn_cursor(parent, role, before);
+            self.end_child(parent, turn, role, rest, steps)
+        } else {
+            Ok(())
+        }
     }
 
     /// Walks over a node in its role and all that is below it, and stands at the node then: who visits it leaves it.

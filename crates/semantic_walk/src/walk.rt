@@ -32,6 +32,7 @@ ghost use Rattle.semantic_walk.specs.Stated.{AllStated};
 ghost use Rattle.semantic_walk.specs.Begun.{begun, notes_classes, AreNamesOf};
 ghost use Rattle.check_walk.specs.SoFar.{caught_up};
 ghost use Rattle.check_walk.specs.TellingAlong.{telling_left};
+ghost use Rattle.semantic_walk.specs.Ids.{HasIds, MayEnter, MayOpen};
 ghost use Rattle.semantic_walk.specs.Leaving.{IsFit, ShowsRows};
 ghost use Rattle.table_building.specs.Growth.{Grows, Goes};
 ghost use Rattle.semantic_model.specs.Declaration.{Declaration};
@@ -39,11 +40,11 @@ ghost use Rattle.semantic_walk.specs.Binds.{block_target, is_bound_inside, actin
 ghost use Rattle.semantic_walk.specs.AtPlace.{ComesTo, IsWithin, IsShown, entered, kept_at, left_at};
 
 use crate::analysis::Analysis;
-use crate::binder::Binder;
 use crate::block_target::stand_on;
+use crate::even::acts_on_entering;
 use crate::path::Path;
 use crate::settings::{Room, Settings};
-use namesakes::namesakes::Namesakes;
+use namesakes::LazyNamesakes;
 use namespace_states::NamespaceStates;
 use node_rules::ambient::is_ambient_inside;
 use node_rules::cursor;
@@ -69,8 +70,8 @@ pub struct Walk<'a> {
     /// The states of the program's namespaces.
     pub(crate) states: NamespaceStates,
     pub(crate) declared: Declared<'a>,
-    /// Past which declarations block functions don't move.
-    pub(crate) namesakes: Namesakes,
+    /// Past which declarations block functions don't move, once a block function passes a scope.
+    pub(crate) namesakes: LazyNamesakes<'a>,
     /// The nodes from the root to the one that is visited, and all that the walk has entered, if they are kept.
     pub(crate) path: Path<'a>,
     pub(crate) current_scope: ScopeId,
@@ -107,8 +108,8 @@ impl<'a> Model for Walk<'a> {
     ghost invariant = { λ w. w.current_scope < length w.declared.tables.scopes };
 }
 
-/// Whether the node declares in its own scope, which is open then: a function or class expression, and a mapped
-/// type.
+/// Whether the node declares in its own scope, which is open then: a function or class expression, and a mapped type
+/// (ECMAScript 15.2.5, 15.7.14).
 fn declares_inside(kind: AstKind<'_>) -> bool
     ensures inside { result ≡ is_bound_inside kind.entry.node.now }
     ensures entering { (p : Place) → p.node ≡ kind.entry.node.now → result ≡ true → declared_on_entering p ≡ [] }
@@ -136,7 +137,7 @@ impl<'a> Walk<'a> {
     {
         let source_type = program.source_type();
         let root = program.root();
-        let namesakes = Namesakes::of(alloc, program)?;
+        let namesakes = LazyNamesakes::new(alloc, program);
         let states = NamespaceStates::of_namespaces(alloc, program)?;
         let declared = Declared::new(alloc, root, root_flags(root, source_type))?;
         Ok(Walk {
@@ -210,7 +211,7 @@ impl<'a> Walk<'a> {
         }
     }
 
-    /// Steps to a node.
+    /// Steps to a node: it stands on the path, and the cursor is that on entering it.
     #[tactic(auto, using(crate::proofs::Going::going, table_building::proofs::Growing::growing))]
     fn step_to(&mut self, kind: AstKind<'a>) -> Result<(), AllocError>
         ensures made { OnOk result (self.new ≡ record (noting_node self.old kind.entry.node.now) { path = self.old.path ++ kind.entry.node.now ∷ []; cursor = on_entering kind.entry.node.now.kind self.old.cursor }) }
@@ -223,6 +224,7 @@ impl<'a> Walk<'a> {
 
     /// Notes the reference that an identifier reference is.
     fn note_reference(&mut self, kind: AstKind<'a>) -> Result<(), AllocError>
+        requires { length self.old.made.tables.references < u32.MAX }
         ensures made { OnOk result (self.new ≡ cond (is identifier_reference kind.entry.node.now) (referring self.old kind.entry.node.now) self.old) }
         ensures goes { OnOk result (Goes self.old.made self.new.made) }
     {
@@ -232,7 +234,7 @@ impl<'a> Walk<'a> {
         }
     }
 
-    /// Notes a call of `eval` by its name.
+    /// Notes a direct call of `eval` (ECMAScript 13.3.6.1).
     fn note_eval(&mut self, kind: AstKind<'a>)
         ensures made { self.new ≡ cond (is_direct_eval kind.entry.node.now) (record self.old { made = add_eval self.old.made self.old.current }) self.old }
         ensures goes { Goes self.old.made self.new.made }
@@ -244,6 +246,7 @@ impl<'a> Walk<'a> {
 
     /// Declares what the node declares, if it declares inside its own scope, or if it declares outside.
     fn declare(&mut self, kind: AstKind<'a>, inside: bool) -> Result<(), AllocError>
+        requires { is_bound_inside kind.node.now ≡ inside → HasIds self.old kind.node.now }
         ensures entering { (ds : List Declaration) (p : Place) → p.node ≡ kind.entry.node.now → inside ≡ false → IsWithin self.old p p.chain → IsShown ds self.old p →
             OnOk result (self.new ≡ acting ds self.old (declared_on_entering p)) }
         ensures opening { (ds : List Declaration) (p : Place) (own : OpenScope) → p.node ≡ kind.entry.node.now → inside ≡ true → IsWithin self.old p (own ∷ []) →
@@ -251,7 +254,7 @@ impl<'a> Walk<'a> {
         ensures goes { OnOk result (Goes self.old.made self.new.made) }
     {
         if declares_inside(kind) == inside {
-            kind.bind(self)
+            self.bind_node(kind)
         } else {
             Ok(())
         }
@@ -260,11 +263,15 @@ impl<'a> Walk<'a> {
     /// Enters a node: what it declares outside of its own scope is declared, and references, classes and labels are
     /// noted.
     pub(crate) fn enter(&mut self, kind: AstKind<'a>) -> Result<(), AllocError>
+        requires { MayEnter self.old kind.node.now }
         ensures walks { (ds : List Declaration) (p : Place) → p.node ≡ kind.entry.node.now → ComesTo self.old p → IsShown ds self.old p →
             OnOk result (self.new ≡ record self.old { made = entered ds self.old p; path = self.old.path ++ p.node ∷ []; cursor = on_entering p.node.kind p.cursor; nodes = kept_at self.old p; notes = noting p.path p.node self.old.notes }) }
         ensures goes { OnOk result (Goes self.old.made self.new.made) }
     {
         self.step_to(kind)?;
+        if !acts_on_entering(kind.ty()) {
+            return Ok(());
+        }
         self.note_reference(kind)?;
         self.note_eval(kind);
         self.declare(kind, false)?;
@@ -273,6 +280,7 @@ impl<'a> Walk<'a> {
 
     /// Notes a reference, which waits in the current scope.
     fn refer(&mut self, kind: AstKind<'a>) -> Result<(), AllocError>
+        requires { length self.old.made.tables.references < u32.MAX }
         ensures made { OnOk result (self.new ≡ referring self.old kind.entry.node.now) }
         ensures goes { OnOk result (Goes self.old.made self.new.made) }
     {
@@ -282,6 +290,7 @@ impl<'a> Walk<'a> {
 
     /// Makes the scope of the node in its role, which binds nothing.
     fn make_scope(&mut self, kind: AstKind<'a>, role: Role) -> Result<ScopeId, AllocError>
+        requires { length self.old.made.tables.scopes < u32.MAX }
         ensures made { OnOk result (self.new ≡ record self.old { made = opening_in self.old role kind.entry.node.now }) }
         ensures number { IfOk result (λ s. s ≡ length self.old.made.tables.scopes) }
         ensures apart { IfOk result (λ s. (self.new.current == s) ≡ false) }
@@ -294,7 +303,7 @@ impl<'a> Walk<'a> {
         self.declared.open(kind, self.current_scope, flags)
     }
 
-    /// Goes into the scope.
+    /// Goes into the scope: what comes next stands in it.
     pub(crate) fn go_to(&mut self, scope: ScopeId)
         requires { scope < length self.old.made.tables.scopes }
         ensures { self.new ≡ record self.old { current = scope } }
@@ -304,6 +313,7 @@ impl<'a> Walk<'a> {
 
     /// Opens the scope of the node in its role.
     pub(crate) fn open(&mut self, kind: AstKind<'a>, role: Role) -> Result<ScopeId, AllocError>
+        requires { MayOpen self.old kind.node.now }
         ensures opens { (ds : List Declaration) (p : Place) → p.node ≡ kind.entry.node.now → p.role ≡ role → IsWithin self.old p p.chain → ShowsChain self.old.made.tables p.chain → HasVar p.chain →
             OnOk result (self.new ≡ record self.old { made = after ds self.old.made (opening p (opened_scope p (length self.old.made.tables.scopes))); current = length self.old.made.tables.scopes }) }
         ensures number { IfOk result (λ s. s ≡ length self.old.made.tables.scopes) }
@@ -334,7 +344,8 @@ impl<'a> Walk<'a> {
         }
     }
 
-    /// The scope of a catch clause's body, which binds nothing yet, takes over what the clause binds.
+    /// The scope of a catch clause's body, which binds nothing yet, takes over what the clause binds (ECMAScript
+    /// 14.15.1; TypeScript's `bindVariableDeclarationOrBindingElement`).
     fn take_over(&mut self, kind: AstKind<'a>, role: Role, scope: ScopeId) -> Result<(), AllocError>
         requires scope { scope < length self.old.made.tables.scopes }
         requires apart { (self.old.current == scope) ≡ false }
@@ -349,27 +360,26 @@ impl<'a> Walk<'a> {
         }
     }
 
-    /// Where a function in a block of sloppy code moves: to the nearest function, unless a namesake stands between,
-    /// wherever that is written.
+    /// Where a function in a block of sloppy code moves (ECMAScript, Annex B.3.2): to the nearest function, unless a
+    /// namesake stands between, wherever that is written.
     pub(crate) fn target_of_block_function(
-        &self,
+        &mut self,
         name: Ident<'_>,
     ) -> Result<Option<ScopeId>, AllocError>
-        ensures target { IfOk result (λ o. o ≡ block_target self.now.made.tables self.now.namesakes self.now.current (chars name.entry.text.now)) }
-        ensures within { IfOk result (λ o. IfSome o (λ s. s < length self.now.made.tables.scopes)) }
+        ensures stays { self.new ≡ self.old }
+        ensures target { IfOk result (λ o. o ≡ block_target self.old.made.tables self.old.namesakes self.old.current (chars name.entry.text.now)) }
+        ensures within { IfOk result (λ o. IfSome o (λ s. s < length self.old.made.tables.scopes)) }
     {
         let block = self.current_scope;
         let scoping = self.declared.scoping();
         let route = Route::outward(self.alloc, scoping, block, ScopeFlags::Var)?;
         let target = route.target;
-        Ok(if stand_on(&self.namesakes, &route, scoping, name) {
-            None
-        } else {
-            Some(target)
-        })
+        let stands = stand_on(&mut self.namesakes, &route, scoping, name)?;
+        Ok(if stands { None } else { Some(target) })
     }
 
-    /// Closes the scope.
+    /// Closes the scope: a direct call of `eval` inside counts for the scope around it, too (ECMAScript 19.2.1.1,
+    /// PerformEval).
     pub(crate) fn close(&mut self, scope: ScopeId)
         requires { scope < length self.old.made.tables.scopes }
         ensures made { self.new ≡ record self.old { made = close_scope self.old.made scope } }
@@ -378,7 +388,7 @@ impl<'a> Walk<'a> {
         self.declared.close(scope);
     }
 
-    /// Steps from a node.
+    /// Steps from a node: it leaves the path, and the cursor is that on leaving it.
     fn step_from(&mut self, kind: AstKind<'a>) -> Result<(), AllocError>
         ensures made { OnOk result (self.new ≡ record self.old { path = take (length self.old.path - 1) self.old.path; cursor = on_leaving kind.entry.node.now.kind self.old.cursor; nodes = option_map leaving self.old.nodes; notes = leaving_notes kind.entry.node.now self.old.notes }) }
         ensures goes { OnOk result (Goes self.old.made self.new.made) }
@@ -421,6 +431,18 @@ impl<'a> Walk<'a> {
         Ok(())
     }
 
+    /// What is wrong with the node is told, and it is left. This stands apart, so that leaving a node takes no room for
+    /// what is handed to checks where they are off.
+    #[inline(never)]
+    fn tell_and_leave(&mut self, kind: AstKind<'a>) -> Result<(), AllocError>
+        requires { self.old.checks ≡ true → IsFit self.old kind.node.now }
+        ensures made { (p : Place) → p.node ≡ kind.entry.node.now → ShowsRows self.old p → OnOk result (self.new ≡ left_at self.old p) }
+        ensures goes { OnOk result (Goes self.old.made self.new.made) }
+    {
+        self.tell(kind)?;
+        self.step_from(kind)
+    }
+
     /// Leaves the node that is visited, which stands on the path until the end. With checks on, what is wrong with it is
     /// told.
     pub(crate) fn leave(&mut self, kind: AstKind<'a>) -> Result<(), AllocError>
@@ -428,8 +450,11 @@ impl<'a> Walk<'a> {
         ensures made { (p : Place) → p.node ≡ kind.entry.node.now → ShowsRows self.old p → OnOk result (self.new ≡ left_at self.old p) }
         ensures goes { OnOk result (Goes self.old.made self.new.made) }
     {
-        self.tell(kind)?;
-        self.step_from(kind)
+        if self.checks {
+            self.tell_and_leave(kind)
+        } else {
+            self.step_from(kind)
+        }
     }
 
     /// At the end of a header the references that wait since its start are looked up as far as its scope.
@@ -498,7 +523,7 @@ impl<'a> Walk<'a> {
         }
     }
 
-    /// Gives the walk up.
+    /// Gives the walk up, for want of memory: what is made is dropped.
     pub(crate) fn give_up(self) {
         self.declared.give_up();
     }

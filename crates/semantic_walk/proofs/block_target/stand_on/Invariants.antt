@@ -7,5 +7,6 @@ use Rattle.semantic_walk.proofs.block_target.stand_on.Given as goal
 abbrev pub invariant-loop-scope : goal.invariant-loop-scope
 invariant-loop-scope l = record {
   items : l.scope-items ≡ drop 1 l.route.passed.items;
-  rest : stands_on l.scoping l.namesakes (chars l.name.text.now) (drop l.scope-index l.scope-items) ≡ stands_on l.scoping l.namesakes (chars l.name.text.now) (drop 1 l.route.passed.items);
+  stays : l.namesakes ≡ l.initial.namesakes;
+  rest : stands_on l.scoping l.initial.namesakes (chars l.name.text.now) (drop l.scope-index l.scope-items) ≡ stands_on l.scoping l.initial.namesakes (chars l.name.text.now) (drop 1 l.route.passed.items);
 }

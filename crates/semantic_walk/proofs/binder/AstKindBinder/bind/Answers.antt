@@ -1,117 +1,15 @@
--- What each arm declares is what the definition declares for its kind.
-use Rattle.std.proofs.Common.{◌≡◌, refl, sym, ap, ◌∙◌}
-use Rattle.semantic_kinds.specs.declared.kind.AstType.TheVariants as kind
-use Rattle.semantic_tree.specs.declared.node.Node.{Node}
-use Rattle.semantic_syntax.specs.declared.symbol_flags.TheConstants.SymbolFlags as symbol
-use Rattle.semantic_syntax.specs.Sets.{union}
-use Rattle.semantic_model.specs.Binder.{marked_ambient, declared_by, declared_inside}
-use Rattle.table_building.proofs.Growing.{goes-refl}
-use Rattle.semantic_walk.proofs.PlaceDeclares.{stated, unstated, function_declares, function_opens}
-use Rattle.semantic_walk.proofs.PlaceRows.{on_ok_same, caught_acts, members_act}
-use Rattle.semantic_walk.proofs.BindArms.{DeclaresNothing, nothing_entered, nothing_opened, imports_declared, below_root, ids_declared, class_entered, class_opened, mapped_opened}
-use Rattle.semantic_walk.specs.Binds.{acting}
+use Rattle.std.proofs.Common.{◌<◌, length, ap, subst}
+use Rattle.semantic_walk.specs.Walker.{Walker}
+use Rattle.semantic_walk.proofs.Folding.{folds_entering, folds_opening}
+use Rattle.semantic_walk.proofs.TurnEnds.{on_ok}
 use Rattle.semantic_walk.proofs.binder.AstKindBinder.bind.Goals as goal
 
-pub returns-in-Class-clause-entering : goal.returns-in-Class-clause-entering
-returns-in-Class-clause-entering c = λ ds p e outside within shown.
-    let k : p.node.kind ≡ kind.Class = ap (λ (n : Node). n.kind) e ∙ sym c.ty.ensures ∙ c.in-Class.is in
-    on_ok_same c.bind_all.result c.bind_all.new.self _ _ (class_entered ds c.args.walk.now p c.args.self.now.node.now c.class_row.result e k outside c.class_row.ensures within) c.bind_all.ensures.made
+pub returns-then-has_ids-clause-folds : goal.returns-then-has_ids-clause-folds
+returns-then-has_ids-clause-folds c = λ ds p st node outside within shown folded.
+    on_ok c.bind_node.result (c.bind_node.ensures.entering ds p node outside within shown) (λ made.
+    folds_entering ds c.args.walk.now.made c.bind_node.new.self.made p st shown.grounded shown.chain (ap (λ (w : Walker). w.made) made) folded)
 
-pub returns-in-Class-clause-opening : goal.returns-in-Class-clause-opening
-returns-in-Class-clause-opening c = λ ds p own e inside within.
-    let k : p.node.kind ≡ kind.Class = ap (λ (n : Node). n.kind) e ∙ sym c.ty.ensures ∙ c.in-Class.is in
-    on_ok_same c.bind_all.result c.bind_all.new.self _ _ (class_opened ds c.args.walk.now p c.args.self.now.node.now c.class_row.result e own k inside c.class_row.ensures within) c.bind_all.ensures.made
-
-pub returns-in-Function-clause-entering : goal.returns-in-Function-clause-entering
-returns-in-Function-clause-entering c = λ ds p e outside within shown.
-    let k : p.node.kind ≡ kind.Function = ap (λ (n : Node). n.kind) e ∙ sym c.ty.ensures ∙ c.in-Function.is in
-    let s = stated p.node kind.Function k refl outside in
-    on_ok_same c.bind_function.result c.bind_function.new.self _ _ (ap (λ new. acting ds c.args.walk.now new) (sym (function_declares p k s)))
-    (c.bind_function.ensures.entering ds p e s within shown.chain (below_root p kind.Function k refl shown.grounded) shown.named)
-
-pub returns-in-Function-clause-opening : goal.returns-in-Function-clause-opening
-returns-in-Function-clause-opening c = λ ds p own e inside within.
-    let k : p.node.kind ≡ kind.Function = ap (λ (n : Node). n.kind) e ∙ sym c.ty.ensures ∙ c.in-Function.is in
-    let s = unstated p.node kind.Function k refl inside in
-    on_ok_same c.bind_function.result c.bind_function.new.self _ _ (ap (λ new. acting ds c.args.walk.now new) (sym (function_opens p own k s)))
-    (c.bind_function.ensures.opening ds p own e s within)
-
-pub returns-in-CatchParameter-clause-entering : goal.returns-in-CatchParameter-clause-entering
-returns-in-CatchParameter-clause-entering c = λ ds p e outside within shown.
-    on_ok_same c.bind_caught.result c.bind_caught.new.self _ _
-    (caught_acts ds c.args.walk.now p within c.args.self.now.node.now e (ap (λ (n : Node). n.kind) e ∙ sym c.ty.ensures ∙ c.in-CatchParameter.is)) c.bind_caught.ensures.made
-
-pub returns-in-ImportSpecifier-clause-entering : goal.returns-in-ImportSpecifier-clause-entering
-returns-in-ImportSpecifier-clause-entering c = λ ds p e outside within shown.
-    let k : p.node.kind ≡ c.ty.result = ap (λ (n : Node). n.kind) e ∙ sym c.ty.ensures in
-    on_ok_same c.bind_import.result c.bind_import.new.self _ _
-    (ap (λ new. acting ds c.args.walk.now new) (sym (ap (λ j. declared_by j p) k ∙ imports_declared c.ty.result p c.in-ImportSpecifier.is))) (c.bind_import.ensures.made ds p e within)
-
-pub returns-in-TSImportEqualsDeclaration-clause-entering : goal.returns-in-TSImportEqualsDeclaration-clause-entering
-returns-in-TSImportEqualsDeclaration-clause-entering c = λ ds p e outside within shown.
-    on_ok_same c.bind_all-in-TSImportEqualsDeclaration.result c.bind_all-in-TSImportEqualsDeclaration.new.self _ _
-    (ids_declared ds c.args.walk.now p c.args.self.now.node.now c.import_equals_row.result e kind.TSImportEqualsDeclaration (λ n. symbol.Import.bits) symbol.ImportBindingExcludes.bits
-    (ap (λ (n : Node). n.kind) e ∙ sym c.ty.ensures ∙ c.in-TSImportEqualsDeclaration.is) c.import_equals_row.ensures within refl refl refl) c.bind_all-in-TSImportEqualsDeclaration.ensures.made
-
-pub returns-in-TSTypeAliasDeclaration-clause-entering : goal.returns-in-TSTypeAliasDeclaration-clause-entering
-returns-in-TSTypeAliasDeclaration-clause-entering c = λ ds p e outside within shown.
-    on_ok_same c.bind_all-in-TSTypeAliasDeclaration.result c.bind_all-in-TSTypeAliasDeclaration.new.self _ _
-    (ids_declared ds c.args.walk.now p c.args.self.now.node.now c.type_alias_row.result e kind.TSTypeAliasDeclaration (λ n. union symbol.TypeAlias.bits (marked_ambient n)) symbol.TypeAliasExcludes.bits
-    (ap (λ (n : Node). n.kind) e ∙ sym c.ty.ensures ∙ c.in-TSTypeAliasDeclaration.is) c.type_alias_row.ensures within refl refl refl) c.bind_all-in-TSTypeAliasDeclaration.ensures.made
-
-pub returns-in-TSInterfaceDeclaration-clause-entering : goal.returns-in-TSInterfaceDeclaration-clause-entering
-returns-in-TSInterfaceDeclaration-clause-entering c = λ ds p e outside within shown.
-    on_ok_same c.bind_all-in-TSInterfaceDeclaration.result c.bind_all-in-TSInterfaceDeclaration.new.self _ _
-    (ids_declared ds c.args.walk.now p c.args.self.now.node.now c.interface_row.result e kind.TSInterfaceDeclaration (λ n. union symbol.Interface.bits (marked_ambient n)) symbol.InterfaceExcludes.bits
-    (ap (λ (n : Node). n.kind) e ∙ sym c.ty.ensures ∙ c.in-TSInterfaceDeclaration.is) c.interface_row.ensures within refl refl refl) c.bind_all-in-TSInterfaceDeclaration.ensures.made
-
-pub returns-in-TSEnumDeclaration-clause-entering : goal.returns-in-TSEnumDeclaration-clause-entering
-returns-in-TSEnumDeclaration-clause-entering c = λ ds p e outside within shown.
-    on_ok_same c.bind_all-in-TSEnumDeclaration.result c.bind_all-in-TSEnumDeclaration.new.self _ _
-    (ids_declared ds c.args.walk.now p c.args.self.now.node.now c.enum_row.result e kind.TSEnumDeclaration (λ n. c.enum_row.result.flags.bits) c.enum_row.result.excluded.bits
-    (ap (λ (n : Node). n.kind) e ∙ sym c.ty.ensures ∙ c.in-TSEnumDeclaration.is) (record { flags = refl; excluded = refl }) within refl refl (c.enum_row.ensures p e)) c.bind_all-in-TSEnumDeclaration.ensures.made
-
-pub returns-in-TSEnumMember-clause-entering : goal.returns-in-TSEnumMember-clause-entering
-returns-in-TSEnumMember-clause-entering c = λ ds p e outside within shown.
-    on_ok_same c.bind_member.result c.bind_member.new.self _ _
-    (members_act ds c.args.walk.now p within c.args.self.now.node.now e (ap (λ (n : Node). n.kind) e ∙ sym c.ty.ensures ∙ c.in-TSEnumMember.is)) c.bind_member.ensures.made
-
-pub returns-in-TSNamespaceDeclaration-clause-entering : goal.returns-in-TSNamespaceDeclaration-clause-entering
-returns-in-TSNamespaceDeclaration-clause-entering c = λ ds p e outside within shown.
-    c.bind_namespace.ensures.made ds p e within (ap (λ (n : Node). n.kind) e ∙ sym c.ty.ensures ∙ c.in-TSNamespaceDeclaration.is) shown.stated
-
-pub returns-in-TSMappedType-clause-opening : goal.returns-in-TSMappedType-clause-opening
-returns-in-TSMappedType-clause-opening c = λ ds p own e inside within.
-    on_ok_same c.bind_at.result c.bind_at.new.self _ _
-    (mapped_opened ds c.args.walk.now p c.args.self.now.node.now c.type_parameter_row.result e own (ap (λ (n : Node). n.kind) e ∙ sym c.ty.ensures ∙ c.in-TSMappedType.is) c.type_parameter_row.ensures within) c.bind_at.ensures.made
-
-pub returns-in_default : goal.returns-in_default
-returns-in_default c =
-    let w = c.args.walk.now in
-    let nothing : DeclaresNothing c.ty.result = record {
-      variable = c.in_default.not-VariableDeclarator;
-      function = c.in_default.not-Function;
-      class = c.in_default.not-Class;
-      parameter = c.in_default.not-FormalParameter;
-      parameter_rest = c.in_default.not-FormalParameterRest;
-      rest_element = c.in_default.not-BindingRestElement;
-      caught = c.in_default.not-CatchParameter;
-      specifier = c.in_default.not-ImportSpecifier;
-      default_specifier = c.in_default.not-ImportDefaultSpecifier;
-      namespace_specifier = c.in_default.not-ImportNamespaceSpecifier;
-      import_equals = c.in_default.not-TSImportEqualsDeclaration;
-      type_alias = c.in_default.not-TSTypeAliasDeclaration;
-      interface = c.in_default.not-TSInterfaceDeclaration;
-      enum = c.in_default.not-TSEnumDeclaration;
-      member = c.in_default.not-TSEnumMember;
-      namespace = c.in_default.not-TSNamespaceDeclaration;
-      type_parameter = c.in_default.not-TSTypeParameter;
-      mapped = c.in_default.not-TSMappedType;
-    } in
-    record {
-      goes = goes-refl w.made;
-      entering = λ ds p e outside within shown.
-          ap (λ new. acting ds w new) (sym (ap (λ j. declared_by j p) (ap (λ (n : Node). n.kind) e ∙ sym c.ty.ensures) ∙ nothing_entered c.ty.result p nothing));
-      opening = λ ds p own e inside within.
-          ap (λ new. acting ds w new) (sym (ap (λ j. declared_inside j p own) (ap (λ (n : Node). n.kind) e ∙ sym c.ty.ensures) ∙ nothing_opened c.ty.result p own nothing));
-    }
+pub returns-then-has_ids-clause-folds_inside : goal.returns-then-has_ids-clause-folds_inside
+returns-then-has_ids-clause-folds_inside c = λ ds p own st node inside within folded.
+    on_ok c.bind_node.result (c.bind_node.ensures.opening ds p own node inside within) (λ made.
+    folds_opening ds c.args.walk.now.made c.bind_node.new.self.made p own st (subst (λ n. n < length c.args.walk.now.made.tables.scopes) within.current c.has_ids.ensures.stands) (ap (λ (w : Walker). w.made) made) folded)

@@ -1,4 +1,4 @@
-use Rattle.std.proofs.Common.{◌≡◌, map, drop}
+use Rattle.std.proofs.Common.{◌≡◌, ◌+◌, ◌-◌, ◌^◌, ◌≤◌, length, map, drop}
 use Rattle.semantic_tree.specs.Forest.{count}
 use Rattle.semantic_tree.specs.Children.{forest_of}
 use Rattle.semantic_model.specs.Names.{bound_below, bound_names}
@@ -13,6 +13,7 @@ invariant-loop-role l = record {
   items : forest_of l.role-items ≡ l.part.node.now.children;
   rest : moving l.self (map (named_by l.function.node.now l.row l.is_pure) (bound_below l.part.node.now.kind (forest_of (drop l.role-index l.role-items))))
       ≡ moving l.initial.self (map (named_by l.function.node.now l.row l.is_pure) (bound_names l.part.node.now));
+  room : length l.self.made.tables.symbols + length (bound_below l.part.node.now.kind (forest_of (drop l.role-index l.role-items))) ≤ 2 ^ 32 - 1;
   goes : Goes l.initial.self.made l.self.made;
 }
 

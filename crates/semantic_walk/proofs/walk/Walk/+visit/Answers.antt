@@ -17,6 +17,7 @@ use Rattle.semantic_walk.specs.declared.visit.Turn.{Turn}
 use Rattle.table_building.proofs.Growing.{goes-refl, grows-trans}
 use Rattle.semantic_walk.proofs.TurnEnds.{on_ok}
 use Rattle.semantic_walk.proofs.Visiting.{Rests, rests_first, rests_past, walked, left_is, place_of, comes_to_child, holds_past, behind_child}
+use Rattle.semantic_walk.proofs.RoomAt.{may_enter, opens_for, opens_last}
 use Rattle.semantic_walk.proofs.Counting.{left_past, rests_so_far, rests_end, rests_child, rests_ending, on_err, on_success}
 use Rattle.semantic_walk.proofs.Leaves.{leaves, shows_rows}
 use Rattle.semantic_walk.proofs.walk.Walk.+visit.Goals as goal
@@ -83,6 +84,25 @@ loop-child_role-preserved g t c =
           rests_past ds c.args.self.now p own n child rest w v past c.finish_child.new.self c.loop-child_role.turn c.begin_child.new.turn c.args.steps.now c.loop-child_role.steps c.finish_child.new.steps h came.0 came.1 went ended asks;
     }
 
+-- there are ids for what is entered
+pub enter-requires : goal.enter-requires
+enter-requires g t c =
+    let r : IsSomewhere c.args.self.now c.args.kind.node.now c.args.role = c.requires in
+    may_enter r.ds c.args.self.now r.place r.own r.next c.args.kind.node.now r.node_is r.coming
+
+-- and for a scope that opens
+pub begin_child-requires-clause-ids : goal.begin_child-requires-clause-ids
+begin_child-requires-clause-ids g t c =
+    let r : IsSomewhere c.args.self.now c.args.kind.node.now c.args.role = c.requires in
+    let w : Walker = c.loop-child_role.self in
+    let rest : List (Role × Node) = c.in-Some.rest.now in
+    let child : Role × Node = (c.in-Some.field-0-0.now.0, c.new-child.result.node.now) in
+    let split : c.loop-child_role.left.now ≡ child ∷ rest = c.in-Some.ensures.cases.0 ∙ ap (λ (x : Node). (c.in-Some.field-0-0.now.0, x) ∷ rest) (sym c.new-child.ensures) in
+    let h : Rests r.ds c.args.self.now r.place r.own r.next c.args.steps.now c.loop-child_role.steps w c.loop-child_role.turn (forest_of (child ∷ rest)) =
+    subst (λ (xs : List (Role × Node)). Rests r.ds c.args.self.now r.place r.own r.next c.args.steps.now c.loop-child_role.steps w c.loop-child_role.turn (forest_of xs)) split
+    (c.loop-child_role.invariant.rests r.ds r.place r.own r.next r.node_is r.role_is r.coming) in
+    λ absent inside. opens_for r.ds w c.loop-child_role.turn r.place h.scope h.next h.cursor h.start child rest c.args.kind.node.now r.node_is h.between absent inside
+
 -- a child stands somewhere in the program in which its parent does
 pub visit-requires : goal.visit-requires
 visit-requires g t c =
@@ -130,6 +150,15 @@ leave-requires g t c =
 no_children : (items : List (Role × Node)) → length items ≡ 0 → forest_of items ≡ nothing
 no_children [] h = refl
 no_children (x ∷ xs) h = absurd (omega arith)
+
+pub open_last-requires-clause-ids : goal.open_last-requires-clause-ids
+open_last-requires-clause-ids g t c =
+    let r : IsSomewhere c.args.self.now c.args.kind.node.now c.args.role = c.requires in
+    let w : Walker = c.loop-child_role.self in
+    let h : Rests r.ds c.args.self.now r.place r.own r.next c.args.steps.now c.loop-child_role.steps w c.loop-child_role.turn nothing =
+    subst (λ (f : Forest). Rests r.ds c.args.self.now r.place r.own r.next c.args.steps.now c.loop-child_role.steps w c.loop-child_role.turn f) (no_children c.loop-child_role.left.now c.in_default.ensures.cases)
+    (c.loop-child_role.invariant.rests r.ds r.place r.own r.next r.node_is r.role_is r.coming) in
+    λ absent some. opens_last r.ds w c.loop-child_role.turn r.place h.scope h.next h.cursor h.start c.args.kind.node.now r.node_is h.between absent some
 
 pub returns-clause-walks : goal.returns-clause-walks
 returns-clause-walks g t c = λ ds p own n node role coming.

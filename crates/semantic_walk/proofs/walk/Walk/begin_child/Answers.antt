@@ -1,5 +1,6 @@
-use Rattle.std.proofs.Common.{◌∷◌}
+use Rattle.std.proofs.Common.{◌∷◌, sym, ◌∙◌}
 use Rattle.semantic_tree.specs.Children.{forest_of}
+use Rattle.semantic_walk.proofs.EvenNodes.{comes_alike}
 use Rattle.semantic_walk.proofs.Visiting.{stands_at_child}
 use Rattle.semantic_walk.proofs.walk.Walk.begin_child.Goals as goal
 
@@ -7,3 +8,8 @@ pub returns-clause-comes : goal.returns-clause-comes
 returns-clause-comes c = λ ds p own n cursor start rest node role between.
     let opens = c.in_ok-open_for.ensures.opens ds p own n cursor start (forest_of ((c.args.role, c.args.child.node.now) ∷ rest)) node role between in
     (stands_at_child ds p own n cursor start (c.args.role, c.args.child.node.now) rest c.args.parent.node.now c.args.self.now c.open_for.new.self c.come_to.new.self c.args.turn.now c.open_for.new.turn node between opens.0 opens.1 c.come_to.ensures.made, opens.1)
+
+pub returns-then-stands_alike-clause-comes : goal.returns-then-stands_alike-clause-comes
+returns-then-stands_alike-clause-comes c = λ ds p own n cursor start rest node role between.
+    comes_alike ds c.args.self.now c.args.turn.now p own n cursor start (forest_of ((c.args.role, c.args.child.node.now) ∷ rest)) c.args.parent.node.now c.args.role c.args.child.node.now
+    node (sym c.stands_alike.ensures ∙ c.if-stands_alike.true) between

@@ -1,12 +1,14 @@
-use Rattle.std.proofs.Common.{◌≡◌, None, ◌∙◌, ap, refl}
+use Rattle.std.proofs.Common.{◌≡◌, ℕ, Bool, true, false, ◌&&◌, cond, List, [], None, ◌∙◌, ap, refl}
 use Rattle.semantic_kinds.specs.declared.kind.AstType.TheVariants as kind
 use Rattle.semantic_syntax.specs.SourceTypes.{is_typescript_definition}
+use Rattle.semantic_syntax.specs.Tables.{Name}
 use Rattle.semantic_tree.specs.Faults.{first_fault}
 use Rattle.semantic_tree.specs.Tree.{Tree}
 use Rattle.semantic_tree.proofs.ShapedLaws.{IsShaped-no_fault}
 use Rattle.semantic_model.specs.Step.{root_place}
 use Rattle.walk_model.specs.Opens.{open_scope}
 use Rattle.walk_model.specs.Standing.{nothing_made}
+use Rattle.walk_model.specs.WrittenNames.{Written, is_written, is_sloppy, names_written}
 use Rattle.walk_model.proofs.RootSteps.{root_scope}
 use Rattle.walk_model.proofs.Seats.{root_is_program}
 use Rattle.walk_notes.specs.NoteLists.{nothing_noted}
@@ -28,3 +30,13 @@ returns-clause-begins c =
 
 pub returns-clause-states : goal.returns-clause-states
 returns-clause-states c = c.in_ok-states.ensures.searched
+
+-- where functions don't move, no name bars them
+barred_by : (ws : List Written) (sloppy : Bool) (opener : ℕ) (name : Name) → is_written (cond sloppy ws []) opener name ≡ (sloppy && is_written ws opener name)
+barred_by ws true opener name = refl
+barred_by ws false opener name = refl
+
+pub returns-clause-names : goal.returns-clause-names
+returns-clause-names c = λ opener name.
+    let program : Tree = c.args.program.now in
+    ap (λ (ws : List Written). is_written ws opener name) c.new-namesakes.ensures ∙ barred_by (names_written program) (is_sloppy program.source_type) opener name

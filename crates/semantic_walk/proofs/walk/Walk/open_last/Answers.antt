@@ -1,16 +1,13 @@
-use Rattle.std.proofs.Common.{◌≡◌, None, true, not, sym, ap, ◌∙◌}
-use Rattle.semantic_tree.specs.Forest.{nothing}
+use Rattle.std.proofs.Common.{◌≡◌, false, sym, ap, ◌∙◌}
 use Rattle.semantic_tree.specs.declared.node.Node.{Node}
-use Rattle.semantic_model.specs.Inside.{opens}
-use Rattle.semantic_walk.proofs.TurnEnds.{on_ok, none_there, stands_var, opened_last}
+use Rattle.walk_model.specs.Walks.{after_all}
+use Rattle.semantic_walk.specs.EvenKinds.{acts_between}
+use Rattle.semantic_walk.proofs.EvenNodes.{none_last}
 use Rattle.semantic_walk.proofs.walk.Walk.open_last.Goals as goal
 
-pub returns-then-opens-clause-ends : goal.returns-then-opens-clause-ends
-returns-then-opens-clause-ends c = λ ds p own n cursor start same in_role between.
+pub returns-else-acts_between-clause-ends : goal.returns-else-acts_between-clause-ends
+returns-else-acts_between-clause-ends c = λ ds p own n cursor start same in_role between.
     let w = c.args.self.now in
-    let turn = c.args.turn.now in
-    let absent : turn.own ≡ None = none_there turn.own (c.is_none.ensures ∙ ap not c.if-is_none.true) in
-    let some : opens p.node.kind ≡ true = ap (λ (x : Node). opens x.kind) same ∙ ap opens (sym c.ty.ensures) ∙ sym c.opens.ensures ∙ c.if-opens.true in
-    let var = stands_var ds w turn p n cursor start c.args.role nothing own between absent in
-    on_ok c.open_empty.result (c.open_empty.ensures.ends ds p same in_role between.within between.between.stands.chain var)
-    (λ ends. opened_last ds w turn p n cursor start own between absent some _ ends)
+    let even : acts_between p.node.kind ≡ false =
+    ap (λ (x : Node). acts_between x.kind) same ∙ ap acts_between (sym c.ty.ensures) ∙ sym c.acts_between.ensures ∙ c.if-acts_between.false in
+    λ i. record w { made = after_all ds w.made (sym (none_last p even own n) i) }

@@ -1,0 +1,91 @@
+-- Nodes where nothing happens, by their kinds.
+use Rattle.std.specs.Prelude.{Bool, true, false, ◌&&◌, not}
+use Rattle.semantic_kinds.specs.Roles.{same_role}
+use Rattle.semantic_kinds.specs.declared.kind.AstType.{AstType}
+use Rattle.semantic_kinds.specs.declared.kind.AstType.TheVariants as kind
+use Rattle.semantic_kinds.specs.declared.mark.Mark.TheVariants as mark
+use Rattle.semantic_kinds.specs.declared.role.Role.{Role}
+use Rattle.semantic_kinds.specs.declared.role.Role.TheVariants as role
+use Rattle.semantic_tree.specs.declared.node.Node.{Node}
+use Rattle.semantic_model.specs.Nodes.{has}
+
+-- whether something may be made or noted on entering a node of the kind
+abbrev pub acts_on_entering : AstType → Bool
+acts_on_entering kind.IdentifierReference = true
+acts_on_entering kind.PrivateIdentifier = true
+acts_on_entering kind.CatchParameter = true
+acts_on_entering kind.ContinueStatement = true
+acts_on_entering kind.BreakStatement = true
+acts_on_entering kind.LabeledStatement = true
+acts_on_entering kind.VariableDeclarator = true
+acts_on_entering kind.Function = true
+acts_on_entering kind.FormalParameter = true
+acts_on_entering kind.FormalParameterRest = true
+acts_on_entering kind.BindingRestElement = true
+acts_on_entering kind.Class = true
+acts_on_entering kind.ClassBody = true
+acts_on_entering kind.ImportSpecifier = true
+acts_on_entering kind.ImportDefaultSpecifier = true
+acts_on_entering kind.ImportNamespaceSpecifier = true
+acts_on_entering kind.CallExpression = true
+acts_on_entering kind.TSTypeParameter = true
+acts_on_entering kind.TSTypeAliasDeclaration = true
+acts_on_entering kind.TSInterfaceDeclaration = true
+acts_on_entering kind.TSEnumDeclaration = true
+acts_on_entering kind.TSEnumMember = true
+acts_on_entering kind.TSNamespaceDeclaration = true
+acts_on_entering kind.TSImportEqualsDeclaration = true
+acts_on_entering _ = false
+
+-- whether something may happen round a child of a node of the kind: a scope or a header, the cursor turns, or the child stands elsewhere
+abbrev pub acts_between : AstType → Bool
+acts_between kind.Program = true
+acts_between kind.Class = true
+acts_between kind.Function = true
+acts_between kind.ArrowFunctionExpression = true
+acts_between kind.BlockStatement = true
+acts_between kind.ForStatement = true
+acts_between kind.ForInStatement = true
+acts_between kind.ForOfStatement = true
+acts_between kind.SwitchStatement = true
+acts_between kind.WithStatement = true
+acts_between kind.CatchClause = true
+acts_between kind.StaticBlock = true
+acts_between kind.TSNamespaceDeclaration = true
+acts_between kind.TSExternalModuleDeclaration = true
+acts_between kind.TSGlobalDeclaration = true
+acts_between kind.TSTypeAliasDeclaration = true
+acts_between kind.TSInterfaceDeclaration = true
+acts_between kind.TSMethodSignature = true
+acts_between kind.TSMappedType = true
+acts_between kind.TSEnumBody = true
+acts_between kind.TSFunctionType = true
+acts_between kind.TSConstructorType = true
+acts_between kind.TSCallSignatureDeclaration = true
+acts_between kind.TSConstructSignatureDeclaration = true
+acts_between kind.TSConditionalType = true
+acts_between kind.MethodDefinition = true
+acts_between kind.PropertyDefinition = true
+acts_between kind.ExportNamedDeclaration = true
+acts_between kind.ExportDefaultDeclaration = true
+acts_between kind.ComputedMemberExpression = true
+acts_between kind.UnaryExpression = true
+acts_between kind.UpdateExpression = true
+acts_between kind.ConditionalExpression = true
+acts_between kind.AssignmentExpression = true
+acts_between kind.AssignmentTargetPropertyIdentifier = true
+acts_between kind.ArrayAssignmentTarget = true
+acts_between kind.TSTypeReference = true
+acts_between kind.TSQualifiedName = true
+acts_between kind.TSPropertySignature = true
+acts_between kind.TSInterfaceHeritage = true
+acts_between kind.TSClassImplements = true
+acts_between kind.TSImportEqualsDeclaration = true
+acts_between kind.TSExportAssignment = true
+acts_between kind.FormalParameter = true
+acts_between kind.FormalParameterRest = true
+acts_between _ = false
+
+-- whether a child in the role stands as its parent does: in its scope, under its cursor, and ambient as it is
+abbrev pub stands_alike : Node → Role → Bool
+stands_alike parent r = not (acts_between parent.kind) && not (same_role r role.Binding) && not (has mark.Declare parent)

@@ -1,0 +1,107 @@
+//! Nodes where nothing happens, by their kinds: most nodes only carry what is below them.
+
+ghost use Rattle.std.specs.Prelude.{◌≡◌};
+ghost use Rattle.semantic_walk.specs.EvenKinds.{acts_on_entering, acts_between, stands_alike};
+
+use semantic_tree::{AstKind, AstType, Mark, Role};
+
+/// Whether something may be made or noted on entering a node of the kind: it refers to a name, may call `eval`, declares
+/// names, or has a label or a part in a class.
+#[inline(always)]
+pub(crate) fn acts_on_entering(kind: AstType) -> bool
+    ensures { result ≡ acts_on_entering kind }
+{
+    matches!(
+        kind,
+        AstType::IdentifierReference
+            | AstType::PrivateIdentifier
+            | AstType::CatchParameter
+            | AstType::ContinueStatement
+            | AstType::BreakStatement
+            | AstType::LabeledStatement
+            | AstType::VariableDeclarator
+            | AstType::Function
+            | AstType::FormalParameter
+            | AstType::FormalParameterRest
+            | AstType::BindingRestElement
+            | AstType::Class
+            | AstType::ClassBody
+            | AstType::ImportSpecifier
+            | AstType::ImportDefaultSpecifier
+            | AstType::ImportNamespaceSpecifier
+            | AstType::CallExpression
+            | AstType::TSTypeParameter
+            | AstType::TSTypeAliasDeclaration
+            | AstType::TSInterfaceDeclaration
+            | AstType::TSEnumDeclaration
+            | AstType::TSEnumMember
+            | AstType::TSNamespaceDeclaration
+            | AstType::TSImportEqualsDeclaration
+    )
+}
+
+/// Whether something may happen round a child of a node of the kind: a scope opens or closes, a header ends, the cursor
+/// turns, or the child stands elsewhere.
+#[inline(always)]
+pub(crate) fn acts_between(kind: AstType) -> bool
+    ensures { result ≡ acts_between kind }
+{
+    match kind {
+        // A scope opens.
+        AstType::Program
+        | AstType::Class
+        | AstType::Function
+        | AstType::ArrowFunctionExpression
+        | AstType::BlockStatement
+        | AstType::ForStatement
+        | AstType::ForInStatement
+        | AstType::ForOfStatement
+        | AstType::SwitchStatement
+        | AstType::WithStatement
+        | AstType::CatchClause
+        | AstType::StaticBlock
+        | AstType::TSNamespaceDeclaration
+        | AstType::TSExternalModuleDeclaration
+        | AstType::TSGlobalDeclaration
+        | AstType::TSTypeAliasDeclaration
+        | AstType::TSInterfaceDeclaration
+        | AstType::TSMethodSignature
+        | AstType::TSMappedType
+        | AstType::TSEnumBody
+        | AstType::TSFunctionType
+        | AstType::TSConstructorType
+        | AstType::TSCallSignatureDeclaration
+        | AstType::TSConstructSignatureDeclaration
+        | AstType::TSConditionalType => true,
+        // The cursor turns.
+        AstType::MethodDefinition
+        | AstType::PropertyDefinition
+        | AstType::ExportNamedDeclaration
+        | AstType::ExportDefaultDeclaration
+        | AstType::ComputedMemberExpression
+        | AstType::UnaryExpression
+        | AstType::UpdateExpression
+        | AstType::ConditionalExpression
+        | AstType::AssignmentExpression
+        | AstType::AssignmentTargetPropertyIdentifier
+        | AstType::ArrayAssignmentTarget
+        | AstType::TSTypeReference
+        | AstType::TSQualifiedName
+        | AstType::TSPropertySignature
+        | AstType::TSInterfaceHeritage
+        | AstType::TSClassImplements
+        | AstType::TSImportEqualsDeclaration
+        | AstType::TSExportAssignment => true,
+        // Decorators stand outside.
+        AstType::FormalParameter | AstType::FormalParameterRest => true,
+        _ => false,
+    }
+}
+
+/// Whether a child in the role stands as its parent does: in its scope, under its cursor, and ambient as it is.
+#[inline(always)]
+pub(crate) fn stands_alike(parent: AstKind<'_>, role: Role) -> bool
+    ensures { result ≡ stands_alike parent.entry.node.now role }
+{
+    !acts_between(parent.ty()) && role != Role::Binding && !parent.has_mark(Mark::Declare)
+}
