@@ -20,7 +20,7 @@ use semantic_tree::{AstKind, AstType};
 /// is left.
 #[derive(Drop)]
 pub struct CheckContext<'a, 'n> {
-    /// The source of the program.
+    /// The source of the program, which spans point into.
     pub source_text: &'a str,
     pub source_type: SourceType,
     /// The scopes, symbols and references so far.
@@ -47,7 +47,7 @@ impl<'a, 'n> CheckContext<'a, 'n> {
         self.ancestry.above()
     }
 
-    /// The node around.
+    /// The node around, if this isn't the root.
     pub fn parent(&self) -> Option<AstKind<'a>>
         requires { IsContext self.now }
         ensures { option_map shown result ≡ parent (around self.now) }
@@ -81,7 +81,7 @@ impl<'a, 'n> CheckContext<'a, 'n> {
         false
     }
 
-    /// What the scope is where the node stands.
+    /// The flags of the scope where the node stands.
     fn scope_flags(&self) -> ScopeFlags
         requires { IsContext self.now }
         ensures { result ≡ (scope_of self.now.scoping.now self.now.current_scope_id).flags }
@@ -89,7 +89,7 @@ impl<'a, 'n> CheckContext<'a, 'n> {
         self.scoping.scope_flags(self.current_scope_id)
     }
 
-    /// Whether the code is strict.
+    /// Whether the code is strict (ECMAScript 11.2.2, Strict Mode Code).
     #[tactic(auto, using(crate::proofs::Outward::here))]
     pub fn is_strict(&self) -> bool
         requires { IsContext self.now }
@@ -107,7 +107,7 @@ impl<'a, 'n> CheckContext<'a, 'n> {
         self.scope_flags().is_function()
     }
 
-    /// Whether the scope is the root.
+    /// Whether the node stands in the root's scope.
     #[tactic(auto, using(crate::proofs::Outward::here))]
     pub fn is_at_top(&self) -> bool
         requires { IsContext self.now }
@@ -125,7 +125,7 @@ impl<'a, 'n> CheckContext<'a, 'n> {
         self.scope_flags().is_class_static_block()
     }
 
-    /// The node that opens the scope.
+    /// The node that opens the scope where the node stands.
     pub fn scope_node(&self) -> NodeId
         requires { IsContext self.now }
         ensures { result ≡ (scope_of self.now.scoping.now self.now.current_scope_id).node }
@@ -160,7 +160,8 @@ impl<'a, 'n> CheckContext<'a, 'n> {
         flags.is_class_static_block() || flags.is_function()
     }
 
-    /// Whether the nearest scope outward that is a static block's or a function's is a static block's.
+    /// Whether the nearest scope outward that is a static block's or a function's is a static block's (ECMAScript
+    /// 15.7.1, Contains, which doesn't look for `await` in functions).
     pub fn is_in_static_block(&self) -> bool
         requires { IsContext self.now }
         ensures { result ≡ is_in_static_block (around self.now) }

@@ -7,7 +7,7 @@ use crate::context::CheckContext;
 use node_rules::questions::reads;
 use semantic_tree::{AstKind, AstType};
 
-/// Whether the node is a function that is declared.
+/// Whether the node is a function that is declared, and no expression.
 pub fn is_declared_function(kind: AstKind<'_>) -> bool
     ensures { result ≡ rows.is_declared_function kind.entry.node.now }
 {

@@ -17,7 +17,7 @@ use semantic_diagnostics::Diagnostics;
 use semantic_tree::{AstKind, AstType, Role};
 use std::alloc::{AllocError, Global};
 
-/// A binding identifier.
+/// What the rules tell of a binding identifier (ECMAScript 13.1.1).
 fn check_binding_name(
     alloc: Global,
     kind: AstKind<'_>,
@@ -31,7 +31,7 @@ fn check_binding_name(
     javascript::check_binding_identifier(alloc, kind, ctx, out)
 }
 
-/// An identifier reference.
+/// What the rules tell of an identifier reference (ECMAScript 13.1.1, 13.1.3).
 fn check_reference_name(
     alloc: Global,
     kind: AstKind<'_>,
@@ -45,7 +45,7 @@ fn check_reference_name(
     javascript::check_identifier_reference(alloc, kind, ctx, out)
 }
 
-/// A `with`.
+/// What the rules tell of a `with`, its body first (ECMAScript 14.11.1).
 fn check_with(
     alloc: Global,
     kind: AstKind<'_>,
@@ -59,7 +59,7 @@ fn check_with(
     javascript::check_with_statement(alloc, kind, ctx, out)
 }
 
-/// An `if`.
+/// What the rules tell of an `if`, whose branches may be functions in sloppy code (ECMAScript, Annex B.3.3).
 fn check_if(
     alloc: Global,
     kind: AstKind<'_>,
@@ -73,7 +73,7 @@ fn check_if(
     check_body(alloc, kind, Role::Alternate, true, ctx, out)
 }
 
-/// A label.
+/// What the rules tell of a labelled statement (ECMAScript 14.13.1).
 fn check_label(
     alloc: Global,
     kind: AstKind<'_>,
@@ -87,7 +87,7 @@ fn check_label(
     check_labelled_body(alloc, kind, ctx, out)
 }
 
-/// A `for-in`.
+/// What the rules tell of a `for-in` (ECMAScript 14.7.5.1, Annex B.3.5).
 fn check_for_in(
     alloc: Global,
     kind: AstKind<'_>,
@@ -101,7 +101,7 @@ fn check_for_in(
     check_left(alloc, kind, true, ctx, out)
 }
 
-/// The body of a `for-of`, and its `await`.
+/// What the rules tell of the body of a `for-of` (ECMAScript 14.7.5), and of its `await` (15.7.1).
 fn check_for_of_body(
     alloc: Global,
     kind: AstKind<'_>,
@@ -115,7 +115,7 @@ fn check_for_of_body(
     javascript::check_for_of_statement(alloc, kind, ctx, out)
 }
 
-/// A `for-of`.
+/// What the rules tell of a `for-of` (ECMAScript 14.7.5.1).
 fn check_for_of(
     alloc: Global,
     kind: AstKind<'_>,
@@ -129,7 +129,7 @@ fn check_for_of(
     check_left(alloc, kind, false, ctx, out)
 }
 
-/// A class in JavaScript and TypeScript alike.
+/// What the rules of JavaScript tell of a class, in TypeScript too (ECMAScript 15.7.1).
 fn check_javascript_class(
     alloc: Global,
     kind: AstKind<'_>,
@@ -143,7 +143,7 @@ fn check_javascript_class(
     javascript::check_class_redeclaration(alloc, kind, ctx, out)
 }
 
-/// A class.
+/// What the rules tell of a class, those of TypeScript last.
 fn check_whole_class(
     alloc: Global,
     kind: AstKind<'_>,

@@ -12,7 +12,7 @@ use semantic_diagnostics::Diagnostics;
 use semantic_tree::{AstKind, Role};
 use std::alloc::{AllocError, Global};
 
-/// The name that the node is.
+/// What the rules tell of the name that the node is (ECMAScript 13.1.1).
 pub(crate) fn check_own_name(
     alloc: Global,
     kind: AstKind<'_>,
@@ -25,7 +25,8 @@ pub(crate) fn check_own_name(
     javascript::check_identifier(alloc, kind.text(), kind.span(), ctx, out)
 }
 
-/// The child in the role, which is the body of a statement, under `if` or not.
+/// What the rules tell of the child in the role, which is the body of a statement, under `if` or not (ECMAScript
+/// 14.6, 14.7, Annex B.3.3).
 pub(crate) fn check_body(
     alloc: Global,
     kind: AstKind<'_>,
@@ -43,7 +44,7 @@ pub(crate) fn check_body(
     }
 }
 
-/// The body of a label.
+/// What the rules tell of the body of a label (ECMAScript 14.13.1, Annex B.3.1).
 pub(crate) fn check_labelled_body(
     alloc: Global,
     kind: AstKind<'_>,
@@ -61,7 +62,7 @@ pub(crate) fn check_labelled_body(
     }
 }
 
-/// The left of a loop, by both languages.
+/// What the rules of both languages tell of the left of a loop (ECMAScript 14.7.5.1).
 fn check_left_child(
     alloc: Global,
     left: AstKind<'_>,
@@ -76,7 +77,7 @@ fn check_left_child(
     typescript::check_for_statement_left(alloc, left, for_in, ctx, out)
 }
 
-/// The left of a loop, if it has one.
+/// What the rules tell of the left of a loop, if it has one.
 pub(crate) fn check_left(
     alloc: Global,
     kind: AstKind<'_>,

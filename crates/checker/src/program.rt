@@ -14,7 +14,7 @@ use semantic_diagnostics::Diagnostics;
 use semantic_tree::AstKind;
 use std::alloc::{AllocError, Global};
 
-/// The elements of its classes, and what it exports.
+/// What the rules tell of the elements of a program's classes (ECMAScript 15.7.1), and of what it exports (16.2.1.1).
 fn check_elements_and_exports(
     alloc: Global,
     kind: AstKind<'_>,
@@ -28,7 +28,7 @@ fn check_elements_and_exports(
     javascript::check_unresolved_exports(alloc, kind, ctx, out)
 }
 
-/// The same, and what it imports.
+/// The same, and of what it imports (ECMAScript 16.2.2.1, 16.2.1.1).
 fn check_names(
     alloc: Global,
     kind: AstKind<'_>,
@@ -42,7 +42,7 @@ fn check_names(
     javascript::check_import_value_redeclarations(alloc, ctx, out)
 }
 
-/// A program.
+/// What the rules tell of a whole program, on leaving its root.
 pub(crate) fn check_program(
     alloc: Global,
     kind: AstKind<'_>,

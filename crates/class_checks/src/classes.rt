@@ -24,7 +24,8 @@ use semantic_syntax::SymbolFlags;
 use semantic_tree::{AstKind, AstType, Role};
 use std::alloc::{AllocError, Global};
 
-/// Whether a class is declared without a name, elsewhere than as the default export.
+/// Whether a class is declared without a name, elsewhere than as the default export (ECMAScript 15.7, Class
+/// Definitions).
 fn lacks_name(kind: AstKind<'_>, ctx: &CheckContext<'_, '_>) -> bool
     requires { IsContext ctx.now }
     ensures { result ≡ (has_text (codes "declaration") kind.entry.node.now && not (has_child roles.Id kind.entry.node.now || is_under kinds.ExportDefaultDeclaration (around ctx.now))) }
@@ -105,7 +106,8 @@ fn tell_redeclaration(
     out.push(redeclaration(alloc, text.as_str(), before.span, ident.span())?)
 }
 
-/// A class doesn't declare a function's name again, in JavaScript (ECMAScript 14.2.1, 16.1.1).
+/// A class doesn't declare a function's name again, in JavaScript (ECMAScript 14.2.1, 16.1.1,
+/// LexicallyDeclaredNames).
 #[tactic(auto, using(check_context::proofs::Telling::telling))]
 pub fn check_class_redeclaration<'a>(
     alloc: Global,

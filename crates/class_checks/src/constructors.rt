@@ -53,7 +53,7 @@ fn member_span(member: AstKind<'_>) -> Span
     }
 }
 
-/// Tells of the second constructor with a body.
+/// Tells of the second constructor with a body (ECMAScript 15.7.1, PrototypePropertyNameList).
 #[tactic(auto, using(check_context::proofs::Telling::telling))]
 pub(crate) fn tell_constructors(
     alloc: Global,

@@ -39,7 +39,7 @@ fn first_of<'n, 'a>(
 }
 
 impl<'n, 'a> EarlierElements<'n, 'a> {
-    /// No elements.
+    /// There is no earlier element yet.
     pub(crate) fn new(alloc: Global) -> EarlierElements<'n, 'a>
         ensures { result ≡ earlier_of [] }
     {

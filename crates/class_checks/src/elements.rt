@@ -33,7 +33,7 @@ fn share_static(before: &Element<'_>, own: &Element<'_>) -> bool
     before.is_static == own.is_static
 }
 
-/// Whether two elements are a getter and a setter that belong together.
+/// Whether two elements are a getter and a setter that belong together (ECMAScript 15.7.1, PrivateBoundIdentifiers).
 fn are_halves(before: &Element<'_>, own: &Element<'_>) -> bool
     ensures { result ≡ rows.are_halves (element_seen before.now) (element_seen own.now) }
 {
@@ -47,7 +47,7 @@ fn clash(in_typescript: bool, before: &Element<'_>, own: &Element<'_>) -> bool
     !are_halves(before, own) && (own.is_private || (in_typescript && share_static(before, own)))
 }
 
-/// Whether one of two private elements in TypeScript is static, and the other isn't.
+/// Whether one of two private elements in TypeScript is static, and the other isn't (`TS(2804)`).
 fn are_mixed(in_typescript: bool, before: &Element<'_>, own: &Element<'_>) -> bool
     ensures { result ≡ (own.now.is_private && (in_typescript && not (rows.same_truth before.now.is_static own.now.is_static))) }
 {
@@ -171,8 +171,8 @@ fn tell_classes(
 }
 
 /// The elements of a class don't clash: of private names there is one element, or a getter and a setter that are both
-/// static or both not (ECMAScript 15.7.1, PrivateBoundIdentifiers; TypeScript 2804), and in TypeScript the same holds
-/// of public names (2300). The context is that of the program. Each class takes one pass.
+/// static or both not (ECMAScript 15.7.1, PrivateBoundIdentifiers; `TS(2804)`), and in TypeScript the same holds of
+/// public names (TypeScript 2300). The context is that of the program. Each class takes one pass.
 #[tactic(auto, using(check_context::proofs::Telling::telling))]
 pub fn check_duplicate_class_elements<'a>(
     alloc: Global,

@@ -34,7 +34,7 @@ fn spell(text: &str)
 {}
 
 impl<'n, 'a> LastByName<'n, 'a> {
-    /// No elements.
+    /// No element has a name yet.
     pub(crate) fn new(alloc: Global) -> LastByName<'n, 'a>
         ensures { result ≡ [] }
     {

@@ -26,7 +26,8 @@ fn attest_around(class: ClassId, classes: &ClassTable<'_>)
     let _count = classes.parent_ids.len();
 }
 
-/// Whether the class or one around it defines the private name, by a look-up in each.
+/// Whether the class or one around it defines the private name, by a look-up in each (ECMAScript 15.7.1,
+/// AllPrivateIdentifiersValid).
 fn is_defined(name: Ident<'_>, class: ClassId, classes: &ClassTable<'_>) -> bool
     requires { class < length classes.now.nodes }
     ensures { result ≡ list_any (rows.defines_private (chars name.entry.text.now)) (classes_from classes.now (Some class)) }

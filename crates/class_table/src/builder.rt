@@ -25,7 +25,8 @@ pub struct ClassTableBuilder<'a> {
     pub classes: ClassTable<'a>,
 }
 
-/// Whether a private identifier under such a node uses an element.
+/// Whether a private identifier under such a node uses an element (ECMAScript 15.7.1, AllPrivateIdentifiersValid):
+/// behind a dot, or before a private `in`.
 fn uses_under(parent: AstType) -> bool
     ensures { result ≡ uses_under parent }
 {
@@ -44,7 +45,7 @@ impl<'a> ClassTableBuilder<'a> {
         }
     }
 
-    /// The classes.
+    /// Hands out the classes that are noted.
     pub fn build(self) -> ClassTable<'a>
         ensures { result ≡ self.entry.classes }
     {

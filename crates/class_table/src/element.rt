@@ -10,11 +10,11 @@ use semantic_tree::StaticPropertyName;
 /// An element of a class: a method, a property or an accessor.
 #[derive(Drop)]
 pub struct Element<'a> {
-    /// The name of its key.
+    /// The name of its key (ECMAScript 8.6.5, PropName).
     pub name: StaticPropertyName<'a>,
     /// Where its key stands in the source, in bytes.
     pub span: Span,
-    /// Whether its key is a private identifier.
+    /// Whether its key is a private identifier (ECMAScript 15.7.1, PrivateBoundIdentifiers).
     pub is_private: bool,
     /// Whether it is marked `static`.
     pub is_static: bool,
@@ -22,7 +22,7 @@ pub struct Element<'a> {
 }
 
 impl<'a> Element<'a> {
-    /// An element of these parts.
+    /// The element of a class with these parts.
     pub fn new(
         name: StaticPropertyName<'a>,
         span: Span,

@@ -20,7 +20,7 @@ impl Model for ElementIds {
 }
 
 impl ElementIds {
-    /// No elements.
+    /// The name means no element yet.
     pub fn new(alloc: Global) -> ElementIds
         ensures { result ≡ [] }
     {

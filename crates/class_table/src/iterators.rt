@@ -84,7 +84,7 @@ impl<'n> Model for PrivateUses<'n> {
 }
 
 impl<'n> PrivateUses<'n> {
-    /// All of some uses.
+    /// The uses in a list, from the first on.
     pub(crate) fn new(uses: &'n [PrivateIdentifierReference<'n>]) -> PrivateUses<'n>
         ensures { result ≡ map use_seen uses.now }
     {

@@ -1,4 +1,5 @@
-//! The classes of a program, with their elements and the uses of private names in them.
+//! The classes of a program, with their elements and the uses of private names in them (ECMAScript 15.7.1,
+//! PrivateBoundIdentifiers and AllPrivateIdentifiersValid).
 #![tactic(auto)]
 
 pub mod ancestors;

@@ -50,7 +50,8 @@ fn method_kind(member: AstKind<'_>) -> ElementKind
     }
 }
 
-/// The element of the kind with the name and the span of the member's key, if that has a name.
+/// The element of the kind with the name and the span of the member's key, if that has a name without running code
+/// (ECMAScript 8.6.5, PropName).
 fn element_with<'a>(kind: ElementKind, member: AstKind<'a>) -> Option<Element<'a>>
     ensures { option_map element_seen result ≡ element_with kind.bits member.entry.node.now }
 {
@@ -66,7 +67,7 @@ fn element_with<'a>(kind: ElementKind, member: AstKind<'a>) -> Option<Element<'a
     ))
 }
 
-/// The element of a method; a constructor and a method without body have none.
+/// The element of a method; a constructor (ECMAScript's ConstructorMethod) and a method without body have none.
 fn element_of_method<'a>(member: AstKind<'a>) -> Option<Element<'a>>
     ensures { option_map element_seen result ≡ element_of_method member.entry.node.now }
 {

@@ -60,7 +60,7 @@ fn with_more(meaning: Option<Meaning>, number: u32, stands_alone: bool) -> Meani
 }
 
 impl<'a> MeantNames<'a> {
-    /// No names.
+    /// No element has a name yet.
     pub(crate) fn new(alloc: Global) -> MeantNames<'a>
         ensures { result ≡ [] }
     {

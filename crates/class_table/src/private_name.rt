@@ -1,4 +1,4 @@
-//! The uses of private names.
+//! The uses of private names (ECMAScript 15.7.1, AllPrivateIdentifiersValid).
 ghost use Rattle.std.specs.Prelude.{◌≡◌};
 ghost use Rattle.std.specs.Str.{chars};
 ghost use Rattle.class_table.specs.Seen.{use_seen};
@@ -19,7 +19,7 @@ pub struct PrivateIdentifierReference<'a> {
 }
 
 impl<'a> PrivateIdentifierReference<'a> {
-    /// A use of these parts.
+    /// The use of a private name with these parts.
     pub fn new(
         id: NodeId,
         name: Ident<'a>,

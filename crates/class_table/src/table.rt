@@ -48,7 +48,7 @@ impl<'a> Model for ClassTable<'a> {
 }
 
 impl<'a> ClassTable<'a> {
-    /// A table without classes.
+    /// A table that has no class yet.
     pub fn new(alloc: Global) -> ClassTable<'a>
         ensures { result ≡ no_classes }
     {
@@ -68,7 +68,7 @@ impl<'a> ClassTable<'a> {
         self.declarations.len()
     }
 
-    /// The node of a class.
+    /// The node that the class was declared with.
     pub fn get_node_id(&self, c: ClassId) -> NodeId
         requires { c < length self.now.nodes }
         ensures { result ≡ slice_index self.now.nodes c }
@@ -136,7 +136,7 @@ impl<'a> ClassTable<'a> {
         self.names[c.index()].ids_meant(alloc, name, is_private)
     }
 
-    /// Whether the class itself has a private element of the name.
+    /// Whether the class itself has a private element of the name (ECMAScript 15.7.1, PrivateBoundIdentifiers).
     pub fn has_private_definition(&self, c: ClassId, name: Ident<'_>) -> bool
         requires { c < length self.now.nodes }
         ensures { result ≡ list_any (is_named (chars name.entry.text.now) true) (elements_in self.now c) }

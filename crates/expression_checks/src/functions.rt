@@ -24,7 +24,7 @@ use semantic_tree::{AstKind, Mark, Role};
 use std::alloc::{AllocError, Global};
 
 /// Whether the scope lets functions be declared again, as `var` does: a function's, a static block's, and the root of
-/// what is no module.
+/// what is no module (ECMAScript 8.2.10, TopLevelVarDeclaredNames).
 fn lets_functions_redeclare(ctx: &CheckContext<'_, '_>) -> bool
     requires { IsContext ctx.now }
     ensures { result ≡ rows.lets_functions_redeclare (around ctx.now) }
@@ -58,7 +58,7 @@ fn is_plain(kind: AstKind<'_>) -> bool
     !(kind.has_mark(Mark::Async) || kind.has_mark(Mark::Generator))
 }
 
-/// Whether the function is a plain one in sloppy code, as the declaration before it is.
+/// Whether the function is a plain one in sloppy code, as the declaration before it is (ECMAScript, Annex B.3.2.4).
 fn is_sloppy_repeat(kind: AstKind<'_>, before: &Redeclaration, ctx: &CheckContext<'_, '_>) -> bool
     requires { IsContext ctx.now }
     ensures { result ≡ rows.is_sloppy_repeat (sight kind.entry.node.now ctx.now) before.now }
@@ -107,7 +107,7 @@ fn tell_again(
 }
 
 /// Tells of a plain function in sloppy code that repeats one: it may repeat plain functions alone (ECMAScript, Annex
-/// B.3.2.4).
+/// B.3.2.4, Changes to Block Static Semantics: Early Errors).
 #[tactic(auto, using(check_context::proofs::Telling::telling))]
 fn tell_sloppy_repeat(
     alloc: Global,

@@ -18,7 +18,7 @@ use semantic_kinds::class::is_word;
 use semantic_tree::{AstKind, AstType, ChildIter, Mark, Role};
 use std::alloc::{AllocError, Global};
 
-/// Whether the property is written out: a key, a colon and a value.
+/// Whether the property is written out: a key, a colon and a value (ECMAScript 13.2.5.1).
 fn is_written_out(property: AstKind<'_>) -> bool
     ensures { result ≡ rows.is_written_out property.entry.node.now }
 {
@@ -59,7 +59,7 @@ struct ProtoKeys<'a> {
 }
 
 impl<'a> ProtoKeys<'a> {
-    /// Those of an object.
+    /// The keys of the object that set its prototype, of which none is taken yet.
     fn new(object: AstKind<'a>) -> ProtoKeys<'a>
         ensures { keys_left result ≡ filter_map rows.proto_key (all_in roles.Properties object.entry.node.now) }
     {
@@ -68,7 +68,7 @@ impl<'a> ProtoKeys<'a> {
         }
     }
 
-    /// The next of them.
+    /// The next key that sets the prototype.
     fn next(&mut self) -> Option<AstKind<'a>>
         ensures { YieldsFirstBy shown keys_left self.old result self.new }
     {

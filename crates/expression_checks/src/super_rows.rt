@@ -74,7 +74,7 @@ fn node_of_kept<'a>(
     }
 }
 
-/// Tells of a `super` that is called in a class without heritage.
+/// Tells of a `super` that is called in a class without heritage (ECMAScript 15.7.1, HasDirectSuper).
 #[tactic(auto, using(check_context::proofs::Telling::telling))]
 fn tell_underived(
     alloc: Global,
@@ -132,7 +132,7 @@ fn tell_verdict<'a>(
 }
 
 /// `super` stands in a method or a field, and its call in the constructor of a derived class (ECMAScript 15.7.1,
-/// 13.2.5.1, 15.2.1; TypeScript 2337).
+/// 13.2.5.1, HasDirectSuper; 15.2.1; `TS(2337)`).
 #[tactic(auto, using(check_context::proofs::Telling::telling))]
 pub fn check_super<'a>(
     alloc: Global,

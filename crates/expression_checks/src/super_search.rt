@@ -30,7 +30,7 @@ struct Searching<'n, 'a> {
 }
 
 impl<'n, 'a> Searching<'n, 'a> {
-    /// A search that begins.
+    /// A search that begins at the `super`, in the current class.
     fn new(kind: AstKind<'a>, ctx: &CheckContext<'a, 'n>) -> Searching<'n, 'a>
         requires { IsContext ctx.now }
         ensures searching { IsSearching kind.entry.node.now ctx.now result }

@@ -95,7 +95,7 @@ fn tell_in_parameter<'a>(
     tell_keyword_if(alloc, is_there, keyword, kind.span(), out)
 }
 
-/// Tells of `await` in a static block.
+/// Tells of `await` in a static block (ECMAScript 15.7.1, Contains `await`).
 #[tactic(auto, using(check_context::proofs::Telling::telling))]
 fn tell_in_block<'a>(
     alloc: Global,
@@ -113,7 +113,8 @@ fn tell_in_block<'a>(
     }
 }
 
-/// Parameters and static blocks don't await (ECMAScript 15.8.1, 15.9.1, 15.7.1).
+/// Parameters and static blocks don't await (ECMAScript 15.8.1, 15.9.1, Contains AwaitExpression; 15.7.1, Contains
+/// `await`).
 #[tactic(auto, using(check_context::proofs::Telling::telling))]
 pub fn check_await_expression<'a>(
     alloc: Global,
@@ -128,7 +129,7 @@ pub fn check_await_expression<'a>(
     tell_in_block(alloc, kind, ctx, out)
 }
 
-/// Parameters don't yield (ECMAScript 15.5.1).
+/// Parameters don't yield (ECMAScript 15.5.1, Contains YieldExpression).
 #[tactic(auto, using(check_context::proofs::Telling::telling))]
 pub fn check_yield_expression<'a>(
     alloc: Global,

@@ -1,4 +1,4 @@
-//! What a function decides about the `super` in it.
+//! What a function decides about the `super` in it (ECMAScript 15.7.1, 13.2.5.1, HasDirectSuper; 15.2.1).
 ghost use Rattle.std.specs.Prelude.{◌≡◌, ◌<◌, ◌==◌, ◌||◌, if◌then◌else◌, Some, None, codes, length, not, option_map, find};
 ghost use Rattle.semantic_syntax.specs.Sets.{meets};
 ghost use Rattle.semantic_syntax.specs.declared.scope_flags.TheConstants.ScopeFlags as scope;
@@ -62,7 +62,8 @@ fn is_object_method(property: AstKind<'_>) -> bool
         && (property.has_mark(Mark::Method) || reads(property, "get") || reads(property, "set"))
 }
 
-/// What the function of a method of a class decides: constructors alone allow the call.
+/// What the function of a method of a class decides: constructors alone allow the call (ECMAScript 15.7.1,
+/// HasDirectSuper).
 fn method_verdict(method: AstKind<'_>, ctx: &CheckContext<'_, '_>) -> Verdict
     requires { IsContext ctx.now }
     ensures { verdict_shown result ≡ (if not (rows.is_call (around ctx.now)) then rows.allowed else (if has_text (codes "constructor") method.entry.node.now then rows.allowed_in_derived else rows.refused)) }
@@ -77,7 +78,7 @@ fn method_verdict(method: AstKind<'_>, ctx: &CheckContext<'_, '_>) -> Verdict
 }
 
 /// What a function decides that is reached from the node around it: methods of objects and of classes alone allow
-/// `super`.
+/// `super` (ECMAScript 13.2.5.1, 15.7.1, 15.2.1).
 fn function_verdict(
     function: AstKind<'_>,
     owner: AstKind<'_>,

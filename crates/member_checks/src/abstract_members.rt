@@ -20,7 +20,7 @@ fn is_property(member: AstKind<'_>) -> bool
     )
 }
 
-/// Tells of a member that is abstract.
+/// Tells of a member that is abstract (`TS(1253)` of a property, else `TS(1244)`).
 #[tactic(auto, using(check_context::proofs::Telling::telling))]
 fn tell_abstract(
     alloc: Global,

@@ -86,7 +86,7 @@ fn has_overload(before: Option<AstKind<'_>>, member: AstKind<'_>) -> bool
     }
 }
 
-/// Tells of a method or a constructor without body.
+/// Tells of a method or a constructor without body (`TS(2391)`, `TS(2390)`).
 #[tactic(auto, using(check_context::proofs::Telling::telling))]
 fn tell_missing(
     alloc: Global,

@@ -44,8 +44,8 @@ fn tell_bodies(
     }
 }
 
-/// A class that is not abstract has no abstract members, and code that is not ambient has a body for each method, behind
-/// its overloads (TypeScript 1244, 1253, 2390, 2391).
+/// A class that is not abstract has no abstract members (`TS(1244)`, `TS(1253)`), and code that is not ambient has a
+/// body for each method, behind its overloads (`TS(2390)`, `TS(2391)`).
 #[tactic(auto, using(check_context::proofs::Telling::telling))]
 pub fn check_class<'a>(
     alloc: Global,

@@ -29,7 +29,7 @@ fn is_parameter_property(item: AstKind<'_>) -> bool
         || item.has_mark(Mark::Override)
 }
 
-/// Tells of a parameter that is a property of the class too.
+/// Tells of a parameter that is a property of the class too (`TS(2369)`).
 #[tactic(auto, using(check_context::proofs::Telling::telling))]
 fn tell_parameter(alloc: Global, item: AstKind<'_>, out: &mut Diagnostics) -> Result<(), AllocError>
     ensures { Tells result (rows.parameter_rows item.entry.node.now) out.old out.new }
@@ -121,8 +121,8 @@ fn tell_bodiless(
     tell_accessor(alloc, kind, ctx, out)
 }
 
-/// A constructor without body has no parameter properties (TypeScript 2369), and an accessor that is neither abstract
-/// nor ambient has a body (TypeScript 1005).
+/// A constructor without body has no parameter properties (`TS(2369)`), and an accessor that is neither abstract nor
+/// ambient has a body (TypeScript 1005).
 #[tactic(auto, using(check_context::proofs::Telling::telling))]
 pub fn check_method_definition<'a>(
     alloc: Global,

@@ -16,7 +16,7 @@ use semantic_diagnostics::makers::undefined_export;
 use semantic_tree::{AstKind, AstType, Role};
 use std::alloc::{AllocError, Global};
 
-/// Whether an exported name is declared nowhere.
+/// Whether an exported name is declared nowhere (ECMAScript 16.2.1.1, ExportedBindings).
 fn is_undefined(local: AstKind<'_>, ctx: &CheckContext<'_, '_>) -> bool
     requires { IsDistinct nat_eq (keys_of ctx.now.tables.now.references) }
     ensures { let node = local.entry.node.now in result ≡ (is_kind kinds.IdentifierReference node && list_any (λ other. other == node.node_id) (around ctx.now).unresolved) }

@@ -60,7 +60,7 @@ fn tell_import(
     tell_declarations(alloc, scoping.symbol_name(symbol), entries, out)
 }
 
-/// Tells of a symbol so often.
+/// Tells of a symbol as often as `times` says.
 #[tactic(auto, using(check_context::proofs::Telling::loop_telling))]
 fn tell_repeatedly(
     alloc: Global,
@@ -123,8 +123,8 @@ fn tell_bound(alloc: Global, scoping: &Scoping, out: &mut Diagnostics) -> Result
     tell_imports(alloc, &counts, scoping, out)
 }
 
-/// A module doesn't declare an import again, in JavaScript (ECMAScript 16.2.2.1, 16.2.1.1). The context is that of the
-/// program.
+/// A module doesn't declare an import again, in JavaScript (ECMAScript 16.2.2.1, BoundNames; 16.2.1.1,
+/// LexicallyDeclaredNames). The context is that of the program.
 #[tactic(auto, using(check_context::proofs::Telling::telling))]
 pub fn check_import_value_redeclarations<'a>(
     alloc: Global,

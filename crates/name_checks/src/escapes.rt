@@ -1,4 +1,4 @@
-//! Escapes that strict code doesn't have, found in the raw bytes of a string.
+//! Escapes that strict code doesn't have, found in the raw bytes of a string (ECMAScript 12.9.4.1).
 ghost use Rattle.std.specs.Prelude.{◌≡◌, ◌<◌, ◌∷◌, false, length, option_map, IfSome};
 ghost use Rattle.check_model.specs.Literals.{escapes, escapes_after};
 ghost use Rattle.name_checks.specs.BadEscapes.{kind_of_escape, kind_of_first, escapes_past, bytes_shown};
@@ -8,9 +8,9 @@ use memchr::memchr;
 /// What is wrong with an escape.
 #[derive(Clone, Copy, PartialEq, Eq, Debug)]
 pub(crate) enum BadEscape {
-    /// `\1` to `\7`, or `\0` before a digit.
+    /// `\1` to `\7`, or `\0` before a digit (ECMAScript 12.9.4, LegacyOctalEscapeSequence).
     Octal,
-    /// `\8` or `\9`.
+    /// `\8` or `\9` (ECMAScript 12.9.4, NonOctalDecimalEscapeSequence).
     EightOrNine,
 }
 

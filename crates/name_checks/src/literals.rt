@@ -42,7 +42,7 @@ fn has_leading_zero(spelling: &[u8]) -> bool
     }
 }
 
-/// Tells of a number with a leading zero in the octal base.
+/// Tells of a number with a leading zero in the octal base (ECMAScript 12.9.3, LegacyOctalIntegerLiteral).
 #[tactic(auto, using(check_context::proofs::Telling::telling))]
 fn tell_octal(alloc: Global, kind: AstKind<'_>, out: &mut Diagnostics) -> Result<(), AllocError>
     ensures { Tells result (row_if (is_marked mark.Octal kind.entry.node.now) (tell.legacy_octal kind.entry.node.now.span)) out.old out.new }
@@ -54,7 +54,7 @@ fn tell_octal(alloc: Global, kind: AstKind<'_>, out: &mut Diagnostics) -> Result
     }
 }
 
-/// Tells of a number with a leading zero in base ten.
+/// Tells of a number with a leading zero in base ten (ECMAScript 12.9.3, NonOctalDecimalIntegerLiteral).
 #[tactic(auto, using(check_context::proofs::Telling::telling))]
 fn tell_decimal(alloc: Global, kind: AstKind<'_>, out: &mut Diagnostics) -> Result<(), AllocError>
     ensures { Tells result (row_if (is_marked mark.Decimal kind.entry.node.now || is_marked mark.Float kind.entry.node.now) (tell.leading_zero_decimal kind.entry.node.now.span)) out.old out.new }
@@ -142,7 +142,7 @@ pub fn check_string_literal<'a>(
     tell_escapes(alloc, raw, kind.span(), out)
 }
 
-/// Whether the node has parameters that are not simple.
+/// Whether the node has parameters that are not simple (ECMAScript 15.1.3, IsSimpleParameterList).
 fn is_complex(opener: AstKind<'_>) -> bool
     ensures { result ≡ whose roles.Params (λ params. not (is_simple_parameter_list params)) opener.entry.node.now }
 {

@@ -26,7 +26,7 @@ use semantic_syntax::{Ident, Span};
 use semantic_tree::{AstKind, AstType};
 use std::alloc::{AllocError, Global};
 
-/// Whether strict code reserves the name (ECMAScript 12.7.2).
+/// Whether strict code reserves the name (ECMAScript 12.7.2, Keywords and Reserved Words).
 fn is_reserved(name: &str) -> bool
     ensures { result ≡ rows.is_reserved (chars name.now) }
 {
@@ -55,7 +55,7 @@ fn reserved_because(ctx: &CheckContext<'_, '_>) -> ReservedKeywordContext
     }
 }
 
-/// Tells of `await` as a name, where it is none.
+/// Tells of `await` as a name, where it is none: in a module, and directly in a static block (ECMAScript 13.1.1).
 #[tactic(auto, using(check_context::proofs::Telling::telling))]
 fn tell_await(
     alloc: Global,
@@ -103,7 +103,7 @@ pub fn check_identifier<'a>(
     Ok(())
 }
 
-/// Whether the node is `eval` or `arguments`, which strict code protects.
+/// Whether the node is `eval` or `arguments`, which strict code protects (ECMAScript 13.1.1).
 pub(crate) fn is_eval_or_arguments(kind: AstKind<'_>) -> bool
     ensures { result ≡ rows.is_eval_or_arguments kind.entry.node.now.text }
 {
@@ -217,7 +217,7 @@ fn declaration_around<'a>(above: AncestorKinds<'_, 'a>) -> Option<AstKind<'a>>
     None
 }
 
-/// Tells of `let` as a name that a lexical declaration would bind.
+/// Tells of `let` as a name that a lexical declaration would bind (ECMAScript 14.3.1.1).
 #[tactic(auto, using(check_context::proofs::Telling::telling))]
 fn tell_let(
     alloc: Global,

@@ -56,7 +56,7 @@ fn assigns_to(name: AstKind<'_>, node: AstKind<'_>) -> bool
     node.ty() == AstType::AssignmentExpression && has_left(name, node)
 }
 
-/// Whether what stands around a name writes to it.
+/// Whether what stands around a name writes to it (ECMAScript 8.6.4, AssignmentTargetType).
 fn writes_to(name: AstKind<'_>, node: AstKind<'_>) -> bool
     ensures { result ≡ rows.writes_to name.entry.node.now.text node.entry.node.now }
 {
@@ -102,7 +102,8 @@ fn is_field_value(child: AstKind<'_>, parent: AstKind<'_>) -> bool
     parent.ty() == AstType::PropertyDefinition && is_child_in(Role::Value, parent, child)
 }
 
-/// Whether `arguments` belongs to the parent, as far as it is reached from the child.
+/// Whether `arguments` belongs to the parent, as far as it is reached from the child (ECMAScript 15.7.1,
+/// ContainsArguments).
 fn owns_arguments(child: AstKind<'_>, parent: AstKind<'_>) -> bool
     ensures { let link : Node × Node = (child.entry.node.now, parent.entry.node.now) in result ≡ (is_kind kinds.Function link.1 || (rows.is_field_value link || rows.is_static_block link)) }
 {
@@ -235,8 +236,8 @@ fn tell_if_arguments<'a>(
     }
 }
 
-/// Strict code doesn't write to `eval` and `arguments` (ECMAScript 13.1.3, 13.15.1), and fields and static blocks have
-/// no `arguments` (15.7.1, ContainsArguments), except in a definition file.
+/// Strict code doesn't write to `eval` and `arguments` (ECMAScript 13.1.3, 13.15.1, AssignmentTargetType), and fields
+/// and static blocks have no `arguments` (15.7.1, ContainsArguments), except in a definition file.
 #[tactic(auto, using(check_context::proofs::Telling::telling))]
 pub fn check_identifier_reference<'a>(
     alloc: Global,

@@ -1,4 +1,5 @@
-//! Where code is ambient, that is only declared: inside a node marked `declare`, and in a definition file.
+//! Where code is ambient, that is only declared: inside a node marked `declare`, and in a definition file
+//! (TypeScript's `NodeFlags.Ambient`).
 
 ghost use Rattle.std.specs.Prelude.{◌≡◌};
 ghost use Rattle.semantic_model.specs.Ambient.{ambient_inside, ambient_round};
@@ -13,8 +14,8 @@ pub fn is_ambient_inside(node: &Node, around: bool) -> bool
     around || (node.marks.has(Mark::Declare) && node.kind != AstType::AccessorProperty)
 }
 
-/// Whether code in the child in the role is ambient. A class's or property's own mark doesn't reach its
-/// decorators.
+/// Whether code in the child in the role is ambient. A class's or property's own mark doesn't reach its decorators,
+/// which stand around it.
 pub fn is_ambient_in_child(parent: &Node, around: bool, role: Role) -> bool
     ensures { result ≡ ambient_round parent.now around role }
 {

@@ -1,5 +1,6 @@
-//! The cursor: the flags that the next identifier reference gets. Each rule acts on coming to a child, on
-//! entering a node, behind a child, or on leaving a node.
+//! The cursor: the flags that the next identifier reference gets. Each rule acts on coming to a child, on entering a
+//! node, behind a child, or on leaving a node. TypeScript's compiler asks the like of a name by `isWriteAccess`,
+//! `isPartOfTypeNode` and `isPartOfTypeQuery`.
 
 ghost use Rattle.std.specs.Prelude.{◌≡◌, ◌&&◌, [], ◌∷◌, cond, codes};
 ghost use Rattle.semantic_kinds.specs.Classes.{holds_kind};
@@ -38,7 +39,8 @@ fn is_member_or_chain(kind: AstKind<'_>) -> bool
     }
 }
 
-/// Whether the child in the role is written to.
+/// Whether the child in the role is written to (ECMAScript 8.6.4, AssignmentTargetType; TypeScript's
+/// `isWriteAccess`).
 fn is_write_place(parent: AstType, role: Role) -> bool
     ensures { result ≡ is_write_place_role parent role }
 {
@@ -59,7 +61,8 @@ fn read_or_type() -> ReferenceFlags
     ReferenceFlags::Read.union(ReferenceFlags::TypeFlag)
 }
 
-/// What an exported name means: a type alone where the specifier or the declaration is marked so.
+/// What an exported name means: a type alone where the specifier or the declaration is marked so, by TypeScript's
+/// `export type`.
 fn exported(parent: AstKind<'_>, specifier: AstKind<'_>) -> ReferenceFlags
     ensures { result.bits ≡ exported_bits parent.entry.node.now specifier.entry.node.now }
 {
@@ -70,7 +73,7 @@ fn exported(parent: AstKind<'_>, specifier: AstKind<'_>) -> ReferenceFlags
     }
 }
 
-/// What `import a = b` names.
+/// What TypeScript's `import a = b` names: a plain `b` may be a namespace.
 fn equated(parent: AstKind<'_>, reference: AstKind<'_>) -> ReferenceFlags
     ensures { result.bits ≡ equated_bits parent.entry.node.now reference.entry.node.now }
 {
@@ -86,7 +89,7 @@ fn equated(parent: AstKind<'_>, reference: AstKind<'_>) -> ReferenceFlags
     }
 }
 
-/// What stands left in a qualified name is a namespace.
+/// What stands left in a qualified name is a namespace (TypeScript's `SymbolFlags.Namespace`).
 fn qualified(cursor: ReferenceFlags) -> ReferenceFlags
     ensures { result.bits ≡ qualified_bits cursor.bits }
 {
@@ -141,9 +144,11 @@ fn at_child(
     ensures { result.bits ≡ bits_at_child parent.entry.node.now.kind parent.entry.node.now is_ambient role child.entry.node.now cursor.bits }
 {
     match (parent.ty(), role) {
+        // A compound assignment reads what it writes (ECMAScript 13.15, Assignment Operators).
         (AstType::AssignmentExpression, Role::Left) => {
             when(!reads(parent, "="), ReferenceFlags::Value, cursor)
         }
+        // So do `++` and `--` (ECMAScript 13.4, Update Expressions).
         (AstType::UpdateExpression, Role::Argument) => ReferenceFlags::Value,
         (AstType::UnaryExpression, Role::Argument) => when(
             is_deleted_member(parent, child),
@@ -177,6 +182,7 @@ fn at_child(
         (AstType::Class, Role::Heritage) => when(is_ambient, ReferenceFlags::ValueAsType, cursor),
         (AstType::TSImportEqualsDeclaration, Role::Reference) => equated(parent, child),
         (AstType::TSQualifiedName, Role::Left) => qualified(cursor),
+        // Names of types (TypeScript's `isPartOfTypeNode`).
         (AstType::TSInterfaceHeritage, Role::Name)
         | (AstType::TSClassImplements, Role::Name)
         | (AstType::TSTypeReference, Role::Name) => ReferenceFlags::TypeFlag,
@@ -223,7 +229,8 @@ pub fn behind_child(
     }
 }
 
-/// The cursor on entering a node. An object whose member is written to is read.
+/// The cursor on entering a node. The name in `typeof a`, as a type, means the type of a value (TypeScript's
+/// `isPartOfTypeQuery`), and an object whose member is written to is read.
 pub fn on_entering(kind: AstType, cursor: ReferenceFlags) -> ReferenceFlags
     ensures { result.bits ≡ bits_on_entering kind cursor.bits }
 {
@@ -239,7 +246,7 @@ pub fn on_entering(kind: AstType, cursor: ReferenceFlags) -> ReferenceFlags
     }
 }
 
-/// The cursor on leaving a node.
+/// The cursor on leaving a node: a name, a member and a type query use it up.
 pub fn on_leaving(kind: AstType, cursor: ReferenceFlags) -> ReferenceFlags
     ensures { result.bits ≡ bits_on_leaving kind cursor.bits }
 {

@@ -11,7 +11,7 @@ ghost use Rattle.semantic_model.specs.Namespace.{exported, declares, first_decla
 use semantic_syntax::Ident;
 use semantic_tree::{AstKind, AstType, Role};
 
-/// Whether what a child in the role binds, its parent of the kind binds too.
+/// Whether what a child in the role binds, its parent of the kind binds too (ECMAScript 8.2.1, BoundNames).
 pub fn binds_under(parent: AstType, role: Role) -> bool
     ensures { result ≡ is_role_of role (binding_roles parent) }
 {
@@ -37,7 +37,7 @@ fn is_named(kind: AstKind<'_>, name: Ident<'_>) -> bool
     kind.text().as_str() == name.as_str()
 }
 
-/// Whether the node binds the name.
+/// Whether the node binds the name: whether it is among its BoundNames (ECMAScript 8.2.1).
 #[tactic(auto, using(semantic_tree::specs::Falls::below))]
 fn binds(kind: AstKind<'_>, name: Ident<'_>) -> bool
     ensures { result ≡ list_any (reads (chars name.entry.text.now)) (bound_names kind.entry.node.now) }
@@ -75,7 +75,7 @@ fn declares(statement: AstKind<'_>, name: Ident<'_>) -> bool
     binds(exported(statement), name)
 }
 
-/// The first statement of the list that declares the name.
+/// The first statement of the list that declares the name (TypeScript's `getModuleInstanceStateForAliasTarget`).
 pub fn first_declaring<'a>(block: AstKind<'a>, name: Ident<'_>) -> Option<AstKind<'a>>
     ensures { option_map shown result ≡ first_declaring (chars name.entry.text.now) (statements block.entry.node.now) }
 {

@@ -1,4 +1,4 @@
-//! Calls of `eval` by its name.
+//! Direct calls of `eval` (ECMAScript 13.3.6.1, 19.2.1.1).
 
 ghost use Rattle.std.specs.Prelude.{◌≡◌, ◌&&◌, codes};
 ghost use Rattle.semantic_kinds.specs.declared.kind.AstType.TheVariants.{IdentifierReference as identifier_reference};

@@ -1,4 +1,6 @@
-//! The binder rows: what each node's names are, and what an earlier symbol of the name may not be.
+//! The binder rows: what each node's names are, and what an earlier symbol of the name may not be, by the early
+//! errors of ECMAScript on LexicallyDeclaredNames and VarDeclaredNames, and by the `Excludes` of TypeScript's
+//! `SymbolFlags`.
 
 ghost use Rattle.std.specs.Prelude.{◌≡◌, ◌&&◌, ◌||◌, [], ◌∷◌, None, codes, cond};
 ghost use Rattle.semantic_kinds.specs.declared.kind.AstType.TheVariants.{VariableDeclaration as variable_declaration, FormalParameters as formal_parameters, IfStatement as if_statement};
@@ -18,7 +20,7 @@ use semantic_tree::{AstKind, AstType, Mark, Role};
 /// What a binder row gives to each of its names.
 #[derive(Clone, Copy, PartialEq, Eq, Debug)]
 pub struct Row {
-    /// What the symbol is.
+    /// The flags that the symbol gets.
     pub flags: SymbolFlags,
     /// What an earlier symbol of the name may not be.
     pub excluded: SymbolFlags,
@@ -52,7 +54,8 @@ pub fn is_var_declaration(declaration: AstKind<'_>) -> bool
     declaration.ty() == AstType::VariableDeclaration && reads(declaration, "var")
 }
 
-/// Variables of a `var` declaration.
+/// Variables of a `var` declaration, which conflict with lexical ones (ECMAScript 14.2.1, 14.3.2, VarDeclaredNames;
+/// TypeScript's `FunctionScopedVariableExcludes`).
 pub fn var_row(declaration: AstKind<'_>) -> Row
     ensures { IsRow result (union symbol.FunctionScopedVariable.bits (binder.marked_ambient declaration.entry.node.now)) symbol.FunctionScopedVariableExcludes.bits }
 {
@@ -73,7 +76,8 @@ fn lexical_flags(declaration: AstKind<'_>) -> SymbolFlags
     }
 }
 
-/// Variables of a lexical declaration.
+/// Variables of a lexical declaration, which conflict with all that has a value (ECMAScript 14.2.1, 14.3.1.1, 16.1.1,
+/// LexicallyDeclaredNames; TypeScript 2451, `BlockScopedVariableExcludes`).
 pub fn lexical_row(declaration: AstKind<'_>) -> Row
     ensures { IsRow result (union (binder.lexical_flags declaration.entry.node.now) (binder.marked_ambient declaration.entry.node.now)) symbol.BlockScopedVariableExcludes.bits }
 {
@@ -117,7 +121,8 @@ pub fn is_special(function: AstKind<'_>) -> bool
     function.has_mark(Mark::Async) || function.has_mark(Mark::Generator)
 }
 
-/// What a function is.
+/// The flags of a function. One that is `async` or a generator may not repeat (ECMAScript, Annex B.3.2), and the own
+/// name of an expression is known inside it alone (15.2.5).
 fn function_flags(function: AstKind<'_>) -> SymbolFlags
     ensures { result.bits ≡ binder.function_flags function.entry.node.now }
 {
@@ -126,7 +131,7 @@ fn function_flags(function: AstKind<'_>) -> SymbolFlags
     ambient(function, SymbolFlags::Function).union(expression.union(special))
 }
 
-/// Whether the function stands directly under an `if`.
+/// Whether the function stands directly under an `if` (ECMAScript, Annex B.3.3).
 fn is_under_if(parent: Option<AstKind<'_>>) -> bool
     ensures { result ≡ parent_holds (is if_statement) (path_of parent.entry) }
 {
@@ -136,8 +141,9 @@ fn is_under_if(parent: Option<AstKind<'_>>) -> bool
     }
 }
 
-/// What a function conflicts with. In JavaScript it may be declared beside a `var`, and directly under a sloppy
-/// `if` beside anything (ECMAScript, Annex B.3.3).
+/// What a function conflicts with: in TypeScript by `FunctionExcludes` (TypeScript 2300). In JavaScript it may be
+/// declared beside a `var` (ECMAScript 8.2.10, TopLevelVarDeclaredNames), and directly under a sloppy `if` beside
+/// anything (Annex B.3.3).
 fn function_excluded(
     function: AstKind<'_>,
     parent: Option<AstKind<'_>>,
@@ -181,14 +187,16 @@ fn is_block_function(function: AstKind<'_>, source_type: SourceType, flags: Scop
         && !(flags.is_var() || flags.is_catch_clause())
 }
 
-/// Whether a function may move: a plain one that is a statement of a block of sloppy JavaScript.
+/// Whether a function may move: a plain one that is a statement of a block of sloppy JavaScript (ECMAScript, Annex
+/// B.3.2).
 pub fn may_move(function: AstKind<'_>, source_type: SourceType, flags: ScopeFlags) -> bool
     ensures { result ≡ (binder.is_statement function.entry.node.now && binder.is_block_function (seen source_type function.entry None flags)) }
 {
     is_statement(function) && is_block_function(function, source_type, flags)
 }
 
-/// A class.
+/// A class, which is declared as lexical variables are (ECMAScript 14.2.1, 15.7.14; TypeScript 2300,
+/// `ClassExcludes`).
 pub fn class_row(class: AstKind<'_>) -> Row
     ensures { IsRow result (union symbol.Class.bits (binder.marked_ambient class.entry.node.now)) symbol.ClassExcludes.bits }
 {
@@ -198,14 +206,14 @@ pub fn class_row(class: AstKind<'_>) -> Row
     }
 }
 
-/// Whether the list is an arrow's or a method's.
+/// Whether the list is an arrow's or a method's, whose names differ (ECMAScript 15.1.1, UniqueFormalParameters).
 fn is_unique_list(list: AstKind<'_>) -> bool
     ensures { result ≡ (is_with_text formal_parameters (codes "arrow") list.entry.node.now || is_with_text formal_parameters (codes "unique") list.entry.node.now) }
 {
     list.ty() == AstType::FormalParameters && (reads(list, "arrow") || reads(list, "unique"))
 }
 
-/// Whether the list of parameters is simple (ECMAScript 15.1.3): plain names alone.
+/// Whether the list of parameters is simple (ECMAScript 15.1.3, IsSimpleParameterList): plain names alone.
 #[tactic(auto, using(crate::proofs::Simple::simple))]
 pub fn is_simple_list(list: AstKind<'_>) -> bool
     ensures { result ≡ is_simple_list list.entry.node.now }
@@ -225,7 +233,7 @@ fn parameter_excluded(list: AstKind<'_>, is_simple: bool, flags: ScopeFlags) -> 
     }
 }
 
-/// A parameter of the list, which is simple or not, in a scope with the flags.
+/// A parameter of the list, which is simple or not, in a scope with the flags (ECMAScript 15.1.1, 15.2.1).
 pub fn parameter_row(list: AstKind<'_>, is_simple: bool, flags: ScopeFlags) -> Row
     ensures { is_simple ≡ is_simple_list list.entry.node.now → IsRow result symbol.FunctionScopedVariable.bits (binder.parameter_excluded list.entry.node.now (record no_scope { flags = flags.bits } ∷ [])) }
 {
@@ -235,7 +243,8 @@ pub fn parameter_row(list: AstKind<'_>, is_simple: bool, flags: ScopeFlags) -> R
     }
 }
 
-/// A rest element directly in a list of parameters.
+/// A rest element directly in a list of parameters, which isn't simple then, so that no name repeats (ECMAScript
+/// 15.1.1).
 pub fn rest_row() -> Row
     ensures { IsRow result symbol.FunctionScopedVariable.bits (union symbol.FunctionScopedVariableExcludes.bits symbol.FunctionScopedVariable.bits) }
 {
@@ -247,7 +256,8 @@ pub fn rest_row() -> Row
     }
 }
 
-/// A plain catch name, which conflicts with nothing.
+/// A plain catch name, which conflicts with nothing before it: its scope has no other (ECMAScript 14.15.2,
+/// CatchClauseEvaluation).
 pub fn caught_row() -> Row
     ensures { IsRow result (union symbol.FunctionScopedVariable.bits symbol.CatchVariable.bits) 0 }
 {
@@ -257,7 +267,7 @@ pub fn caught_row() -> Row
     }
 }
 
-/// A name of a catch pattern.
+/// A name of a catch pattern, which no other of the pattern has (ECMAScript 14.15.1).
 pub fn catch_pattern_row() -> Row
     ensures { IsRow result (union symbol.BlockScopedVariable.bits symbol.CatchVariable.bits) symbol.BlockScopedVariableExcludes.bits }
 {
@@ -277,7 +287,8 @@ fn imports_types(declaration: Option<AstKind<'_>>) -> bool
     }
 }
 
-/// What an imported name is: a type alone where the specifier or its declaration is marked so.
+/// What an imported name is: a type alone where the specifier or its declaration is marked so, by TypeScript's
+/// `import type`.
 fn import_flags(specifier: AstKind<'_>, declaration: Option<AstKind<'_>>) -> SymbolFlags
     ensures { result.bits ≡ binder.import_flags (under specifier.entry declaration.entry) }
 {
@@ -288,7 +299,8 @@ fn import_flags(specifier: AstKind<'_>, declaration: Option<AstKind<'_>>) -> Sym
     }
 }
 
-/// An imported name.
+/// An imported name, which is declared once (ECMAScript 16.2.2.1, 16.2.1.1; TypeScript 2300 and 2440,
+/// `AliasExcludes`).
 pub fn import_row(specifier: AstKind<'_>, declaration: Option<AstKind<'_>>) -> Row
     ensures { IsRow result (binder.import_flags (under specifier.entry declaration.entry)) symbol.ImportBindingExcludes.bits }
 {
@@ -298,7 +310,7 @@ pub fn import_row(specifier: AstKind<'_>, declaration: Option<AstKind<'_>>) -> R
     }
 }
 
-/// `import a = b`.
+/// TypeScript's `import a = b` (`AliasExcludes`).
 pub fn import_equals_row() -> Row
     ensures { IsRow result symbol.Import.bits symbol.ImportBindingExcludes.bits }
 {
@@ -308,7 +320,7 @@ pub fn import_equals_row() -> Row
     }
 }
 
-/// A type alias.
+/// A type alias (TypeScript 2300, `TypeAliasExcludes`).
 pub fn type_alias_row(alias: AstKind<'_>) -> Row
     ensures { IsRow result (union symbol.TypeAlias.bits (binder.marked_ambient alias.entry.node.now)) symbol.TypeAliasExcludes.bits }
 {
@@ -318,7 +330,7 @@ pub fn type_alias_row(alias: AstKind<'_>) -> Row
     }
 }
 
-/// An interface.
+/// An interface (TypeScript 2300, `InterfaceExcludes`).
 pub fn interface_row(interface: AstKind<'_>) -> Row
     ensures { IsRow result (union symbol.Interface.bits (binder.marked_ambient interface.entry.node.now)) symbol.InterfaceExcludes.bits }
 {
@@ -328,7 +340,7 @@ pub fn interface_row(interface: AstKind<'_>) -> Row
     }
 }
 
-/// An enum.
+/// An enum (TypeScript 2567, `RegularEnumExcludes` and `ConstEnumExcludes`).
 pub fn enum_row(declaration: AstKind<'_>) -> Row
     ensures { (p : Place) → p.node ≡ declaration.entry.node.now → binder.enums p ≡ binder.declare_here p result.flags.bits result.excluded.bits (binder.ids p.node) }
 {
@@ -345,7 +357,7 @@ pub fn enum_row(declaration: AstKind<'_>) -> Row
     }
 }
 
-/// A member of an enum.
+/// A member of an enum (TypeScript 2300, `EnumMemberExcludes`).
 pub fn member_row() -> Row
     ensures { IsRow result symbol.EnumMember.bits symbol.EnumMemberExcludes.bits }
 {
@@ -355,7 +367,7 @@ pub fn member_row() -> Row
     }
 }
 
-/// A type parameter.
+/// A type parameter (TypeScript 2300, `TypeParameterExcludes`).
 pub fn type_parameter_row() -> Row
     ensures { IsRow result symbol.TypeParameter.bits symbol.TypeParameterExcludes.bits }
 {

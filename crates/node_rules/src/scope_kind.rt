@@ -14,7 +14,7 @@ use crate::questions::reads;
 use semantic_syntax::{ScopeFlags, SourceType};
 use semantic_tree::{AstKind, AstType, Role};
 
-/// Whether the node is the directive that makes code strict.
+/// Whether the node is the directive that makes code strict (ECMAScript 11.2.1, Use Strict Directive).
 fn is_use_strict(kind: AstKind<'_>) -> bool
     ensures { result ≡ is_with_text directive (codes "use strict") kind.entry.node.now }
 {
@@ -44,7 +44,7 @@ fn strict_if(is: bool) -> ScopeFlags
     }
 }
 
-/// Strict where the node's body has the directive.
+/// Strict where the node's body has the directive (ECMAScript 11.2.2, Strict Mode Code).
 fn strict_by_body(kind: AstKind<'_>) -> ScopeFlags
     ensures { result.bits ≡ body_bits kind.entry.node.now }
 {
@@ -100,7 +100,7 @@ fn method_flags(function: AstKind<'_>, role: Role, parent: Option<AstKind<'_>>) 
     }
 }
 
-/// The flags of a function's scope.
+/// The flags of a function's scope: what it is as a method, and strict by its directive (ECMAScript 11.2.2).
 fn function_flags(
     function: AstKind<'_>,
     role: Role,
@@ -113,14 +113,14 @@ fn function_flags(
     ScopeFlags::Function.union(strict_by_body(function).union(method))
 }
 
-/// The flags of an arrow's scope.
+/// The flags of an arrow's scope, which is strict by its directive (ECMAScript 11.2.2).
 fn arrow_flags(arrow: AstKind<'_>) -> ScopeFlags
     ensures { result.bits ≡ union scope.Function.bits (union scope.Arrow.bits (body_bits arrow.entry.node.now)) }
 {
     ScopeFlags::Function.union(ScopeFlags::Arrow.union(strict_by_body(arrow)))
 }
 
-/// The flags of the root's scope.
+/// The flags of the root's scope: a module is strict, and a script with the directive (ECMAScript 11.2.2).
 pub fn root_flags(root: AstKind<'_>, source_type: SourceType) -> ScopeFlags
     ensures { result.bits ≡ flags_of_kind program_kind (in_role source_type root_role root.entry None) }
 {
@@ -139,6 +139,7 @@ pub fn flags_of(
 {
     match kind.ty() {
         AstType::Program => root_flags(kind, source_type),
+        // All parts of a class are strict (ECMAScript 11.2.2).
         AstType::Class => ScopeFlags::StrictMode,
         AstType::Function => function_flags(kind, role, parent, source_type),
         AstType::ArrowFunctionExpression => arrow_flags(kind),

@@ -1,4 +1,5 @@
-//! The look-up of one reference, scope by scope.
+//! The look-up of one reference, scope by scope (ECMAScript 9.4.2, ResolveBinding, and 9.1.2.1,
+//! GetIdentifierReference; TypeScript's `resolveName`).
 ghost use Rattle.std.specs.Prelude.{◌≡◌, ◌<◌, ◌==◌, codes};
 ghost use Rattle.std.specs.List.{list_any};
 ghost use Rattle.std.specs.Str.{bytes_eq, chars};
@@ -19,14 +20,15 @@ fn is_named_arguments(name: Ident<'_>) -> bool
     name.as_str() == "arguments"
 }
 
-// Whether the reference means the arguments of the function around it.
+// Whether the reference means the arguments of the function around it (ECMAScript 10.4.4, Arguments Exotic Objects).
 fn means_arguments(name: Ident<'_>, way: ReferenceFlags) -> bool
     ensures { result ≡ is_arguments (chars name.entry.text.now) way.bits }
 {
     is_named_arguments(name) && (way.is_value() || way.is_value_as_type())
 }
 
-// Whether a symbol with the flags fits the reference. `arguments` is never the own name of a function expression.
+// Whether a symbol with the flags fits the reference. `arguments` is never the own name of a function expression,
+// which binds its arguments within (ECMAScript 10.2.11, FunctionDeclarationInstantiation).
 fn fits_symbol(name: Ident<'_>, way: ReferenceFlags, flags: SymbolFlags) -> bool
     ensures { result ≡ fits (chars name.entry.text.now) way.bits flags.bits }
 {
@@ -55,7 +57,8 @@ fn tied_in<L, B: BindingSource<L>>(
     }
 }
 
-// Whether the look-up ends as free after the scope: `arguments` isn't looked up past a function that is no arrow.
+// Whether the look-up ends as free after the scope: `arguments` isn't looked up past a function that is no arrow,
+// since each such one binds it (ECMAScript 10.2.11, FunctionDeclarationInstantiation).
 fn is_barrier<L, B: BindingSource<L>>(
     scope: ScopeId,
     name: Ident<'_>,
@@ -79,8 +82,8 @@ fn is_last(scope: ScopeId, last: &Option<ScopeId>) -> bool
     }
 }
 
-// What the scopes from the look-up scope to the last one give: the symbol, or that it is free, or nothing. Without
-// a last one it is the first scope outward that has no parent.
+// What the scopes from the look-up scope to the last one give (ECMAScript 9.1.2.1, GetIdentifierReference): the
+// symbol, or that it is free, or nothing. Without a last one it is the first scope outward that has no parent.
 pub fn look_up<L, B: BindingSource<L>>(
     pending: &UnresolvedReference<'_>,
     last: Option<ScopeId>,

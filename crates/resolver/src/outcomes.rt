@@ -8,9 +8,9 @@ use std::marker::Model;
 /// What becomes of a reference that waits.
 #[derive(Clone, Copy, PartialEq, Eq, Debug)]
 pub enum Outcome {
-    /// It means the symbol.
+    /// The reference means the symbol.
     Tied(SymbolId),
-    /// It means none.
+    /// The reference means no symbol: it is free.
     Free,
     /// It waits on, and is to be looked up from the scope.
     Pending(ScopeId),

@@ -33,7 +33,7 @@ impl<'a> Model for UnresolvedReferences<'a> {
 }
 
 impl<'a> UnresolvedReferences<'a> {
-    /// No references.
+    /// No reference waits yet.
     pub fn new(alloc: Global) -> UnresolvedReferences<'a>
         ensures { result ≡ [] }
     {
@@ -74,7 +74,7 @@ impl<'a> UnresolvedReferences<'a> {
         mem::replace(&mut self.entries, Vec::new(self.alloc))
     }
 
-    /// How many wait.
+    /// How many references wait.
     pub fn len(&self) -> usize
         ensures { result ≡ length self.now }
     {

@@ -1,4 +1,4 @@
-//! The look-up of the references that wait, at the end of a header and in the end.
+//! The look-up of the references that wait, at the end of a header and in the end (ECMAScript 9.4.2, ResolveBinding).
 ghost use Rattle.std.specs.Prelude.{◌≡◌, ◌<◌, ◌≤◌, map, drop, IfOk, OnOk, OnErr, All, IsTrue};
 ghost use Rattle.std.specs.List.{sum_by};
 ghost use Rattle.semantic_syntax.specs.Counts.{raised};
@@ -23,7 +23,8 @@ fn outside<L, B: BindingSource<L>>(scope: ScopeId, source: &B) -> Outcome
     }
 }
 
-// What becomes of the reference at the end of the header whose scope this is.
+// What becomes of the reference at the end of the header whose scope this is: what the body declares isn't there yet
+// (ECMAScript 10.2.11, FunctionDeclarationInstantiation; 14.15.2, CatchClauseEvaluation).
 fn resolve_in_header<L, B: BindingSource<L>>(
     entry: &UnresolvedReference<'_>,
     scope: ScopeId,
@@ -45,7 +46,7 @@ fn resolve_in_header<L, B: BindingSource<L>>(
     }
 }
 
-// What becomes of the reference in the end.
+// What becomes of the reference in the end, when all is declared.
 fn resolve_last<L, B: BindingSource<L>>(
     entry: &UnresolvedReference<'_>,
     source: &B,

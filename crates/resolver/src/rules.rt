@@ -1,4 +1,5 @@
-//! Which symbols a reference may be tied to, and the flags that it has then.
+//! Which symbols a reference may be tied to, and the flags that it has then (TypeScript's `SymbolFlags.Value`, `Type`
+//! and `Namespace` as meanings of `resolveName`).
 ghost use Rattle.std.specs.Prelude.{◌≡◌};
 ghost use Rattle.semantic_syntax.specs.Usable.{is_usable, settled as settled_flags};
 

@@ -98,7 +98,7 @@ pub fn check_function_declaration_in_labeled_statement<'a>(
     Ok(())
 }
 
-/// Neither strict code nor TypeScript has `with` (ECMAScript 14.11.1, TypeScript 2410).
+/// Neither strict code nor TypeScript has `with` (ECMAScript 14.11.1; TypeScript 2410).
 #[tactic(auto, using(check_context::proofs::Telling::telling))]
 pub fn check_with_statement<'a>(
     alloc: Global,

@@ -20,7 +20,8 @@ use semantic_syntax::Span;
 use semantic_tree::{AstKind, AstType, Role};
 use std::alloc::{AllocError, Global};
 
-/// Whether the search for a target ends at the node.
+/// Whether the search for a target ends at the node (ECMAScript 14.9.1, 14.8.1: at a function, a static block or the
+/// program).
 fn is_end(kind: AstKind<'_>) -> bool
     ensures { result ≡ rows.is_end kind.entry.node.now }
 {

@@ -15,7 +15,8 @@ use semantic_diagnostics::makers::label_redeclaration;
 use semantic_tree::{AstKind, AstType, Role};
 use std::alloc::{AllocError, Global};
 
-/// Whether no jump leaves the node.
+/// Whether no jump leaves the node, and no label around counts in it: a function or a static block (ECMAScript
+/// 15.2.1, 15.7.1, ContainsDuplicateLabels).
 pub(crate) fn is_boundary(kind: AstKind<'_>) -> bool
     ensures { result ≡ rows.is_boundary kind.entry.node.now }
 {

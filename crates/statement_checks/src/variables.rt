@@ -24,7 +24,7 @@ use semantic_syntax::SymbolFlags;
 use semantic_tree::{AstKind, AstType, ChildIter, Mark, Role};
 use std::alloc::{AllocError, Global};
 
-/// A static block doesn't await in a loop (ECMAScript 15.7.1, ContainsAwait).
+/// A static block doesn't await in a loop (ECMAScript 15.7.1, Contains `await`).
 #[tactic(auto, using(check_context::proofs::Telling::telling))]
 pub fn check_for_of_statement<'a>(
     alloc: Global,
@@ -65,7 +65,7 @@ fn is_plain_name(declarator: AstKind<'_>) -> bool
 }
 
 /// Whether a declarator of a loop's head has an initializer, other than that of a plain name under `for-in` in sloppy
-/// code.
+/// code (ECMAScript, Annex B.3.5).
 fn is_bad_initializer(
     left: AstKind<'_>,
     for_in: bool,
@@ -79,7 +79,7 @@ fn is_bad_initializer(
         && ((ctx.is_strict() && reads(left, "var")) || !for_in || !is_plain_name(declarator))
 }
 
-/// The name of the loop.
+/// What a message calls the loop.
 fn loop_name(for_in: bool) -> &'static str
     ensures { result.now ≡ rows.loop_name for_in }
 {
@@ -138,8 +138,9 @@ fn tell_head(
     }
 }
 
-/// The variable of a loop over something has no initializer (ECMAScript 14.7.5, Annex B.3.5). The node is the left of
-/// the loop, and the context that of the loop, which is `for-in` or else `for-of`.
+/// The variable of a loop over something has no initializer (ECMAScript 14.7.5.1, Annex B.3.5, Initializers in ForIn
+/// Statement Heads). The node is the left of the loop, and the context that of the loop, which is `for-in` or else
+/// `for-of`.
 #[tactic(auto, using(check_context::proofs::Telling::telling))]
 pub fn check_for_statement_left<'a>(
     alloc: Global,
@@ -183,7 +184,7 @@ fn tell_using(
     }
 }
 
-/// Tells of `await using` in a static block.
+/// Tells of `await using` in a static block (ECMAScript 15.7.1, Contains `await`).
 #[tactic(auto, using(check_context::proofs::Telling::telling))]
 fn tell_await_using(
     alloc: Global,
@@ -275,7 +276,7 @@ fn tell_names(
 }
 
 /// A `var` elsewhere than in functions and at the top of a script doesn't declare a function's name again, in
-/// JavaScript (ECMAScript 14.2.1, 16.2.1.1).
+/// JavaScript (ECMAScript 14.2.1, 16.2.1.1, VarDeclaredNames).
 #[tactic(auto, using(check_context::proofs::Telling::telling))]
 pub fn check_variable_declarator_redeclaration<'a>(
     alloc: Global,

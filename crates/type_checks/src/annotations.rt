@@ -41,7 +41,7 @@ fn nullable_text(alloc: Global, text: &str) -> Result<String, AllocError>
     Ok(made)
 }
 
-/// Tells of a `?` type of JSDoc.
+/// Tells of a `?` type of JSDoc (`TS(17020)` with the mark in front, `TS(17019)` behind).
 #[tactic(auto, using(check_context::proofs::Telling::telling))]
 fn tell_nullable(
     alloc: Global,
@@ -58,7 +58,7 @@ fn tell_nullable(
     out.push(jsdoc_type_in_annotation(alloc, '?', at_start, kind.span(), text.as_str())?)
 }
 
-/// Tells of a `!` type of JSDoc.
+/// Tells of a `!` type of JSDoc, likewise.
 #[tactic(auto, using(check_context::proofs::Telling::telling))]
 fn tell_non_nullable(
     alloc: Global,
@@ -92,7 +92,7 @@ fn tell_jsdoc(
     }
 }
 
-/// An annotation is no `?` or `!` type of JSDoc (TypeScript 17019, 17020).
+/// An annotation is no `?` or `!` type of JSDoc (`TS(17019)`, `TS(17020)`).
 pub fn check_ts_type_annotation<'a>(
     alloc: Global,
     kind: AstKind<'a>,
@@ -151,7 +151,7 @@ fn is_predicate_path(above: AncestorKinds<'_, '_>) -> bool
     annotation.ty() == AstType::TSTypeAnnotation && may_return_predicate(annotated, left)
 }
 
-/// A type predicate stands where a function's or a method's type is returned (TypeScript 1228).
+/// A type predicate stands where a function's or a method's type is returned (`TS(1228)`).
 #[tactic(auto, using(check_context::proofs::Telling::telling))]
 pub fn check_ts_type_predicate<'a>(
     alloc: Global,

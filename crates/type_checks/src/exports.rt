@@ -70,7 +70,7 @@ fn tell_assignments(
     Ok(())
 }
 
-/// Tells of each export assignment of a block that has other exports too.
+/// Tells of each export assignment of a block that has other exports too (`TS(2309)`).
 #[tactic(auto, using(check_context::proofs::Telling::telling))]
 pub(crate) fn tell_block(
     alloc: Global,

@@ -84,7 +84,7 @@ fn tell_misplaced(
     out.push(not_allowed_ambient_module_declaration(alloc, kind.span())?)
 }
 
-/// Tells of export assignments in the body of an external module.
+/// Tells of export assignments in the body of an external module (`TS(2309)`).
 fn tell_body(alloc: Global, kind: AstKind<'_>, out: &mut Diagnostics) -> Result<(), AllocError>
     ensures { Tells result (rows_of_some block_rows (child_in roles.Body kind.entry.node.now)) out.old out.new }
 {
@@ -94,8 +94,8 @@ fn tell_body(alloc: Global, kind: AstKind<'_>, out: &mut Diagnostics) -> Result<
     }
 }
 
-/// An external module stands at the top of a program, and an export assignment is the only export of its body
-/// (TypeScript 1234, 2435, 2309).
+/// An external module stands at the top of a program (`TS(1234)`, `TS(2435)`), and an export assignment is the only
+/// export of its body (`TS(2309)`).
 #[tactic(auto, using(check_context::proofs::Telling::telling))]
 pub fn check_ts_external_module_declaration<'a>(
     alloc: Global,

@@ -12,7 +12,7 @@ use semantic_diagnostics::makers::type_annotation_in_for_left;
 use semantic_tree::{AstKind, AstType, Role};
 use std::alloc::{AllocError, Global};
 
-/// Tells of the type of a declarator.
+/// Tells of the type of a declarator (`TS(2404)` under `for-in`, `TS(2483)` under `for-of`).
 #[tactic(auto, using(check_context::proofs::Telling::telling))]
 fn tell_type(
     alloc: Global,
@@ -47,8 +47,8 @@ fn tell_types(
     Ok(())
 }
 
-/// The variable of a loop over something has no type (TypeScript 2404, 2483). The node is the left of the loop, and the
-/// context that of the loop, which is `for-in` or else `for-of`.
+/// The variable of a loop over something has no type (`TS(2404)`, `TS(2483)`). The node is the left of the loop, and
+/// the context that of the loop, which is `for-in` or else `for-of`.
 #[tactic(auto, using(check_context::proofs::Telling::telling))]
 pub fn check_for_statement_left<'a>(
     alloc: Global,

@@ -53,7 +53,7 @@ fn is_extended_over(span: Span, above: AncestorKinds<'_, '_>) -> bool
     false
 }
 
-/// `infer` stands in what a conditional type extends (TypeScript 1338).
+/// `infer` stands in what a conditional type extends (`TS(1338)`).
 #[tactic(auto, using(check_context::proofs::Telling::telling))]
 pub fn check_ts_infer_type<'a>(
     alloc: Global,

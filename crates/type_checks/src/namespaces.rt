@@ -39,7 +39,7 @@ fn is_top(kind: AstKind<'_>) -> bool
     matches!(kind.ty(), AstType::Program | AstType::TSModuleBlock) || is_module_kind(kind.ty())
 }
 
-/// Tells of a namespace or `global` elsewhere than at such a top.
+/// Tells of a namespace or `global` elsewhere than at such a top (`TS(1235)`).
 #[tactic(auto, using(check_context::proofs::Telling::telling))]
 fn tell_place(
     alloc: Global,
@@ -75,8 +75,8 @@ fn under_namespaces(kind: AstKind<'_>) -> AstKind<'_>
     inner
 }
 
-/// A namespace stands at the top of a program, a namespace or a module, and an export assignment is the only export of
-/// its body (TypeScript 1235, 2309).
+/// A namespace stands at the top of a program, a namespace or a module (`TS(1235)`), and an export assignment is the
+/// only export of its body (`TS(2309)`).
 #[tactic(auto, using(check_context::proofs::Telling::telling))]
 pub fn check_ts_namespace_declaration<'a>(
     alloc: Global,
@@ -91,7 +91,7 @@ pub fn check_ts_namespace_declaration<'a>(
     tell_block(alloc, under_namespaces(kind), out)
 }
 
-/// Tells of a `global` that is neither declared nor ambient.
+/// Tells of a `global` that is neither declared nor ambient (`TS(2670)`).
 #[tactic(auto, using(check_context::proofs::Telling::telling))]
 fn tell_undeclared(
     alloc: Global,
@@ -109,7 +109,7 @@ fn tell_undeclared(
     out.push(global_scope_augmentation_should_have_declare_modifier(alloc, word)?)
 }
 
-/// `global` stands at the top of a program, a namespace or a module, and is declared (TypeScript 1235, 2670).
+/// `global` stands at the top of a program, a namespace or a module (`TS(1235)`), and is declared (`TS(2670)`).
 #[tactic(auto, using(check_context::proofs::Telling::telling))]
 pub fn check_ts_global_declaration<'a>(
     alloc: Global,

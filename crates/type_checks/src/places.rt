@@ -17,7 +17,7 @@ pub(crate) struct Places<'n, 'a> {
 }
 
 impl<'n, 'a> Places<'n, 'a> {
-    /// Those around a node.
+    /// The places around the node of the context, innermost first.
     pub(crate) fn around(ctx: &CheckContext<'a, 'n>) -> Places<'n, 'a>
         requires { IsContext ctx.now }
         ensures { places_left result ≡ rows.places (around ctx.now) }
@@ -25,7 +25,7 @@ impl<'n, 'a> Places<'n, 'a> {
         Places { above: ctx.above() }
     }
 
-    /// The next one outward.
+    /// The next place outward, past imports and exports.
     pub(crate) fn next(&mut self) -> Option<AstKind<'a>>
         ensures { YieldsFirstBy shown places_left self.old result self.new }
     {

@@ -10,7 +10,7 @@ use semantic_diagnostics::Diagnostics;
 use semantic_tree::AstKind;
 use std::alloc::{AllocError, Global};
 
-/// An export assignment is the only export of a program, in TypeScript (2309).
+/// An export assignment is the only export of a program, in TypeScript (`TS(2309)`).
 #[tactic(auto, using(check_context::proofs::Telling::telling))]
 pub fn check_ts_export_assignment_in_program<'a>(
     alloc: Global,
