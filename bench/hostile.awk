@@ -390,7 +390,7 @@ function labels_in_labels(i, depth, jumps) {
 
 # The same with long names.
 function long_labels_in_labels(i, depth, jumps) {
-    for (i = 0; i < 60; i++) {
+    for (i = 0; i < 160; i++) {
         for (depth = 1; depth <= size; depth++) {
             row(depth, "body", "LabeledStatement", "")
             row(depth + 1, "label", "LabelIdentifier", long_name(depth))
@@ -404,7 +404,7 @@ function long_labels_in_labels(i, depth, jumps) {
 }
 
 function long_name(number) {
-    return sprintf("%0200d", number)
+    return sprintf("%0120d", number)
 }
 
 # class C { a0() {} a1() {} .. }

@@ -6,8 +6,7 @@ set -eu
 cd "$(dirname "$0")/.."
 count="${1:-333334}"
 . bench/scratch.sh
-new_program writing 'report report_ends semantic semantic_tree tree_json' semantic_syntax semantic_kinds semantic_tree \
-    semantic_model scoping resolver walk_model node_store class_table unused_labels walk_notes semantic_diagnostics node_rules namespace_states namesakes table_building semantic_walk semantic tree_json report_ends generated_tree program_ends report_lines report
+new_program writing 'report report_ends semantic semantic_tree tree_json'
 
 cat >"$program/src/main.rt" <<'SOURCE'
 // Reads a tree on standard input, times both writers of its report on standard output, and prints the times on standard

@@ -7,7 +7,7 @@ set -eu
 cd "$(dirname "$0")/.."
 scopes="${1:-100000}"
 . bench/scratch.sh
-new_program binding 'scoping semantic_syntax indexmap' semantic_syntax scoping
+new_program binding 'scoping semantic_syntax indexmap'
 
 sed "s/COUNT_OF_SCOPES/$scopes/" >"$program/src/main.rt" <<'SOURCE'
 // Makes, looks up and lists bindings, against std's map and against one pass over a map in order, and prints the times.

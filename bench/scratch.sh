@@ -3,13 +3,26 @@
 scratch="$(mktemp -d)"
 trap 'rm -rf "$scratch"' EXIT
 
-# new_program NAME LIBRARIES CRATE..: copies these crates, lists a program that uses the libraries, and sets `program` to
-# its folder.
+# The crates of crates.txt among these libraries and all below them, a line each.
+crates_below() {
+    awk -v wanted="$1" '
+    function take(name,    parts, count, i) {
+        if (!(name in uses) || name in taken) return
+        taken[name]
+        count = split(uses[name], parts, " ")
+        for (i = 1; i <= count; i++) take(parts[i])
+        print name
+    }
+    /^[a-z]/ { name = $1; sub(/:$/, "", name); rest = $0; sub(/^[^:]*:/, "", rest); uses[name] = rest }
+    END { count = split(wanted, words, " "); for (j = 1; j <= count; j++) take(words[j]) }' crates.txt
+}
+
+# new_program NAME LIBRARIES: copies the crates among these libraries and all below them, lists a program that uses the
+# libraries, and sets `program` to its folder.
 new_program() {
     listed="$1: $2"
     program="$scratch/crates/$1"
-    shift 2
-    for crate in "$@"; do
+    for crate in $(crates_below "$2"); do
         mkdir -p "$scratch/crates/$crate"
         for part in src specs proofs; do
             [ ! -d "crates/$crate/$part" ] || cp -R "crates/$crate/$part" "$scratch/crates/$crate/"

@@ -8,7 +8,7 @@ set -eu
 cd "$(dirname "$0")/.."
 [ $# -gt 0 ] || set -- 1000000 8000000 60000000
 . bench/scratch.sh
-new_program reading 'tree_json semantic_tree serde_json' semantic_syntax semantic_kinds semantic_tree tree_json
+new_program reading 'tree_json semantic_tree serde_json'
 
 cat >"$program/src/main.rt" <<'SOURCE'
 // Times both readers over the bytes on standard input. The word `once` reads the tree once, and prints the peak memory.

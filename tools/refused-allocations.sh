@@ -6,7 +6,7 @@
 set -eu
 cd "$(dirname "$0")/.."
 . bench/scratch.sh
-new_program refusing 'scoping semantic_syntax' semantic_syntax scoping
+new_program refusing 'scoping semantic_syntax'
 for part in edits long_row table_text; do
     cp "crates/table_cases/src/$part.rt" "$program/src/"
 done

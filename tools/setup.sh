@@ -5,7 +5,7 @@
 # usage: tools/setup.sh [--without-browser]
 set -eu
 
-packages="node-acorn node-typescript node-eslint-scope parallel rsync"
+packages="node-acorn node-typescript node-eslint-scope parallel rsync time"
 [ "${1:-}" = --without-browser ] || packages="$packages chromium"
 
 # A Node from elsewhere serves as well as Debian's.

@@ -1,0 +1,178 @@
+#!/bin/bash
+# What the analysis costs beside its peers, on real files: `build` beside eslint-scope's analysis of the same source, a whole
+# report beside reading its input as a JSON value alone, and the report's peak of memory beside its input. Then the
+# analysis of made trees of ten thousand, a hundred thousand and a million nodes. The rounds of all are interleaved, and the
+# least processor time of each counts. It prints a table, which docs/speed.md takes.
+# The words are source files; with none it takes those of the list below that are there. REPORT names the report program
+# (bin/report), ROUNDS the rounds (5), PROGRAM a program that is timed in the place of the proved one. It works on a scratch
+# copy, and proves what it measures there; it needs rt, node, awk and GNU time.
+set -eu
+cd "$(dirname "$0")/.."
+files='
+/usr/share/javascript/underscore/underscore.js
+/usr/share/nodejs/acorn/dist/acorn.js
+/usr/share/javascript/jquery/jquery.js
+/usr/share/nodejs/typescript/lib/typingsInstaller.js
+/usr/share/nodejs/typescript/lib/tsc.js
+'
+# shellcheck disable=SC2086
+[ $# -gt 0 ] || set -- $(ls $files 2>/dev/null || true)
+report="${REPORT:-bin/report}"
+rounds="${ROUNDS:-5}"
+. bench/scratch.sh
+. bench/functions.sh
+new_program peers 'semantic tree_json semantic_tree serde_json'
+
+cat >"$program/src/main.rt" <<'SOURCE'
+// Times, for the tree on standard input, its JSON value and its analysis, in nanoseconds of the processor.
+#![tactic(auto)]
+
+use semantic::SemanticBuilder;
+use semantic_tree::Program;
+use serde_json::Value;
+use std::alloc::Global;
+use std::fs;
+use std::io::{self, ErrorKind, Read};
+use tree_json::read_program;
+
+// The clock of the processor goes on by some milliseconds at once, so a time is that of work for so many nodes.
+const NODES_AT_ONCE: u32 = 3_000_000;
+
+// Bytes of a large block.
+const LARGE: usize = 1 << 20;
+
+fn bytes_of(rt: &HostRuntime) -> io::Result<Vec<u8>> {
+    let mut bytes = Vec::new(rt.alloc());
+    rt.stdin().read_to_end(&mut bytes)?;
+    Ok(bytes)
+}
+
+fn invalid() -> io::Error {
+    io::Error::from(ErrorKind::InvalidData)
+}
+
+// How long this process has been on a processor.
+fn on_processor(rt: &HostRuntime) -> io::Result<u64> {
+    let text = fs::read_to_string(rt, "/proc/self/schedstat")?;
+    match text.split(' ').next() {
+        Some(word) => word.parse::<u64>().map_err(|_| invalid()),
+        None => Err(invalid()),
+    }
+}
+
+// Takes a large block and gives it back. The C library joins freed blocks only once someone asks for a large one, and
+// no clock is to count what was freed before.
+fn join_freed_blocks(alloc: Global) -> io::Result<()> {
+    let mut block: Vec<u8> = Vec::new(alloc);
+    block.reserve(LARGE)?;
+    Ok(())
+}
+
+fn time_of_value(rt: &HostRuntime, bytes: &[u8], times: u32) -> io::Result<u64> {
+    join_freed_blocks(rt.alloc())?;
+    let start = on_processor(rt)?;
+    for _ in 0..times {
+        if Value::from_slice(rt.alloc(), bytes).is_err() {
+            return Err(invalid());
+        }
+    }
+    Ok(on_processor(rt)?.saturating_sub(start) / u64::from(times.max(1)))
+}
+
+fn time_of_analysis(rt: &HostRuntime, program: &Program, times: u32) -> io::Result<u64> {
+    join_freed_blocks(rt.alloc())?;
+    let start = on_processor(rt)?;
+    for _ in 0..times {
+        if SemanticBuilder::new().build(rt.alloc(), program).is_err() {
+            return Err(invalid());
+        }
+    }
+    Ok(on_processor(rt)?.saturating_sub(start) / u64::from(times.max(1)))
+}
+
+fn print_times(rt: &HostRuntime, bytes: &[u8]) -> io::Result<()> {
+    let program = match read_program(rt.alloc(), bytes).ok() {
+        Some(program) => program,
+        None => return Err(invalid()),
+    };
+    let times = NODES_AT_ONCE / program.node_count().max(1) + 1;
+    let value = time_of_value(rt, bytes, times)?;
+    let analysis = time_of_analysis(rt, &program, times)?;
+    println!(rt; "{} {} {}", program.node_count(), value, analysis)
+}
+
+fn main(rt: HostRuntime) -> io::Result<()> {
+    let bytes = bytes_of(&rt)?;
+    if bytes.is_empty() {
+        return Ok(());
+    }
+    print_times(&rt, &bytes)
+}
+SOURCE
+
+# The processor time of one report of the tree, in nanoseconds: of so many that the clock of the processor can tell.
+time_of_report() {
+    local runs=$((20000000 / $(wc -c <"$1") + 1)) status=0
+    TIMEFORMAT='%U %S'
+    {
+        time for _ in $(seq "$runs"); do
+            "$report" <"$1" >/dev/null 2>&1 || status=$?
+            [ "$status" -le 1 ] || exit 1
+        done
+    } 2>"$scratch/time"
+    awk -v runs="$runs" '{ printf "%d\n", ($1 + $2) * 1e9 / runs }' "$scratch/time"
+}
+
+# Its peak of memory, in bytes.
+peak_of_report() {
+    command time -f '%M' -o "$scratch/peak" "$report" <"$1" >/dev/null 2>&1 || true
+    awk 'END { print $1 * 1024 }' "$scratch/peak"
+}
+
+# A row of times for the tree of a file, or of a made one, for which there is no source.
+time_once() {
+    if [ -n "$3" ]; then peer="$(node bench/peer.js "$3" 9)"; else peer=0; fi
+    echo "$1 $peer $("$timed" <"$2") $(time_of_report "$2") $(peak_of_report "$2") $(wc -c <"$2")"
+}
+
+if [ -n "${PROGRAM:-}" ]; then
+    timed="$PROGRAM"
+else
+    build_program
+    timed="$program/out/peers"
+fi
+number=0
+for file in "$@"; do
+    number=$((number + 1))
+    node tools/source-to-tree/main.js "$file" >"$scratch/tree$number"
+    echo "$(basename "$file") $scratch/tree$number $file" >>"$scratch/list"
+done
+for count in 10000 100000 1000000; do
+    tree_of_functions "$count" >"$scratch/made$count"
+    echo "made_$count $scratch/made$count" >>"$scratch/list"
+done
+for _ in $(seq "$rounds"); do
+    while read -r name tree source; do
+        time_once "$name" "$tree" "$source"
+    done <"$scratch/list"
+done | awk '
+    # The columns: name, eslint-scope, nodes, value, analysis, report, peak, bytes.
+    function keep(table, key, time) {
+        if (!(key in table) || time < table[key]) table[key] = time
+    }
+    !($1 in nodes) { order[++count] = $1 }
+    {
+        nodes[$1] = $3
+        bytes[$1] = $8
+        keep(peer, $1, $2); keep(value, $1, $4); keep(analysis, $1, $5); keep(report, $1, $6); keep(peak, $1, $7)
+    }
+    END {
+        print "| tree | nodes | analysis, ns a node | eslint-scope in analyses | report in JSON values | peak in inputs |"
+        print "|---|---|---|---|---|---|"
+        for (i = 1; i <= count; i++) {
+            name = order[i]
+            beside = peer[name] > 0 ? sprintf("%.1f", peer[name] / analysis[name]) : "-"
+            printf "| %s | %d | %.0f | %s | %.1f | %.1f |\n", name, nodes[name], analysis[name] / nodes[name], beside,
+                report[name] / value[name], peak[name] / bytes[name]
+        }
+    }'
