@@ -199,8 +199,12 @@ impl BindingTable {
         requires { scope < length self.now }
         ensures { result ≡ lookup (nat_eq number) (slice_index_or self.now scope []) }
     {
+        let slots = &self.scopes[scope.index()];
+        if slots.bound_len() == 0 {
+            return None;
+        }
         let place = self.places.get(&(scope, number))?;
-        let (_, symbol) = self.scopes[scope.index()].get(*place)?;
+        let (_, symbol) = slots.get(*place)?;
         Some(symbol)
     }
 

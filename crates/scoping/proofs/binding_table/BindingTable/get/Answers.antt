@@ -1,10 +1,18 @@
-use Rattle.std.proofs.Common.{ℕ, None, Some, [], get_or, sym, ap, subst, ◌∙◌}
+use Rattle.std.proofs.Common.{◌≡◌, ℕ, None, Some, [], length, get_or, refl, sym, ap, subst, ◌∙◌}
 use Rattle.std.specs.Option.{option_map}
-use Rattle.std.proofs.lemmas.List.{length-map}
-use Rattle.scoping.specs.Flat.{SlotList, StandsAt}
+use Rattle.std.proofs.lemmas.List.{length-map, nil_from_length}
+use Rattle.scoping.specs.Flat.{SlotList, StandsAt, filled}
 use Rattle.scoping.proofs.Filled.{lookup_filled}
 use Rattle.scoping.proofs.Indexed.{shown_row, row_read}
 use Rattle.scoping.proofs.binding_table.BindingTable.get.Goals as goal
+
+pub returns-then-bound_len-eq0 : goal.returns-then-bound_len-eq0
+returns-then-bound_len-eq0 c =
+    let rows = c.self.inside.scopes.items in
+    let within = rw length-map at (rw (← c.self.view_is) at c.requires) in
+    let read = row_read rows c.args.scope c.index.result c.index-slots.result.now c.index.ensures within c.index-slots.ensures in
+    let none : filled (get_or rows c.args.scope []) ≡ [] = nil_from_length _ (sym (ap (λ (r : SlotList). length (filled r)) read) ∙ sym c.bound_len.ensures ∙ c.if-bound_len-eq0.true) in
+    rw (← c.self.view_is, shown_row _ _, none) refl
 
 pub returns-in_err-place : goal.returns-in_err-place
 returns-in_err-place c =
@@ -18,7 +26,7 @@ returns-in_err-symbol c =
     let row = get_or rows c.args.scope [] in
     let place = c.in_ok-place.place.now in
     let within = rw length-map at (rw (← c.self.view_is) at c.requires) in
-    let read = row_read rows c.args.scope c.index.result c.index-2.result.now c.index.ensures within c.index-2.ensures in
+    let read = row_read rows c.args.scope c.index.result c.index-slots.result.now c.index.ensures within c.index-slots.ensures in
     rw (← c.self.view_is, shown_row _ _)
     (c.from_residual-in_err-symbol.ensures
     ∙ ap (option_map (λ (b : ℕ × ℕ). b.1)) (c.in_err-symbol.ensures ∙ ap (λ (r : SlotList). get_or r place None) read)
@@ -30,7 +38,7 @@ returns c =
     let row = get_or rows c.args.scope [] in
     let place = c.in_ok-place.place.now in
     let within = rw length-map at (rw (← c.self.view_is) at c.requires) in
-    let read = row_read rows c.args.scope c.index.result c.index-2.result.now c.index.ensures within c.index-2.ensures in
+    let read = row_read rows c.args.scope c.index.result c.index-slots.result.now c.index.ensures within c.index-slots.ensures in
     rw (← c.self.view_is, shown_row _ _)
     (ap (option_map (λ (b : ℕ × ℕ). b.1)) (c.in_ok-symbol.ensures ∙ ap (λ (r : SlotList). get_or r place None) read)
     ∙ sym (lookup_filled c.args.number row (Some place) (subst (StandsAt row c.args.number) (sym c.in_ok-place.ensures.value) (c.self.invariant c.args.scope c.args.number))))
