@@ -4,14 +4,14 @@ ghost use Rattle.std.specs.Prelude.{◌≡◌, ◌<◌, ◌==◌, codes};
 ghost use Rattle.std.specs.List.{list_any};
 ghost use Rattle.std.specs.Str.{bytes_eq, chars};
 ghost use Rattle.semantic_syntax.specs.Counts.{raised};
-ghost use Rattle.scoping.specs.Source.{Source, IsSource, chain};
+ghost use Rattle.scoping.specs.Source.{Source, IsSource, TellsName, chain};
 ghost use Rattle.resolver.specs.Outward.{is_arguments, fits, tie, ends_at, ends_after};
 ghost use Rattle.resolver.specs.Settling.{answer_of, asked_of};
 
 use crate::outcomes::Outcome;
 use crate::pending::UnresolvedReference;
 use crate::rules::usable;
-use scoping::BindingSource;
+use scoping::{BindingSource, BoundName};
 use semantic_syntax::{Ident, ReferenceFlags, ScopeFlags, ScopeId, Steps, SymbolFlags, SymbolId};
 
 fn is_named_arguments(name: Ident<'_>) -> bool
@@ -40,16 +40,18 @@ fn fits_symbol(name: Ident<'_>, way: ReferenceFlags, flags: SymbolFlags) -> bool
 fn tied_in<L, B: BindingSource<L>>(
     scope: ScopeId,
     name: Ident<'_>,
+    bound: &BoundName<'_>,
     way: ReferenceFlags,
     source: &B,
     steps: &mut Steps<L>,
 ) -> Option<SymbolId>
-    requires { scope < (B.meaning source.now).scopes }
+    requires scope { scope < (B.meaning source.now).scopes }
+    requires bound { TellsName (B.meaning source.now) (chars name.text.now) bound.now }
+    requires law { IsSource (B.meaning source.now) }
     ensures tie { result ≡ tie (B.meaning source.now) (chars name.entry.text.now) way.bits scope }
     ensures step { steps.new ≡ raised steps.old 1 }
-    ensures law { IsSource (B.meaning source.now) }
 {
-    let symbol = source.probe(scope, name, steps)?;
+    let symbol = bound.probe(scope, steps)?;
     if fits_symbol(name, way, source.flags_of_symbol(symbol)) {
         Some(symbol)
     } else {
@@ -96,9 +98,10 @@ pub fn look_up<L, B: BindingSource<L>>(
     ensures cost { steps.new ≡ raised steps.old (asked_of (B.meaning source.now) last pending.now) }
 {
     let way = source.way(pending.reference_id);
+    let bound = source.bound_name(pending.name);
     let mut scope = pending.lookup_scope_id;
     loop {
-        if let Some(symbol) = tied_in(scope, pending.name, way, source, steps) {
+        if let Some(symbol) = tied_in(scope, pending.name, &bound, way, source, steps) {
             return Some(Outcome::Tied(symbol));
         }
         if is_barrier(scope, pending.name, way, source) {

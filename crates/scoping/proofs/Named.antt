@@ -1,11 +1,12 @@
 -- Values under names' numbers, with the names in place of their numbers.
-use Rattle.std.proofs.Common.{◌≡◌, ℕ, ◌<◌, ◌==◌, nat_eq, Bool, true, false, cond, if◌then◌else◌, List, [], ◌∷◌, ◌++◌, None, length, refl, ap}
+use Rattle.std.proofs.Common.{◌≡◌, ℕ, ◌<◌, ◌==◌, nat_eq, Bool, true, false, cond, if◌then◌else◌, List, [], ◌∷◌, ◌++◌, Option, None, Some, MatchOption, length, map, refl, sym, ap}
 use Rattle.std.specs.List.{AllByRecursion}
 use Rattle.std.specs.Map.{lookup, values_of}
 use Rattle.std.specs.Str.{bytes_eq}
 use Rattle.std.proofs.Math.ListN.{get_or-append}
 use Rattle.indexmap.specs.IndexMap.{insert_entry, shift_remove_entry}
 use Rattle.semantic_syntax.specs.Tables.{Name}
+use Rattle.scoping.specs.Flat.{Numbered, bound_under}
 use Rattle.scoping.specs.Names.{name_at, named, IsUnknown, IsNumberOf}
 
 -- each number is that of a name
@@ -49,6 +50,16 @@ module _ {X : Type 0} (names : List Name) (name : Name) where
             → named names (cond b es (e ∷ shift_remove_entry (nat_eq n) es)) ≡ shift_remove_entry (bytes_eq name) (named names (e ∷ es))
         by true same rest = rw same refl
         by false same rest = rw (same, rest) refl
+
+-- what the lists bind under the number of a name is what they bind to the name
+pub under-named : (names : List Name) (name : Name) (number : Option ℕ) → MatchOption number (IsUnknown names name) (λ n. IsNumberOf names name n)
+    → (bs : List Numbered) → AllByRecursion (AreKnown (length names)) bs → map (bound_under number) bs ≡ map (lookup (bytes_eq name)) (map (named names) bs)
+under-named names name number told [] h = refl
+under-named names name number told (b ∷ bs) h = λ j. here number told j ∷ under-named names name number told bs h.1 j
+  where
+    here : (number : Option ℕ) → MatchOption number (IsUnknown names name) (λ n. IsNumberOf names name n) → bound_under number b ≡ lookup (bytes_eq name) (named names b)
+    here None unknown = sym (lookup-unknown names name unknown b h.0)
+    here (Some n) known = sym (lookup-named names name n known b h.0)
 
 -- the values stay
 pub values-named : {X : Type 0} (names : List Name) (es : List (ℕ × X)) → values_of (named names es) ≡ values_of es

@@ -12,6 +12,10 @@ Entries = List ((ℕ × ℕ) × ℕ)
 abbrev pub Numbered : Type 0
 Numbered = List (ℕ × ℕ)
 
+-- the symbol under the number, if there is a number and it has one
+abbrev pub bound_under : Option ℕ → Numbered → Option ℕ
+bound_under number es = option_map_or (λ n. lookup (nat_eq n) es) number None
+
 -- the slots of a scope, in the order of binding; one whose binding went is empty
 abbrev pub SlotList : Type 0
 SlotList = List (Option (ℕ × ℕ))

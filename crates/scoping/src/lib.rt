@@ -3,6 +3,7 @@
 
 pub mod binding_table;
 pub mod bindings;
+pub mod bound_name;
 pub mod free_table;
 pub mod kept;
 pub mod name_table;
@@ -19,6 +20,7 @@ pub mod symbol_row;
 pub mod unresolved;
 
 pub use bindings::{AllBindings, Bindings, BindingsIter, BoundSymbols};
+pub use bound_name::BoundName;
 pub use node_tables::NodeTables;
 pub use reference_iterators::{ReferencesIter, UseLists};
 pub use scope_iterators::{ScopeAncestors, ScopeIds};

@@ -2,8 +2,9 @@
 ghost use Rattle.std.specs.Prelude.{◌≡◌, ◌<◌};
 ghost use Rattle.std.specs.Str.{chars};
 ghost use Rattle.semantic_syntax.specs.Counts.{raised};
-ghost use Rattle.scoping.specs.Source.{Source, IsSource};
+ghost use Rattle.scoping.specs.Source.{Source, IsSource, TellsName};
 
+use crate::bound_name::BoundName;
 use semantic_syntax::{
     Ident, ReferenceFlags, ReferenceId, ScopeFlags, ScopeId, Steps, SymbolFlags, SymbolId,
 };
@@ -16,12 +17,17 @@ pub trait BindingSource<L> {
     // What the calls tell.
     ghost meaning: { Self → Source };
 
-    /// The symbol that the scope binds to the name, if any. No other call tells a binding, and each call is
-    /// one step.
+    /// The symbol that the scope binds to the name, if any. No other call than this and `bound_name` tells a
+    /// binding, and each call is one step.
     fn probe(&self, scope: ScopeId, name: Ident<'_>, steps: &mut Steps<L>) -> Option<SymbolId>
         requires { scope < (meaning self.now).scopes }
         ensures bound { result ≡ (meaning self.now).bound scope (chars name.entry.text.now) }
         ensures step { steps.new ≡ raised steps.old 1 }
+        ensures law { IsSource (meaning self.now) };
+
+    /// What the scopes bind to the name, for a look-up that asks several of them. Each one that is asked is one step.
+    fn bound_name(&self, name: Ident<'_>) -> BoundName<'_>
+        ensures bound { TellsName (meaning self.now) (chars name.entry.text.now) result }
         ensures law { IsSource (meaning self.now) };
 
     /// The scope around the scope, if any.

@@ -4,6 +4,7 @@ ghost use Rattle.scoping.specs.Source.{IsSource};
 ghost use Rattle.scoping.specs.Told.{source_of};
 
 use super::Scoping;
+use crate::bound_name::BoundName;
 use crate::source::BindingSource;
 use semantic_syntax::{
     Ident, ReferenceFlags, ReferenceId, ScopeFlags, ScopeId, Steps, SymbolFlags, SymbolId,
@@ -27,6 +28,11 @@ impl<L> BindingSource<L> for Scoping {
         self.attest();
         steps.tick();
         self.get_binding(scope, name)
+    }
+
+    fn bound_name(&self, name: Ident<'_>) -> BoundName<'_> {
+        self.attest();
+        self.name_in_scopes(name)
     }
 
     fn parent(&self, scope: ScopeId) -> Option<ScopeId> {
