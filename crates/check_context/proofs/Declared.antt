@@ -3,7 +3,7 @@ use Rattle.std.proofs.Common.{◌≡◌, ℕ, ◌<◌, ◌≤◌, [], length, ap
 use Rattle.std.specs.Prelude.{slice_get}
 use Rattle.std.proofs.lemmas.Option.{slice_get-get_or, slice_get_past}
 use Rattle.semantic_syntax.specs.Tables.{Tables}
-use Rattle.scoping.specs.Reading.{redeclarations_of, no_symbol}
+use Rattle.semantic_syntax.specs.Reading.{redeclarations_of, no_symbol}
 use Rattle.check_model.specs.Sight.{entries_in}
 
 -- a symbol of the table has those of its row

@@ -4,9 +4,9 @@ use Rattle.std.specs.Prelude.{IfSome, find, map}
 use Rattle.std.specs.Option.{option_map_or}
 use Rattle.std.proofs.lemmas.Option.{slice_get_cases}
 use Rattle.semantic_syntax.specs.Tables.{Tables}
-use Rattle.scoping.specs.Source.{IsSource, chain_within}
-use Rattle.scoping.specs.Told.{source_of}
-use Rattle.scoping.specs.Reading.{parent_of, chain, IsForest}
+use Rattle.semantic_syntax.specs.Source.{IsSource, chain_within}
+use Rattle.semantic_syntax.specs.Told.{source_of}
+use Rattle.semantic_syntax.specs.Reading.{parent_of, chain, IsForest}
 use Rattle.scoping.proofs.Parents.{chain-next, parent_of-past}
 use Rattle.check_model.specs.Context.{seen_row}
 use Rattle.check_model.specs.Search.{first}

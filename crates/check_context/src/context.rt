@@ -3,7 +3,7 @@ ghost use Rattle.std.specs.Prelude.{◌≡◌, ◌<◌, true, length, is_some, o
 ghost use Rattle.semantic_tree.specs.ChildIter.{shown};
 ghost use Rattle.semantic_tree.specs.Sound.{is_sound};
 ghost use Rattle.node_store.specs.PathLeft.{path_left};
-ghost use Rattle.scoping.specs.Reading.{scope_of, parent_of};
+ghost use Rattle.semantic_syntax.specs.Reading.{scope_of, parent_of};
 ghost use Rattle.check_model.specs.Context.{seen_row};
 ghost use Rattle.check_model.specs.Search.{first};
 ghost use Rattle.check_model.specs.Sight.{entries_of};

@@ -10,7 +10,7 @@ use Rattle.semantic_model.specs.Nodes.{is}
 use Rattle.semantic_model.specs.Element.{Element}
 use Rattle.semantic_model.specs.Class.{PrivateUse}
 use Rattle.semantic_model.specs.Place.{Place, OpenScope, innermost}
-use Rattle.scoping.specs.Reading.{chain, bindings_of}
+use Rattle.semantic_syntax.specs.Reading.{chain, bindings_of}
 use Rattle.walk_model.specs.Standing.{Standing}
 use Rattle.walk_model.specs.Shown.{ShowsScope, ShowsChain}
 use Rattle.walk_model.specs.Walks.{numbers}

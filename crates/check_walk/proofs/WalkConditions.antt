@@ -9,7 +9,7 @@ use Rattle.semantic_syntax.specs.Tables.{Tables}
 use Rattle.semantic_syntax.specs.declared.scope_flags.TheConstants.ScopeFlags as scope
 use Rattle.semantic_tree.specs.Tree.{Tree}
 use Rattle.semantic_tree.specs.Faults.{first_fault}
-use Rattle.scoping.specs.Reading.{scope_of}
+use Rattle.semantic_syntax.specs.Reading.{scope_of}
 use Rattle.semantic_model.specs.Cursor.{on_entering}
 use Rattle.semantic_model.specs.Declaration.{Declaration}
 use Rattle.semantic_model.specs.Event.{Event, declares, takes_over, ends_header, events_of, written_declarations}

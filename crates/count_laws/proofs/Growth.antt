@@ -7,7 +7,8 @@ use Rattle.semantic_kinds.specs.declared.kind.AstType.TheVariants as kind
 use Rattle.semantic_syntax.specs.Sets.{meets}
 use Rattle.semantic_syntax.specs.declared.scope_flags.TheConstants.ScopeFlags as flag
 use Rattle.semantic_syntax.specs.Tables.{Name, Symbol, Tables}
-use Rattle.scoping.specs.Reading.{bindings_of, no_symbol, reference_of, scope_of, symbol_of, uses_of}
+use Rattle.semantic_syntax.specs.Reading.{bindings_of, bound_in, no_symbol, reference_of, scope_of, symbol_of, uses_of}
+use Rattle.semantic_syntax.specs.Told.{source_of}
 use Rattle.scoping.specs.Writing.{with_symbol, with_uses, with_home}
 use Rattle.scoping.specs.Writing as writing
 use Rattle.semantic_model.specs.Nodes.{is}
@@ -17,7 +18,7 @@ use Rattle.semantic_model.specs.Declaration.{How, plain, hoisted, moved, caught,
 use Rattle.semantic_model.specs.Binder.{declared_on_entering, declared_on_opening}
 use Rattle.semantic_model.specs.Event.{takes_over, is_catch_body, taken_over, placed, declares_all}
 use Rattle.semantic_model.specs.Hoist.{Hit}
-use Rattle.semantic_model.specs.Outcome.{Pending, Outcome, means, is_free, waits, header_outcome, source_of}
+use Rattle.semantic_model.specs.Outcome.{Pending, Outcome, means, is_free, waits, header_outcome}
 use Rattle.semantic_model.specs.Step.{Step, entering, opening, header_ending, closing, leaving}
 use Rattle.semantic_model.specs.TablesOf.{is_direct_eval}
 use Rattle.walk_model.specs.Standing.{Standing}
@@ -130,7 +131,7 @@ remember_keeps w [] x y = refl
 remember_keeps w (s ∷ ss) x y = remember_keeps (reaches.remember w s x y) ss x y
 
 move_adds : (w : Standing) (from target y : ℕ) (x : Name) → AddsNone w.tables (reaches.move_symbol w from target y x).tables
-move_adds w from target y x = by (writes.bound_to w.tables target x)
+move_adds w from target y x = by (bound_in w.tables target x)
   where
     by : (o : Option ℕ) → AddsNone w.tables (reaches.unless_bound o w (reaches.rebind w x y from target)).tables
     by None = record { of_scopes = omega arith; of_symbols = omega (arith, length-set w.tables.symbols y (record (symbol_of w.tables y) { scope = target })); of_references = omega arith }
@@ -160,14 +161,14 @@ name_moves_adds w x (Some y) from to =
     record { of_scopes = omega arith; of_symbols = omega (arith, length-set w.tables.symbols y (record (symbol_of w.tables y) { scope = to })); of_references = omega arith }
 
 out_adds : (w : Standing) (block target y : ℕ) (x : Name) → AddsNone w.tables (reaches.move_out w block target y x).tables
-out_adds w block target y x = by (writes.bound_to w.tables target x)
+out_adds w block target y x = by (bound_in w.tables target x)
   where
     gone : Standing
     gone = reaches.move_name w x block target
 
     by : (o : Option ℕ) → AddsNone w.tables (reaches.unless_bound o w (reaches.remember (reaches.give gone y target) block x y)).tables
     by None =
-        then_none 0 0 0 w.tables gone.tables (reaches.give gone y target).tables (name_moves_adds w x (writes.bound_to w.tables block x) block target)
+        then_none 0 0 0 w.tables gone.tables (reaches.give gone y target).tables (name_moves_adds w x (bound_in w.tables block x) block target)
         (changes_symbol gone.tables y (record (symbol_of gone.tables y) { scope = target }))
     by (Some z) = adds_none w.tables
 

@@ -5,6 +5,7 @@ use Rattle.std.proofs.lemmas.List.{length-map}
 use Rattle.std.proofs.lemmas.List.Sums.{sum_by-cons}
 use Rattle.semantic_kinds.specs.declared.kind.AstType.TheVariants as kind
 use Rattle.semantic_syntax.specs.Tables.{Scope}
+use Rattle.semantic_syntax.specs.Told.{source_of}
 use Rattle.semantic_tree.specs.Tree.{Tree}
 use Rattle.semantic_tree.specs.Faults.{first_fault}
 use Rattle.semantic_model.specs.Nodes.{is}
@@ -15,8 +16,8 @@ use Rattle.semantic_model.specs.Step.{Step, entering, opening, header_ending, cl
 use Rattle.semantic_model.specs.Event.{Event, events, written_declarations}
 use Rattle.semantic_model.specs.Fold.{State, start}
 use Rattle.semantic_model.specs.Hoist.{run}
-use Rattle.semantic_model.specs.Lookup.{scopes_asked}
-use Rattle.semantic_model.specs.Outcome.{source_of, last_outcome}
+use Rattle.semantic_syntax.specs.Lookup.{scopes_asked}
+use Rattle.semantic_model.specs.Outcome.{last_outcome}
 use Rattle.semantic_model.specs.Outward.{depth}
 use Rattle.semantic_model.specs.TablesOf.{entry_of, tables_of}
 use Rattle.semantic_model.specs.Tie.{ties, answer, answers}

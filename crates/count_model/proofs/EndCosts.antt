@@ -4,6 +4,9 @@ use Rattle.std.specs.Prelude.{slice_get}
 use Rattle.std.specs.Option.{option_map_or}
 use Rattle.std.proofs.lemmas.List.{append_assoc, map-append}
 use Rattle.semantic_syntax.specs.Tables.{Name, Scope}
+use Rattle.semantic_syntax.specs.Reading.{way_of, parent_of}
+use Rattle.semantic_syntax.specs.Told.{source_of}
+use Rattle.semantic_syntax.specs.Source.{chain}
 use Rattle.semantic_model.specs.Place.{OpenScope}
 use Rattle.semantic_model.specs.Binding.{get}
 use Rattle.semantic_model.specs.Declaration.{contains}
@@ -11,10 +14,9 @@ use Rattle.semantic_model.specs.Reference.{Occurrence}
 use Rattle.semantic_model.specs.Event.{Event}
 use Rattle.semantic_model.specs.Fold.{State, start}
 use Rattle.semantic_model.specs.Hoist.{run}
-use Rattle.semantic_model.specs.Lookup.{Lookup, tied, barred, unanswered, lookup, scopes_asked}
+use Rattle.semantic_syntax.specs.Lookup.{Lookup, tied, barred, unanswered, lookup, scopes_asked}
 use Rattle.semantic_model.specs.Tie.{Tie, until_end_of, seen_as, answer}
-use Rattle.semantic_model.specs.Outward.{way_of, parent_of}
-use Rattle.semantic_model.specs.Outcome.{Pending, Outcome, is_free, waits, source_of, chain, up_to, answer as source_answer, outcome_or, waits_outside, header_outcome, header_asks, last_asks}
+use Rattle.semantic_model.specs.Outcome.{Pending, Outcome, is_free, waits, up_to, answer as source_answer, outcome_or, waits_outside, header_outcome, header_asks, last_asks}
 use Rattle.semantic_model.proofs.Members.{contains_first}
 use Rattle.walk_model.specs.Standing.{Standing}
 use Rattle.walk_model.specs.Walks.{numbers}
@@ -63,13 +65,13 @@ module _ (w : Standing) (st final : State) (es : List Event) (rs : List Occurren
         → left_then left e (waits_outside (source_of w.tables) c) ≡ cost final es t.reference tail
     left_outside t e h seg own [] p q there =
         let k : slice_get seen c ≡ Some [] = subst (λ m. slice_get seen m ≡ Some []) q (linked_right seen seg (own ∷ []) (subst (AreLinked seen) p h.linked)).0 in
-        let parent : parent_of w.tables c ≡ None = parent_is stack seen calls bare w c [] now_at.scopes k in
+        let parent : parent_of w.tables.scopes c ≡ None = parent_is stack seen calls bare w c [] now_at.scopes k in
         ap (λ o. left_then left e (option_map_or waits o is_free)) parent
     left_outside t e h seg own (t2 ∷ ts) p q there =
         let whole : t.reference.chain ≡ h.asked ++ (seg ++ own ∷ t2 ∷ ts) = h.chain_is ∙ ap (λ l. h.asked ++ l) p in
         let split : t.reference.chain ≡ (h.asked ++ (seg ++ own ∷ [])) ++ t2 ∷ ts = whole ∙ ap (λ l. h.asked ++ l) (sym (append_assoc seg (own ∷ []) (t2 ∷ ts))) ∙ sym (append_assoc h.asked (seg ++ own ∷ []) (t2 ∷ ts)) in
         let l : AreLinked seen (own ∷ t2 ∷ ts) = linked_right seen seg (own ∷ t2 ∷ ts) (subst (AreLinked seen) p h.linked) in
-        let parent : parent_of w.tables c ≡ Some t2.number = parent_is stack seen calls bare w c (numbers (t2 ∷ ts)) now_at.scopes (subst (λ n. slice_get seen n ≡ Some (numbers (t2 ∷ ts))) q l.0) in
+        let parent : parent_of w.tables.scopes c ≡ Some t2.number = parent_is stack seen calls bare w c (numbers (t2 ∷ ts)) now_at.scopes (subst (λ n. slice_get seen n ≡ Some (numbers (t2 ∷ ts))) q l.0) in
         ap (λ o. left_then left e (option_map_or waits o is_free)) parent
         ∙ left_at t (record e { lookup_scope = t2.number }) (h.asked ++ (seg ++ own ∷ [])) t2 ts split h.descends refl there
 

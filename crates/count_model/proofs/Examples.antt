@@ -7,6 +7,7 @@ use Rattle.semantic_kinds.specs.declared.kind.AstType.{AstType}
 use Rattle.semantic_kinds.specs.declared.kind.AstType.TheVariants as kind
 use Rattle.semantic_kinds.specs.declared.role.Role.{Role}
 use Rattle.semantic_kinds.specs.declared.role.Role.TheVariants as role
+use Rattle.semantic_syntax.specs.Source.{chain_within}
 use Rattle.semantic_tree.specs.Forest.{Forest, nothing, tree, join}
 use Rattle.semantic_tree.specs.Tree.{Tree, numbered_tree}
 use Rattle.semantic_model.specs.Step.{steps}
@@ -69,10 +70,12 @@ empty_asks = refl
 
 -- two of them are asked at the ends of the headers, and the root's in the end
 empty_on_the_way : asked_by_steps (written_declarations (steps empty_bodies)) nothing_made (steps empty_bodies) ≡ 2
+unfolding chain_within
 empty_on_the_way = refl
 
 -- which is as deep as its scope lies
 empty_depths : depths (tables_of empty_bodies) ≡ 3
+unfolding chain_within
 empty_depths = refl
 
 -- `arguments` isn't looked up past its function

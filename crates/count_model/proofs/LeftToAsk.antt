@@ -10,7 +10,7 @@ use Rattle.semantic_model.specs.Place.{OpenScope}
 use Rattle.semantic_model.specs.Reference.{Occurrence}
 use Rattle.semantic_model.specs.Event.{Event}
 use Rattle.semantic_model.specs.Fold.{State}
-use Rattle.semantic_model.specs.Lookup.{scopes_asked}
+use Rattle.semantic_syntax.specs.Lookup.{scopes_asked}
 use Rattle.semantic_model.specs.Outcome.{Pending, Outcome, means, is_free, waits}
 use Rattle.semantic_model.specs.Tie.{Tie, ties, answer}
 use Rattle.walk_model.specs.Settles.{staying, waiting_on}

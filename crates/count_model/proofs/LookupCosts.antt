@@ -1,7 +1,7 @@
 -- How many scopes a look-up asks, along a chain in parts.
 use Rattle.std.proofs.Common.{◌≡◌, ℕ, suc, ◌+◌, ◌≤◌, List, [], ◌∷◌, ◌++◌, Option, Some, None, Bool, true, false, cond, refl, ap, length, arith}
 use Rattle.semantic_syntax.specs.Tables.{Name}
-use Rattle.semantic_model.specs.Lookup.{Seen, Asked, Lookup, tied, barred, fits, ends_after, tied_by, or_lookup, lookup, scopes_asked}
+use Rattle.semantic_syntax.specs.Lookup.{Seen, Asked, Lookup, tied, barred, fits, ends_after, tied_by, or_lookup, lookup, scopes_asked}
 use Rattle.walk_model.proofs.Lookups.{answered_in, AreAlike}
 
 abbrev count_or : Option Lookup → ℕ → ℕ

@@ -1,13 +1,14 @@
 -- Step by step, what the walk asks and what is left to ask for the references that wait are what the look-ups ask.
-use Rattle.std.proofs.Common.{◌≡◌, ℕ, ◌+◌, ◌≤◌, List, [], ◌∷◌, ◌++◌, Some, None, Bool, true, false, cond, inl, inr, refl, sym, ap, subst, ◌∙◌, map, flat_map, length, slice_index_or, arith}
+use Rattle.std.proofs.Common.{◌≡◌, ℕ, ◌+◌, ◌≤◌, List, [], ◌∷◌, ◌++◌, Some, None, Bool, true, false, cond, inl, inr, refl, sym, ap, subst, ◌∙◌, flat_map, length, arith}
 use Rattle.std.specs.Prelude.{slice_get}
 use Rattle.std.specs.List.{AllByRecursion, sum_by, cons_option}
 use Rattle.std.proofs.lemmas.Bool.Decides.{eqb_tells}
 use Rattle.std.proofs.lemmas.List.{length-append, append_assoc, append-nil}
 use Rattle.std.proofs.lemmas.List.Sums.{sum_by-cons, sum_by_push}
 use Rattle.semantic_kinds.specs.declared.kind.AstType.TheVariants as kind
-use Rattle.semantic_syntax.specs.declared.references.Reference.{Reference}
 use Rattle.semantic_syntax.specs.Tables.{Scope}
+use Rattle.semantic_syntax.specs.Told.{source_of}
+use Rattle.semantic_syntax.specs.Reading.{way_of}
 use Rattle.semantic_tree.specs.Tree.{Tree}
 use Rattle.semantic_tree.specs.Faults.{first_fault}
 use Rattle.semantic_model.specs.Nodes.{is}
@@ -18,10 +19,9 @@ use Rattle.semantic_model.specs.Step.{Step, entering, opening, header_ending, cl
 use Rattle.semantic_model.specs.Event.{Event, ends_header, events_of, events, written_declarations}
 use Rattle.semantic_model.specs.Fold.{State, start}
 use Rattle.semantic_model.specs.Hoist.{run}
-use Rattle.semantic_model.specs.Lookup.{scopes_asked}
+use Rattle.semantic_syntax.specs.Lookup.{scopes_asked}
 use Rattle.semantic_model.specs.Tie.{Tie, ties, answers, until_end_of}
-use Rattle.semantic_model.specs.Outcome.{Pending, source_of, header_outcome, header_asks, last_asks}
-use Rattle.semantic_model.specs.Outward.{way_of}
+use Rattle.semantic_model.specs.Outcome.{Pending, header_outcome, header_asks, last_asks}
 use Rattle.semantic_model.specs.TablesOf.{is_direct_eval}
 use Rattle.semantic_model.proofs.Compose.{run-append}
 use Rattle.semantic_model.proofs.Growth.{start_is_sound}
@@ -131,7 +131,7 @@ module _ (ds : List Declaration) (final : State) (es : List Event) (final_is : f
 
     -- each reference that waits, with its tie and its way
     abbrev WithWay : Tie → Pending → Type 0
-    WithWay t x = Waits awaiting seen fs final es t x × (slice_index_or (map (λ (r : Reference). r.flags.bits) w.tables.references) t.number 0 ≡ t.reference.way)
+    WithWay t x = Waits awaiting seen fs final es t x × (way_of w.tables t.number ≡ t.reference.way)
 
     tied : AllByRecursion (HasTie WithWay (ties final es 0 rs)) w.waiting
     tied = among_ties (IsDone awaiting (length seen)) WithWay (λ t x y. y.0.number) (ties final es 0 rs) w.tables.references w.waiting 0 []
@@ -139,7 +139,7 @@ module _ (ds : List Declaration) (final : State) (es : List Event) (final_is : f
         (numbered final es 0 rs) refl
 
     way_is : (x : Pending) (h : HasTie WithWay (ties final es 0 rs) x) → way_of w.tables x.reference ≡ h.tie.reference.way
-    way_is x h = ap (λ m. slice_index_or (map (λ (r : Reference). r.flags.bits) w.tables.references) m 0) h.waits_so.0.number ∙ h.waits_so.1
+    way_is x h = ap (way_of w.tables) h.waits_so.0.number ∙ h.waits_so.1
 
     stands_there : (x : Pending) (qs : List Occurrence) → whole ≡ rs ++ qs → (h : HasTie WithWay (ties final es 0 rs) x) → slice_get whole x.reference ≡ Some h.tie.reference
     stands_there x qs e h = ap (λ l. slice_get l x.reference) e ∙ more_at rs qs x.reference h.tie.reference (reference_at_tie final es 0 rs x.reference h.tie h.is_there)

@@ -2,10 +2,11 @@
 use Rattle.std.specs.Prelude.{ℕ, ◌+◌, List, [], ◌∷◌}
 use Rattle.std.specs.List.{sum_by}
 use Rattle.semantic_syntax.specs.Tables.{Tables}
+use Rattle.semantic_syntax.specs.Told.{source_of}
 use Rattle.semantic_tree.specs.Tree.{Tree}
 use Rattle.semantic_model.specs.Count.{asked_in_all}
 use Rattle.semantic_model.specs.Declaration.{Declaration}
-use Rattle.semantic_model.specs.Outcome.{source_of, header_asks, last_asks}
+use Rattle.semantic_model.specs.Outcome.{header_asks, last_asks}
 use Rattle.semantic_model.specs.Outward.{depth}
 use Rattle.semantic_model.specs.Step.{Step, header_ending, steps}
 use Rattle.walk_model.specs.Standing.{Standing}

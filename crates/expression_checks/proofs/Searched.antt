@@ -3,9 +3,9 @@ use Rattle.std.proofs.Common.{◌≡◌, ℕ, ◌<◌, List, [], ◌∷◌, Opti
 use Rattle.std.specs.Prelude.{map}
 use Rattle.std.specs.Option.{option_map, option_map_or, unwrap_or}
 use Rattle.semantic_syntax.specs.Tables.{Tables}
-use Rattle.scoping.specs.Source.{IsSource}
-use Rattle.scoping.specs.Told.{source_of}
-use Rattle.scoping.specs.Reading.{parent_of, chain}
+use Rattle.semantic_syntax.specs.Source.{IsSource}
+use Rattle.semantic_syntax.specs.Told.{source_of}
+use Rattle.semantic_syntax.specs.Reading.{parent_of, chain}
 use Rattle.check_model.specs.Context.{seen_row}
 use Rattle.check_model.specs.Sight.{Sight, SeenScope, SeenClass}
 use Rattle.check_model.specs.Super.{Verdict, decides, kept_after, search_from}

@@ -3,7 +3,7 @@ use Rattle.std.proofs.Common.{◌≡◌, ℕ, suc, ◌+◌, ◌-◌, ◌<◌, �
 use Rattle.std.proofs.lemmas.Bool.{eq-eqb}
 use Rattle.semantic_syntax.specs.Tables.{Tables}
 use Rattle.semantic_diagnostics.specs.declared.diagnostic.Diagnostic.{Diagnostic}
-use Rattle.scoping.specs.Reading.{no_symbol, symbol_of}
+use Rattle.semantic_syntax.specs.Reading.{no_symbol, symbol_of}
 use Rattle.check_model.specs.Exports.{bound_rows, import_rows}
 use Rattle.module_checks.specs.Bound.{times_in, AreCounting, repeated}
 

@@ -2,7 +2,7 @@
 use Rattle.std.specs.Prelude.{◌≡◌, ℕ, zero, suc, ◌+◌, ◌<◌, List, [], ◌++◌, ◌==◌, filter, map, length, slice_index_or}
 use Rattle.semantic_syntax.specs.Tables.{Tables}
 use Rattle.semantic_diagnostics.specs.declared.diagnostic.Diagnostic.{Diagnostic}
-use Rattle.scoping.specs.Reading.{bindings_of}
+use Rattle.semantic_syntax.specs.Reading.{bindings_of}
 
 -- the symbols that the root scope binds
 abbrev pub bound_in : Tables → List ℕ

@@ -2,7 +2,7 @@
 ghost use Rattle.std.specs.Prelude.{◌≡◌, ◌<◌, length, IfOk};
 ghost use Rattle.std.specs.Str.{chars};
 ghost use Rattle.check_model.specs.Exports as rows;
-ghost use Rattle.scoping.specs.Reading.{symbol_of};
+ghost use Rattle.semantic_syntax.specs.Reading.{symbol_of};
 ghost use Rattle.check_context.specs.Handed.{around, IsContext};
 ghost use Rattle.check_context.specs.Tells.{Tells};
 ghost use Rattle.module_checks.specs.Bound.{bound_in, repeated, AreCounts};

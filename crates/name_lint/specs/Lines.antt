@@ -5,7 +5,7 @@ use Rattle.std.specs.Str.{encode_utf8_all}
 use Rattle.semantic_syntax.specs.declared.spans.Span.{Span}
 use Rattle.semantic_syntax.specs.Tables.{Name, Symbol, Tables}
 use Rattle.semantic_tree.specs.Tree.{Tree}
-use Rattle.scoping.specs.Reading.{symbol_of}
+use Rattle.semantic_syntax.specs.Reading.{symbol_of}
 use Rattle.semantic_model.specs.Step.{Step, steps}
 use Rattle.semantic_model.specs.TablesOf.{tables_by}
 use Rattle.report_lines.specs.Pieces.{quoted, span_text}

@@ -7,7 +7,7 @@ use Rattle.semantic_syntax.specs.declared.references.Reference.{Reference}
 use Rattle.semantic_syntax.specs.Tables.{Name, Tables}
 use Rattle.semantic_tree.specs.declared.view.AstKind.{AstKind}
 use Rattle.name_uses.specs.Gathered.{text_of}
-use Rattle.scoping.specs.Reading.{no_reference, no_symbol, reference_of, symbol_of}
+use Rattle.semantic_syntax.specs.Reading.{no_reference, no_symbol, reference_of, symbol_of}
 use Rattle.name_uses.specs.Uses.{Use, used_symbol, use_of, uses_by}
 use Rattle.name_uses.specs.Live.{is_sure, sure_from, unmarked_from}
 use Rattle.name_uses.specs.Undeclared.{is_undeclared, undeclared_from}

@@ -4,8 +4,8 @@ use Rattle.semantic_syntax.specs.declared.scope_flags.TheConstants.ScopeFlags as
 use Rattle.semantic_syntax.specs.declared.symbol_flags.TheConstants.SymbolFlags as symbol
 use Rattle.semantic_syntax.specs.Sets.{meets}
 use Rattle.semantic_syntax.specs.Tables.{Tables, Symbol}
+use Rattle.semantic_syntax.specs.Reading.{scope_flags}
 use Rattle.semantic_tree.specs.Tree.{Tree}
-use Rattle.semantic_model.specs.Outward.{scope_flags}
 use Rattle.semantic_model.specs.Step.{Step, steps}
 use Rattle.semantic_model.specs.TablesOf.{tables_of}
 use Rattle.reachability.specs.Rows.{Among, Reached, rows_of}

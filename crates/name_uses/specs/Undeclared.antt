@@ -7,9 +7,9 @@ use Rattle.semantic_syntax.specs.declared.references.Reference.{Reference}
 use Rattle.semantic_syntax.specs.declared.scope_flags.TheConstants.ScopeFlags as scope
 use Rattle.semantic_syntax.specs.Sets.{meets}
 use Rattle.semantic_syntax.specs.Tables.{Name, Tables}
+use Rattle.semantic_syntax.specs.Reading.{scope_flags, chain}
 use Rattle.semantic_tree.specs.Tree.{Tree}
-use Rattle.semantic_model.specs.Lookup.{is_arguments}
-use Rattle.semantic_model.specs.Outward.{chain, scope_flags}
+use Rattle.semantic_syntax.specs.Lookup.{is_arguments}
 use Rattle.semantic_model.specs.Reference.{references}
 use Rattle.semantic_model.specs.Nodes.{is}
 use Rattle.semantic_model.specs.Step.{Step, entering, steps}
@@ -21,7 +21,7 @@ has_arguments t c = meets (scope_flags t c) scope.Function.bits && not (meets (s
 
 -- one of the scopes from this one outward is such a function's
 abbrev pub is_in_function : Tables → ℕ → Bool
-is_in_function t c = list_any (has_arguments t) (chain t c)
+is_in_function t c = list_any (has_arguments t) (chain t.scopes c)
 
 -- the reference means the arguments of a function around it
 abbrev pub means_arguments : Tables → Name → Reference → Bool

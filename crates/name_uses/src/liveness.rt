@@ -1,6 +1,6 @@
 //! Which symbols are in use.
 ghost use Rattle.std.specs.Prelude.{◌≡◌, ◌<◌, ◌++◌, ℕ, true, length, filter_map, IfOk, OnOk};
-ghost use Rattle.scoping.specs.Reading.{symbol_of};
+ghost use Rattle.semantic_syntax.specs.Reading.{symbol_of};
 ghost use Rattle.reachability.specs.Marked.{is_marked};
 ghost use Rattle.name_uses.specs.Live.{is_sure, sure_from, unmarked_from, AreOutside};
 ghost use Rattle.name_uses.specs.Gathered.{symbol_in};

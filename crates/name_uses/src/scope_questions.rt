@@ -2,7 +2,7 @@
 ghost use Rattle.std.specs.Prelude.{◌≡◌, ◌<◌, length};
 ghost use Rattle.semantic_syntax.specs.declared.scope_flags.TheConstants.ScopeFlags as scope_flag;
 ghost use Rattle.semantic_syntax.specs.Sets.{meets};
-ghost use Rattle.semantic_model.specs.Outward.{scope_flags};
+ghost use Rattle.semantic_syntax.specs.Reading.{scope_flags};
 ghost use Rattle.name_uses.specs.Undeclared.{has_arguments, is_in_function};
 
 use scoping::Scoping;

@@ -1,7 +1,7 @@
 //! Free references to names that nobody declares.
 ghost use Rattle.std.specs.Prelude.{◌≡◌, ◌<◌, length, map, IfOk, ℕ, List};
 ghost use Rattle.scoping.specs.Names.{name_of};
-ghost use Rattle.semantic_model.specs.Lookup.{is_arguments};
+ghost use Rattle.semantic_syntax.specs.Lookup.{is_arguments};
 ghost use Rattle.name_uses.specs.Gathered.{text_of};
 ghost use Rattle.name_uses.specs.Known.{names_of};
 ghost use Rattle.name_uses.specs.Undeclared.{means_arguments, is_known, is_undeclared, undeclared_from};

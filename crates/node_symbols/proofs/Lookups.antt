@@ -5,7 +5,7 @@ use Rattle.std.specs.Map.{lookup}
 use Rattle.std.proofs.lemmas.Bool.Decides.{eqb_tells}
 use Rattle.std.proofs.lemmas.Option.{slice_get-get_or}
 use Rattle.scoping.specs.NodeEntries.{NodeEntries}
-use Rattle.scoping.specs.Reading.{no_reference, reference_of}
+use Rattle.semantic_syntax.specs.Reading.{no_reference, reference_of}
 use Rattle.semantic_syntax.specs.Tables.{Tables}
 use Rattle.semantic_syntax.specs.declared.references.Reference.{Reference}
 use Rattle.semantic_model.specs.NodeTable.{Belongs, number_of, node_tables}

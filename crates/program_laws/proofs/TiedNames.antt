@@ -6,7 +6,7 @@ use Rattle.semantic_model.specs.Entries.{Among}
 use Rattle.semantic_model.specs.Event.{Event, events}
 use Rattle.semantic_model.specs.Fold.{State, start}
 use Rattle.semantic_model.specs.Hoist.{run}
-use Rattle.semantic_model.specs.Lookup.{lookup}
+use Rattle.semantic_syntax.specs.Lookup.{lookup}
 use Rattle.semantic_model.specs.Reference.{Occurrence, references}
 use Rattle.semantic_model.specs.Step.{steps}
 use Rattle.semantic_model.specs.TablesOf.{tables_of}

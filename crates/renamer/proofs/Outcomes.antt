@@ -2,7 +2,7 @@
 use Rattle.std.proofs.Common.{◌≡◌, ℕ, ◌<◌, List, Bool, true, false, None, Some, Option, Result, Ok, Err, IfOk, IfErr, length, get_or, ap, sym, ◌∙◌, subst}
 use Rattle.std.proofs.lemmas.Option.{slice_get-get_or}
 use Rattle.scoping.specs.NodeEntries.{NodeEntries}
-use Rattle.scoping.specs.Reading.{no_symbol}
+use Rattle.semantic_syntax.specs.Reading.{no_symbol}
 use Rattle.semantic_diagnostics.specs.declared.diagnostic.Diagnostic.{Diagnostic}
 use Rattle.semantic_syntax.specs.Tables.{Name, Tables}
 use Rattle.semantic_model.specs.TablesOf.{tables_of}

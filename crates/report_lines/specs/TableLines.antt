@@ -8,7 +8,7 @@ use Rattle.semantic_syntax.specs.declared.references.Reference.{Reference}
 use Rattle.semantic_syntax.specs.declared.references.Redeclaration.{Redeclaration}
 use Rattle.semantic_syntax.specs.declared.symbol_flags.SymbolFlags.{SymbolFlags}
 use Rattle.semantic_syntax.specs.Tables.{Name, Scope, Symbol, FreeLists, Tables}
-use Rattle.scoping.specs.Reading.{symbol_of, bindings_of, uses_of}
+use Rattle.semantic_syntax.specs.Reading.{symbol_of, bindings_of, uses_of}
 use Rattle.report_ends.specs.Streams.{numbered_text}
 use Rattle.report_lines.specs.Pieces.{quoted, number_or_dash, numbers, span_text, scope_flags, symbol_flags, reference_flags}
 

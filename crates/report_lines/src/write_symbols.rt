@@ -1,7 +1,7 @@
 //! Writes the lines on symbols, their declarations and their uses.
 ghost use Rattle.std.specs.Prelude.{◌<◌, length, ℕ};
 ghost use Rattle.std.specs.List.{flat_map};
-ghost use Rattle.scoping.specs.Reading.{symbol_of, uses_of};
+ghost use Rattle.semantic_syntax.specs.Reading.{symbol_of, uses_of};
 ghost use Rattle.report_ends.specs.Streams.{Writes, numbered_text};
 ghost use Rattle.report_lines.specs.TableLines.{symbol_line, redeclaration_line, uses_line, declaration_lines, symbol_lines, pure_line, all_symbol_lines};
 

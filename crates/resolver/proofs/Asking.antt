@@ -2,7 +2,7 @@
 use Rattle.std.proofs.Common.{◌≡◌, ℕ, ◌<◌, ◌≤◌, ◌+◌, arith, sym, Bool, true, false, List, [], ◌∷◌, Option, None, Some, refl, ap, ◌∙◌, if◌then◌else◌}
 use Rattle.semantic_syntax.specs.Counts.{raised}
 use Rattle.semantic_syntax.specs.Tables.{Name}
-use Rattle.scoping.specs.Source.{Source, IsSource, chain}
+use Rattle.semantic_syntax.specs.Source.{Source, IsSource, chain}
 use Rattle.resolver.specs.declared.outcomes.Outcome.{Outcome}
 use Rattle.resolver.specs.declared.outcomes.Outcome.TheVariants.{Tied, Free}
 use Rattle.resolver.specs.Outward.{tie, ends_after, ends_at, up_to, up_to_last, answer, asked}

@@ -2,7 +2,7 @@
 use Rattle.std.proofs.Common.{◌≡◌, ℕ, ◌<◌, ◌==◌, Bool, true, false, List, [], ◌∷◌, Option, None, Some, refl, sym, ap, ◌∙◌, zero, suc, length, arith}
 use Rattle.std.specs.List.{list_any}
 use Rattle.std.specs.Option.{option_map_or}
-use Rattle.scoping.specs.Source.{Source, chain_within, ends_within, chain, IsSource}
+use Rattle.semantic_syntax.specs.Source.{Source, chain_within, ends_within, chain, IsSource}
 
 -- a walk that ends within some steps is the same with one more
 chain_within-more : (parent : ℕ → Option ℕ) (count s : ℕ) → ends_within parent count s ≡ true → chain_within parent (suc count) s ≡ chain_within parent count s

@@ -3,7 +3,7 @@ use Rattle.std.proofs.Common.{ℕ, Bool, true, false, IsTrue, List, [], ◌∷�
 use Rattle.std.specs.Option.{option_map_or}
 use Rattle.std.specs.Str.{chars}
 use Rattle.std.proofs.lemmas.List.Elements.{All-map}
-use Rattle.scoping.specs.Source.{Source, chain}
+use Rattle.semantic_syntax.specs.Source.{Source, chain}
 use Rattle.resolver.specs.declared.outcomes.Outcome.TheVariants.{Tied, Free}
 use Rattle.resolver.specs.declared.pending.UnresolvedReference.{UnresolvedReference}
 use Rattle.resolver.specs.Outward.{answer, tie, ends_after}

@@ -1,24 +1,12 @@
 -- A look-up of a name: scopes are asked outward.
-use Rattle.std.specs.Prelude.{ℕ, ◌+◌, ◌==◌, Bool, false, ◌&&◌, ◌||◌, not, List, [], ◌∷◌, Option, None, Some, if◌then◌else◌, codes}
+use Rattle.std.specs.Prelude.{ℕ, ◌+◌, ◌==◌, Bool, false, List, [], ◌∷◌, Option, None, Some, if◌then◌else◌}
 use Rattle.std.specs.Option.{option_map_or}
-use Rattle.std.specs.Str.{bytes_eq}
-use Rattle.semantic_syntax.specs.declared.scope_flags.TheConstants.ScopeFlags as scope
-use Rattle.semantic_syntax.specs.declared.symbol_flags.TheConstants.SymbolFlags as symbol
-use Rattle.semantic_syntax.specs.declared.reference_flags.TheConstants.ReferenceFlags as way
-use Rattle.semantic_syntax.specs.Sets.{meets}
-use Rattle.semantic_syntax.specs.Usable.{is_usable}
 use Rattle.semantic_syntax.specs.Tables.{Name}
-use Rattle.scoping.specs.Source.{Source}
+use Rattle.semantic_syntax.specs.Lookup.{fits}
+use Rattle.semantic_syntax.specs.Lookup as lookup
+use Rattle.semantic_syntax.specs.Source.{Source}
 use Rattle.resolver.specs.declared.outcomes.Outcome.{Outcome}
 use Rattle.resolver.specs.declared.outcomes.Outcome.TheVariants.{Tied, Free}
-
--- whether a reference means the arguments of the function around it
-abbrev pub is_arguments : Name → ℕ → Bool
-is_arguments x w = bytes_eq x (codes "arguments") && (meets w way.Value.bits || meets w way.ValueAsType.bits)
-
--- whether a symbol with the flags fits; `arguments` is never the own name of a function expression
-abbrev pub fits : Name → ℕ → ℕ → Bool
-fits x w flags = is_usable w flags && not (is_arguments x w && meets flags symbol.FunctionExpression.bits)
 
 -- the symbol that the scope ties a reference to
 abbrev pub tie : Source → Name → ℕ → ℕ → Option ℕ
@@ -28,10 +16,9 @@ tie source x w s = fitting (source.bound s x)
     fitting None = None
     fitting (Some y) = if fits x w (source.symbol_flags y) then Some y else None
 
--- whether the look-up ends after the scope: `arguments` isn't looked up past a function that is no arrow
+-- whether the look-up ends after the scope
 abbrev pub ends_after : Source → Name → ℕ → ℕ → Bool
-ends_after source x w s =
-    is_arguments x w && meets (source.scope_flags s) scope.Function.bits && not (meets (source.scope_flags s) scope.Arrow.bits)
+ends_after source x w s = lookup.ends_after x w (source.scope_flags s)
 
 -- what the first scope gives that ties the reference or ends its look-up
 unfoldable pub answer : (ℕ → Option ℕ) → (ℕ → Bool) → List ℕ → Option Outcome

@@ -4,8 +4,9 @@ ghost use Rattle.std.specs.Prelude.{◌≡◌, ◌<◌, ◌==◌, codes};
 ghost use Rattle.std.specs.List.{list_any};
 ghost use Rattle.std.specs.Str.{bytes_eq, chars};
 ghost use Rattle.semantic_syntax.specs.Counts.{raised};
-ghost use Rattle.scoping.specs.Source.{Source, IsSource, TellsName, chain};
-ghost use Rattle.resolver.specs.Outward.{is_arguments, fits, tie, ends_at, ends_after};
+ghost use Rattle.semantic_syntax.specs.Source.{Source, IsSource, TellsName, chain};
+ghost use Rattle.semantic_syntax.specs.Lookup.{is_arguments, fits};
+ghost use Rattle.resolver.specs.Outward.{tie, ends_at, ends_after};
 ghost use Rattle.resolver.specs.Settling.{answer_of, asked_of};
 
 use crate::outcomes::Outcome;

@@ -2,7 +2,7 @@
 ghost use Rattle.std.specs.Prelude.{◌≡◌, ◌<◌, ◌≤◌, map, drop, IfOk, OnOk, OnErr, All, IsTrue};
 ghost use Rattle.std.specs.List.{sum_by};
 ghost use Rattle.semantic_syntax.specs.Counts.{raised};
-ghost use Rattle.scoping.specs.Source.{Source};
+ghost use Rattle.semantic_syntax.specs.Source.{Source};
 ghost use Rattle.resolver.specs.Settling.{outside as pending_outside, header_outcome, header_asks, last_outcome, last_asks, is_settled};
 
 use crate::lookup::{is_within, look_up};

@@ -3,8 +3,8 @@ use Rattle.std.proofs.Common.{◌≡◌, ℕ, ◌<◌, ◌-◌, zero, suc, true,
 use Rattle.std.specs.Option.{option_map_or}
 use Rattle.semantic_syntax.specs.Tables.{Scope}
 use Rattle.scoping.specs.Ancestry.{RunsOutward}
-use Rattle.scoping.specs.Reading.{parent_of, chain, IsForest}
-use Rattle.scoping.specs.Source.{chain_within, ends_within}
+use Rattle.semantic_syntax.specs.Reading.{parent_of, chain, IsForest}
+use Rattle.semantic_syntax.specs.Source.{chain_within, ends_within}
 use Rattle.scoping.proofs.Walks.{never, goes_on, walk_distinct}
 
 last_cons : (x d : ℕ) (xs : List ℕ) → 0 < length xs → get_or (x ∷ xs) (length (x ∷ xs) - 1) d ≡ get_or xs (length xs - 1) d

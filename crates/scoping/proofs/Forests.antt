@@ -2,8 +2,8 @@
 use Rattle.std.proofs.Common.{◌≡◌, ℕ, ◌<◌, zero, suc, true, List, [], ◌∷◌, Option, None, IfSome, length, get_or, map, refl, sym, ap, subst, ◌∙◌, arith}
 use Rattle.std.proofs.lemmas.List.{length-map}
 use Rattle.semantic_syntax.specs.Tables.{Scope}
-use Rattle.scoping.specs.Source.{ends_within}
-use Rattle.scoping.specs.Reading.{parent_of, IsForest}
+use Rattle.semantic_syntax.specs.Source.{ends_within}
+use Rattle.semantic_syntax.specs.Reading.{parent_of, IsForest}
 
 abbrev pub parents : List Scope → List (Option ℕ)
 parents xs = map (λ (x : Scope). x.parent) xs

@@ -4,7 +4,7 @@ use Rattle.std.specs.Option.{option_map_or}
 use Rattle.std.specs.Str.{bytes_eq}
 use Rattle.std.specs.Map.{lookup}
 use Rattle.semantic_syntax.specs.Tables.{Name, Bindings}
-use Rattle.scoping.specs.Reading.{first_bound}
+use Rattle.semantic_syntax.specs.Reading.{first_bound}
 
 module _ (bindings : List Bindings) (name : Name) where
   pub first_bound-found : (s y : ℕ) (ss : List ℕ) → lookup (bytes_eq name) (get_or bindings s []) ≡ Some y → first_bound bindings name (s ∷ ss) ≡ Some y

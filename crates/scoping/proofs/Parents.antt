@@ -9,8 +9,8 @@ use Rattle.std.proofs.lemmas.Bool.{cases_lt}
 use Rattle.semantic_syntax.specs.Tables.{Scope}
 use Rattle.scoping.specs.declared.scoping.ScopeRow.{ScopeRow}
 use Rattle.scoping.specs.View.{scope_of_row}
-use Rattle.scoping.specs.Source.{chain_within, ends_within}
-use Rattle.scoping.specs.Reading.{no_scope, parent_of, chain, IsForest}
+use Rattle.semantic_syntax.specs.Source.{chain_within, ends_within}
+use Rattle.semantic_syntax.specs.Reading.{no_scope, parent_of, chain, IsForest}
 
 pub parent_of-push : (xs : List Scope) (x : Scope) (s : ℕ) → s < length xs → parent_of (xs ++ x ∷ []) s ≡ parent_of xs s
 parent_of-push xs x s below = ap (λ (y : Scope). y.parent) (get_or-append xs (x ∷ []) no_scope s below)

@@ -6,8 +6,8 @@ use Rattle.std.proofs.Math.ListN.{set}
 use Rattle.std.proofs.lemmas.List.{length-set, get_or-set_same, get_or-set_other}
 use Rattle.std.proofs.lemmas.Bool.{eqb-true, eqb-false}
 use Rattle.semantic_syntax.specs.Tables.{Scope}
-use Rattle.scoping.specs.Source.{chain_within, ends_within}
-use Rattle.scoping.specs.Reading.{no_scope, parent_of, chain, IsForest}
+use Rattle.semantic_syntax.specs.Source.{chain_within, ends_within}
+use Rattle.semantic_syntax.specs.Reading.{no_scope, parent_of, chain, IsForest}
 use Rattle.scoping.proofs.Walks.{ends_within-le, ends_in_time, one}
 
 -- walks under other parents for one scope

@@ -14,7 +14,7 @@ use Rattle.scoping.specs.Names.{name_at, named, IsUnknown, IsNumberOf, IsInterne
 use Rattle.scoping.specs.Row.{Row, symbol_of_row}
 use Rattle.std.proofs.Math.Seq.{map-set_same}
 use Rattle.scoping.specs.declared.scoping.ScopeRow.{ScopeRow}
-use Rattle.scoping.specs.Reading.{no_symbol, no_scope}
+use Rattle.semantic_syntax.specs.Reading.{no_symbol, no_scope}
 use Rattle.scoping.proofs.Forests.{parents}
 use Rattle.scoping.specs.View.{IsBoundWithin, IsListedWithin, IsSound, tables, scope_of_row}
 use Rattle.scoping.proofs.Every.{every-more, every-at, every-or, every-set, every-push, every-insert, every-remove}

@@ -4,7 +4,7 @@ use Rattle.semantic_syntax.specs.declared.references.Reference.{Reference}
 use Rattle.semantic_syntax.specs.Tables.{Name}
 use Rattle.scoping.specs.Flat.{Numbered}
 use Rattle.scoping.specs.Names.{name_at, named}
-use Rattle.scoping.specs.Reading.{no_symbol}
+use Rattle.semantic_syntax.specs.Reading.{no_symbol}
 use Rattle.scoping.specs.Row.{Row, no_row, symbol_of_row}
 use Rattle.scoping.specs.Kept.{stays, without_types, rows_without_types, lists_without_types, without_type_uses}
 

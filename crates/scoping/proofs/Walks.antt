@@ -5,7 +5,7 @@ use Rattle.std.specs.Option.{option_map_or}
 use Rattle.std.proofs.lemmas.Bool.{eqb-true, eqb-false, false_from_ne_true}
 use Rattle.std.proofs.lemmas.Map.Keys.{IsDistinct-cons}
 use Rattle.std.proofs.lemmas.Map.Steps.{length-le_from_distinct_below}
-use Rattle.scoping.specs.Source.{chain_within, ends_within}
+use Rattle.semantic_syntax.specs.Source.{chain_within, ends_within}
 use Rattle.scoping.proofs.Parents.{ends_within-more, step_within, end_within}
 
 nothing : IsDistinct nat_eq []

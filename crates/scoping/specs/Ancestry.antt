@@ -2,7 +2,7 @@
 use Rattle.std.specs.Prelude.{◌≡◌, ℕ, ◌-◌, List, length, slice_get, slice_index_or, nat_eq, None, Some}
 use Rattle.std.specs.List.{IsDistinct}
 use Rattle.semantic_syntax.specs.Tables.{Scope}
-use Rattle.scoping.specs.Reading.{parent_of}
+use Rattle.semantic_syntax.specs.Reading.{parent_of}
 
 -- the list begins with the scope, ends with one that has none around it, and repeats none
 pub record RunsOutward (scopes : List Scope) (s : ℕ) (outward : List ℕ) : Type 0 where

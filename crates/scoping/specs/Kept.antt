@@ -12,7 +12,7 @@ use Rattle.semantic_syntax.specs.Sets.{meets}
 use Rattle.semantic_syntax.specs.Tables.{Symbol, Tables}
 use Rattle.scoping.specs.Row.{Row, no_row}
 use Rattle.scoping.specs.Flat.{SlotList}
-use Rattle.scoping.specs.Reading.{no_symbol, no_reference, symbol_of, reference_of, uses_of}
+use Rattle.semantic_syntax.specs.Reading.{no_symbol, no_reference, symbol_of, reference_of, uses_of}
 
 -- whether the reference is not marked; one past the end is not
 abbrev pub is_unmarked : List Bool → ℕ → Bool

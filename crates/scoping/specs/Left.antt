@@ -15,7 +15,7 @@ use Rattle.scoping.specs.declared.unresolved.UnresolvedIter.TheInside as unresol
 use Rattle.scoping.specs.Names.{name_at, named}
 use Rattle.scoping.specs.Numbering.{numbered_from}
 use Rattle.scoping.specs.Row.{Row}
-use Rattle.scoping.specs.Reading.{no_reference, chain, IsForest}
+use Rattle.semantic_syntax.specs.Reading.{no_reference, chain, IsForest}
 use Rattle.scoping.specs.View.{scope_of_row}
 
 -- the pairs of a scope that are left

@@ -2,12 +2,9 @@ pub mod Names
 pub mod Flat
 pub mod Tabled
 pub mod Row
-pub mod Source
-pub mod Reading
 pub mod Writing
 pub mod View
 pub mod NodeEntries
-pub mod Told
 pub mod Lending
 pub mod RowLending
 pub mod Numbering

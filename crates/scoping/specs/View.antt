@@ -6,7 +6,7 @@ use Rattle.scoping.specs.declared.scoping.ScopeRow.{ScopeRow}
 use Rattle.scoping.specs.declared.scoping.Scoping.TheInside.{Inside}
 use Rattle.scoping.specs.Names.{named}
 use Rattle.scoping.specs.Row.{Row, symbol_of_row}
-use Rattle.scoping.specs.Reading.{IsForest}
+use Rattle.semantic_syntax.specs.Reading.{IsForest}
 
 abbrev pub scope_of_row : ScopeRow → Scope
 scope_of_row x = record { parent = x.parent; node = x.node; flags = x.flags }

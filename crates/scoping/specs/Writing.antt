@@ -6,7 +6,7 @@ use Rattle.std.specs.Str.{bytes_eq}
 use Rattle.indexmap.specs.IndexMap.{insert_entry, shift_remove_entry, swap_remove_by}
 use Rattle.semantic_syntax.specs.declared.references.Reference.{Reference}
 use Rattle.semantic_syntax.specs.Tables.{Name, Scope, Symbol, Bindings, Tables}
-use Rattle.scoping.specs.Reading.{bindings_of, uses_of, no_symbol}
+use Rattle.semantic_syntax.specs.Reading.{bindings_of, uses_of, no_symbol}
 
 abbrev pub with_scope : Tables → ℕ → Scope → Tables
 with_scope t s x = record t { scopes = slice_set t.scopes s x }

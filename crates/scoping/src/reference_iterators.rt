@@ -3,7 +3,7 @@ ghost use Rattle.std.specs.Prelude.{◌≡◌, ◌<◌, length, map, slice_index
 ghost use Rattle.std.specs.Iterator.{at_most};
 ghost use Rattle.std.specs.List.{AllByRecursion};
 ghost use Rattle.std.specs.Map.Iter.{TakesFirst, TakesLast, deref};
-ghost use Rattle.scoping.specs.Reading.{no_reference};
+ghost use Rattle.semantic_syntax.specs.Reading.{no_reference};
 
 use semantic_syntax::{Reference, ReferenceId};
 use std::marker::Model;

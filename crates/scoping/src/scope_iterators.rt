@@ -3,7 +3,7 @@ ghost use Rattle.std.specs.Prelude.{◌≡◌, ◌+◌, ◌<◌, length, map};
 ghost use Rattle.std.specs.Iterator.{at_most};
 ghost use Rattle.std.specs.List.{range_with_len};
 ghost use Rattle.std.specs.Map.Iter.{TakesFirst};
-ghost use Rattle.scoping.specs.Reading.{chain, IsForest};
+ghost use Rattle.semantic_syntax.specs.Reading.{chain, IsForest};
 ghost use Rattle.scoping.specs.View.{scope_of_row};
 
 use crate::scoping::ScopeRow;

@@ -2,7 +2,7 @@
 ghost use Rattle.std.specs.Prelude.{◌≡◌, ◌<◌};
 ghost use Rattle.std.specs.Str.{chars};
 ghost use Rattle.semantic_syntax.specs.Counts.{raised};
-ghost use Rattle.scoping.specs.Source.{Source, IsSource, TellsName};
+ghost use Rattle.semantic_syntax.specs.Source.{Source, IsSource, TellsName};
 
 use crate::bound_name::BoundName;
 use semantic_syntax::{

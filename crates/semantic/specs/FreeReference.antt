@@ -6,7 +6,7 @@ use Rattle.semantic_kinds.specs.declared.kind.AstType.TheVariants as kind
 use Rattle.semantic_syntax.specs.Tables.{Name, Tables}
 use Rattle.semantic_tree.specs.declared.node.Node.{Node}
 use Rattle.scoping.specs.NodeEntries.{NodeEntries}
-use Rattle.scoping.specs.Reading.{reference_of}
+use Rattle.semantic_syntax.specs.Reading.{reference_of}
 use Rattle.semantic_model.specs.Nodes.{is, reads}
 
 -- the reference is one of the tables and has no symbol

@@ -7,7 +7,7 @@ ghost use Rattle.std.specs.Str.{chars};
 ghost use Rattle.semantic_kinds.specs.declared.kind.AstType.TheVariants.{IdentifierReference as identifier_reference};
 ghost use Rattle.node_store.specs.NodeList.{node_at, no_nodes};
 ghost use Rattle.node_store.specs.Seen.{seen};
-ghost use Rattle.scoping.specs.Reading.{symbol_of};
+ghost use Rattle.semantic_syntax.specs.Reading.{symbol_of};
 ghost use Rattle.semantic.specs.FreeReference.{is_free_at};
 ghost use Rattle.semantic.specs.Lending.{LendsScoping};
 

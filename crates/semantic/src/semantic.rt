@@ -5,7 +5,7 @@ ghost use Rattle.std.specs.Borrow.{sem};
 ghost use Rattle.std.specs.Map.{lookup};
 ghost use Rattle.std.specs.Option.{option_map, is_some};
 ghost use Rattle.std.specs.Str.{chars};
-ghost use Rattle.scoping.specs.Reading.{reference_of, symbol_of, uses_of};
+ghost use Rattle.semantic_syntax.specs.Reading.{reference_of, symbol_of, uses_of};
 ghost use Rattle.semantic_tree.specs.Children.{node_count};
 ghost use Rattle.semantic_tree.specs.CommentIter.{comments_left, shown_comment};
 ghost use Rattle.semantic_tree.specs.Comments.{comments_within, comment_at};

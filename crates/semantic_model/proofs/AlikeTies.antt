@@ -12,7 +12,7 @@ use Rattle.semantic_model.specs.Binding.{Binding, get, bound_by}
 use Rattle.semantic_model.specs.Event.{Event, declares, takes_over, ends_header, events}
 use Rattle.semantic_model.specs.Fold.{Made, State, start}
 use Rattle.semantic_model.specs.Hoist.{run}
-use Rattle.semantic_model.specs.Lookup.{Seen, Asked, tied_by, lookup}
+use Rattle.semantic_syntax.specs.Lookup.{Seen, Asked, tied_by, lookup}
 use Rattle.semantic_model.specs.FreeNames.{add_free}
 use Rattle.semantic_model.specs.Tie.{is_end_of, until_end_of, view, view_by, seen_as, answer, Tie, ties, symbol_of, moment, is_at, is_last, settled_at, in_order}
 use Rattle.semantic_model.specs.TablesOf.{scopes, entry_of, is_symbol, uses_of, with_tie, any_pure, tables_from, tables_of}

@@ -1,9 +1,12 @@
 -- No binding and no symbol of a program's tables is invented.
 use Rattle.std.proofs.Common.{◌≡◌, ℕ, zero, suc, ◌+◌, ◌≤◌, List, [], ◌∷◌, length, map, Some, None, inl, inr, ◌⊎◌, refl, sym, ap, subst, ◌∙◌, arith}
-use Rattle.std.specs.Prelude.{slice_get}
+use Rattle.std.specs.Prelude.{slice_get, slice_index_or}
 use Rattle.std.specs.List.{range_with_len}
+use Rattle.std.specs.Map.{lookup}
+use Rattle.std.specs.Str.{bytes_eq}
 use Rattle.std.proofs.lemmas.Option.{slice_get_within}
 use Rattle.semantic_syntax.specs.Tables.{Name, Symbol}
+use Rattle.semantic_syntax.specs.Reading.{bound_in}
 use Rattle.semantic_tree.specs.Tree.{Tree}
 use Rattle.semantic_model.specs.Entries.{Among}
 use Rattle.semantic_model.specs.Step.{steps}
@@ -14,7 +17,6 @@ use Rattle.semantic_model.specs.Fold.{State, Made, start}
 use Rattle.semantic_model.specs.Hoist.{act, run}
 use Rattle.semantic_model.specs.NodeTable.{Belongs, belonging, node_tables}
 use Rattle.semantic_model.specs.TablesOf.{tables_of, scopes}
-use Rattle.semantic_model.specs.Outward.{bound_in, bound_to, list_at}
 use Rattle.semantic_model.specs.Fits.{DeclaredOn, DeclaredAs, AreDeclared}
 use Rattle.semantic_model.proofs.Members.{among_more}
 use Rattle.semantic_model.proofs.Held.{less_or}
@@ -46,7 +48,7 @@ made_in : (p : Tree) (m : Made) → Among m (run start (events (steps p))).made 
 made_in p m a = elim (made_declared m start (events (steps p)) a) [ inl k ↦ absurd k | inr k ↦ k ]
 
 -- beyond the scopes nothing is bound
-beyond : (bs : List Binding) (i k c : ℕ) → k ≤ c → list_at (map (bound_by bs) (range_with_len i k)) c ≡ []
+beyond : (bs : List Binding) (i k c : ℕ) → k ≤ c → slice_index_or (map (bound_by bs) (range_with_len i k)) c [] ≡ []
 beyond bs i zero c h = refl
 beyond bs i (suc k) zero h = absurd (omega arith)
 beyond bs i (suc k) (suc c) h = beyond bs (i + 1) k c (omega arith)
@@ -55,7 +57,7 @@ beyond bs i (suc k) (suc c) h = beyond bs (i + 1) k c (omega arith)
 pub bound_stands : (p : Tree) (c : ℕ) (x : Name) (s : ℕ) → bound_in (tables_of p) c x ≡ Some s → Among (record { scope = c; name = x; symbol = s }) (run start (events (steps p))).bindings
 bound_stands p c x s h = elim (less_or c (length (scopes (steps p)))) [
   | inl l ↦ get_among (run start (events (steps p))).bindings c x s (sym (bound_as p c x l) ∙ h)
-  | inr l ↦ (let q : None ≡ Some s = sym (ap (bound_to x) (beyond (run start (events (steps p))).bindings 0 (length (scopes (steps p))) c l)) ∙ h in absurd cc)
+  | inr l ↦ (let q : None ≡ Some s = sym (ap (lookup (bytes_eq x)) (beyond (run start (events (steps p))).bindings 0 (length (scopes (steps p))) c l)) ∙ h in absurd cc)
 ]
 
 pub belongs_made : (m : Made) (ms : List Made) → Among m ms → Among (belonging m) (map belonging ms)

@@ -8,7 +8,7 @@ use Rattle.semantic_model.specs.Place.{OpenScope}
 use Rattle.semantic_model.specs.Event.{Event, declares, takes_over, ends_header}
 use Rattle.semantic_model.specs.Fold.{State, Made, start}
 use Rattle.semantic_model.specs.Hoist.{act, run}
-use Rattle.semantic_model.specs.Lookup.{Seen, Asked, tied, barred, lookup, tied_by, or_lookup, fits, ends_after}
+use Rattle.semantic_syntax.specs.Lookup.{Seen, Asked, tied, barred, lookup, tied_by, or_lookup, fits, ends_after}
 use Rattle.semantic_model.specs.Tie.{view, view_by, seen_as, answer, until_end_of, symbol_by}
 use Rattle.semantic_model.proofs.Members.{among_left}
 use Rattle.semantic_model.proofs.BindingLaws.{get_among}

@@ -1,11 +1,13 @@
 -- Outside headers a reference is tied to the first usable binding outward over the final bindings.
-use Rattle.std.proofs.Common.{◌≡◌, ℕ, zero, suc, ◌+◌, ◌<◌, List, [], ◌∷◌, length, map, Option, Some, None, Bool, true, false, cond, ◌&&◌, inl, inr, refl, sym, ap, subst, ◌∙◌, arith, bytes_eq, codes, zero-add}
-use Rattle.std.specs.Prelude.{filter_map}
+use Rattle.std.proofs.Common.{◌≡◌, ℕ, zero, suc, ◌+◌, ◌<◌, List, [], ◌∷◌, length, map, Option, Some, None, Bool, true, false, cond, ◌&&◌, inl, inr, refl, sym, ap, subst, ◌∙◌, arith, bytes_eq, codes, zero-add, slice_index_or}
+use Rattle.std.specs.Prelude.{filter_map, slice_get}
 use Rattle.std.specs.List.{range_with_len}
+use Rattle.std.specs.Map.{lookup as lookup_in}
 use Rattle.std.proofs.lemmas.Option.{slice_get_within}
 use Rattle.std.proofs.lemmas.Bool.Decides.{eqb_tells}
 use Rattle.semantic_syntax.specs.Usable.{is_usable}
-use Rattle.semantic_syntax.specs.Tables.{Name}
+use Rattle.semantic_syntax.specs.Tables.{Name, Symbol}
+use Rattle.semantic_syntax.specs.Reading.{no_symbol, bound_in}
 use Rattle.semantic_tree.specs.Tree.{Tree}
 use Rattle.semantic_model.specs.Entries.{Among}
 use Rattle.semantic_model.specs.Place.{Place, OpenScope}
@@ -13,14 +15,13 @@ use Rattle.semantic_model.specs.Step.{Step, entering, opening, header_ending, cl
 use Rattle.semantic_model.specs.Reference.{Occurrence, references}
 use Rattle.semantic_model.specs.Binding.{Binding, get, bound_by}
 use Rattle.semantic_model.specs.Event.{events}
-use Rattle.semantic_model.specs.Fold.{State, start, flags_of}
+use Rattle.semantic_model.specs.Fold.{State, start, flags_of, flags_or_none}
 use Rattle.semantic_model.specs.Hoist.{run}
-use Rattle.semantic_model.specs.Lookup.{Lookup, tied, barred, lookup, tied_by, or_lookup, is_arguments, fits, ends_after}
+use Rattle.semantic_syntax.specs.Lookup.{Lookup, tied, barred, lookup, tied_by, or_lookup, is_arguments, fits, ends_after}
 use Rattle.semantic_model.specs.Tie.{seen_as, answer, symbol_by}
 use Rattle.semantic_model.specs.TablesOf.{tables_of, scopes, opened_entry, evals}
-use Rattle.semantic_model.specs.Outward.{bound_to, list_at, bound_in, usable_or, first_outward}
+use Rattle.semantic_model.specs.Outward.{usable_or, first_outward}
 use Rattle.semantic_model.specs.Fits.{InNoHeader, TieOutward}
-use Rattle.semantic_model.proofs.BindingLaws.{is_of_tells}
 use Rattle.semantic_model.proofs.Under.{name_tells}
 use Rattle.semantic_model.proofs.Settled.{Stands, reference_stands}
 use Rattle.semantic_model.proofs.Held.{IsEntered}
@@ -30,11 +31,17 @@ use Rattle.semantic_model.proofs.Orders.{HasForm, table_of, bodies, steps_in}
 use Rattle.semantic_model.proofs.Standing.{entry_is}
 
 -- what a scope binds, by its list
-bound_list : (bs : List Binding) (c : ℕ) (x : Name) → bound_to x (bound_by bs c) ≡ get bs c x
-bound_list [] c x = refl
-bound_list (b ∷ bs) c x = grind (arith, bound_list bs c x, is_of_tells c x b, eqb_tells b.scope c, name_tells b.name x)
+pub lookup-bound_by : (bs : List Binding) (c : ℕ) (x : Name) → lookup_in (bytes_eq x) (bound_by bs c) ≡ get bs c x
+lookup-bound_by [] c x = refl
+lookup-bound_by (b ∷ bs) c x = grind (arith, lookup-bound_by bs c x, eqb_tells b.scope c, name_tells b.name x, name_tells x b.name)
 
-list_of : (bs : List Binding) (i k c : ℕ) → c < k → list_at (map (bound_by bs) (range_with_len i k)) c ≡ bound_by bs (i + c)
+-- a symbol's flags, by its row
+pub flags_at : (ys : List Symbol) (n : ℕ) → (slice_index_or ys n no_symbol).flags.bits ≡ flags_or_none (slice_get ys n)
+flags_at [] n = refl
+flags_at (y ∷ ys) zero = refl
+flags_at (y ∷ ys) (suc n) = flags_at ys n
+
+list_of : (bs : List Binding) (i k c : ℕ) → c < k → slice_index_or (map (bound_by bs) (range_with_len i k)) c [] ≡ bound_by bs (i + c)
 list_of bs i zero c h = absurd (omega arith)
 list_of bs i (suc k) zero h = ap (bound_by bs) (omega arith)
 list_of bs i (suc k) (suc c) h = list_of bs (i + 1) k c (omega arith) ∙ ap (bound_by bs) (omega arith)
@@ -52,7 +59,7 @@ scopes_length calls (leaving p ∷ more) = scopes_length calls more
 pub bound_as : (p : Tree) (c : ℕ) (x : Name) → c < length (scopes (steps p)) → bound_in (tables_of p) c x ≡ get (run start (events (steps p))).bindings c x
 bound_as p c x h =
     let bs : List Binding = (run start (events (steps p))).bindings in
-    ap (bound_to x) (list_of bs 0 (length (scopes (steps p))) c h ∙ ap (bound_by bs) (zero-add c)) ∙ bound_list bs c x
+    ap (lookup_in (bytes_eq x)) (list_of bs 0 (length (scopes (steps p))) c h ∙ ap (bound_by bs) (zero-add c)) ∙ lookup-bound_by bs c x
 
 -- a scope of an entered place's chain is one of the program's
 chain_of_entered : (table : List (Option ℕ)) (q : Place) (ss : List Step) → AllStepsIn table ss → IsEntered q ss → AllInTable table q.chain
@@ -82,7 +89,7 @@ module _ (p : Tree) where
   -- one scope of the look-up
   one_scope : (x : Name) (w c : ℕ) (flags : ℕ) (o : Option ℕ) (later : Lookup) (later' : Option ℕ) → is_arguments x w ≡ false → symbol_by later ≡ later' → symbol_by (or_lookup (tied_by x w c (seen_as end o)) (cond (ends_after x w flags) (barred c) later)) ≡ usable_or (tables_of p) w o later'
   one_scope x w c flags None later later' a e = rw a e
-  one_scope x w c flags (Some s) later later' a e = rw (fits_usable x w (flags_of end s) a) (go (is_usable w (flags_of end s)))
+  one_scope x w c flags (Some s) later later' a e = rw (flags_at end.symbols s, fits_usable x w (flags_of end s) a) (go (is_usable w (flags_of end s)))
     where
       go : (b : Bool) → symbol_by (or_lookup (cond b (Some (tied c s (flags_of end s))) None) (cond (ends_after x w flags) (barred c) later)) ≡ cond b (Some s) later'
       go true = refl

@@ -1,5 +1,6 @@
 -- Each binding of a program's tables is its symbol's, and no symbol is bound twice.
 use Rattle.std.proofs.Common.{◌≡◌, ℕ, zero, suc, ◌+◌, ◌<◌, ◌≤◌, ◌==◌, List, [], ◌∷◌, Bool, true, false, cond, inl, inr, ◌⊎◌, refl, subst, length, map, arith}
+use Rattle.std.specs.Prelude.{slice_index_or}
 use Rattle.std.specs.List.{range_with_len}
 use Rattle.std.proofs.lemmas.Bool.Decides.{eqb_tells}
 use Rattle.semantic_syntax.specs.Tables.{Name, Bindings}
@@ -10,7 +11,6 @@ use Rattle.semantic_model.specs.Binding.{Binding, bound_by}
 use Rattle.semantic_model.specs.Event.{events, written_declarations}
 use Rattle.semantic_model.specs.Fold.{State, start}
 use Rattle.semantic_model.specs.Hoist.{run}
-use Rattle.semantic_model.specs.Outward.{list_at}
 use Rattle.semantic_model.specs.TablesOf.{scopes, tables_of}
 use Rattle.semantic_model.specs.Moment.{BindingsAreSymbols}
 use Rattle.semantic_model.proofs.Orders.{HasForm, table_of, root_body, steps_in, events_in}
@@ -77,7 +77,7 @@ entry_stands (e ∷ bs) c b a = go (eqb_tells e.scope c) a (entry_stands bs c b)
         first (inr w) = inr (later w)
     go (inr k) q later = inr (later (rw k.0 at q))
 
-entry_in : (bs : List Binding) (i n c : ℕ) (b : Name × ℕ) → Among b (list_at (map (bound_by bs) (range_with_len i n)) c) → Among {A = Binding} (record { scope = i + c; name = b.0; symbol = b.1 }) bs
+entry_in : (bs : List Binding) (i n c : ℕ) (b : Name × ℕ) → Among b (slice_index_or (map (bound_by bs) (range_with_len i n)) c []) → Among {A = Binding} (record { scope = i + c; name = b.0; symbol = b.1 }) bs
 entry_in bs i zero c b a = absurd a
 entry_in bs i (suc n) zero b a = entry_stands bs (i + 0) b (subst (λ m. Among b (bound_by bs m)) (omega arith) a)
 entry_in bs i (suc n) (suc c) b a = subst (λ m. Among {A = Binding} (record { scope = m; name = b.0; symbol = b.1 }) bs) (omega arith) (entry_in bs (i + 1) n c b a)

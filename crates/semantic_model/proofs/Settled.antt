@@ -4,7 +4,7 @@ use Rattle.std.proofs.lemmas.Bool.{ne_eqb}
 use Rattle.std.proofs.lemmas.Option.{none-some}
 use Rattle.semantic_tree.specs.Tree.{Tree}
 use Rattle.semantic_model.specs.Place.{OpenScope, Place, innermost}
-use Rattle.semantic_model.specs.Lookup.{Lookup, tied, barred, unanswered}
+use Rattle.semantic_syntax.specs.Lookup.{Lookup, tied, barred, unanswered}
 use Rattle.std.proofs.lemmas.Bool.Decides.{eqb_tells}
 use Rattle.semantic_model.specs.Reference.{Occurrence, references, reference_at}
 use Rattle.semantic_model.specs.Fold.{State}

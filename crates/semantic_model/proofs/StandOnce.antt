@@ -10,7 +10,7 @@ use Rattle.semantic_model.specs.Binding.{get}
 use Rattle.semantic_model.specs.Event.{Event, declares, takes_over, ends_header, events}
 use Rattle.semantic_model.specs.Fold.{State, start}
 use Rattle.semantic_model.specs.Hoist.{run}
-use Rattle.semantic_model.specs.Lookup.{Seen, Asked, tied, barred, lookup, tied_by, or_lookup, fits, ends_after}
+use Rattle.semantic_syntax.specs.Lookup.{Seen, Asked, tied, barred, lookup, tied_by, or_lookup, fits, ends_after}
 use Rattle.semantic_model.specs.Tie.{Tie, ties, view, view_by, seen_as, answer, answers, is_end_of, until_end_of, symbol_by, symbol_of, settled_at, in_order, moment, is_at, is_last}
 use Rattle.semantic_model.specs.TablesOf.{tables_of}
 use Rattle.semantic_model.proofs.Compose.{run-append}

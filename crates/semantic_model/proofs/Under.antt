@@ -10,7 +10,7 @@ use Rattle.semantic_model.specs.Reference.{Occurrence}
 use Rattle.semantic_model.specs.Event.{Event}
 use Rattle.semantic_model.specs.Fold.{State}
 use Rattle.semantic_model.specs.FreeNames.{add_free, free_references}
-use Rattle.semantic_model.specs.Lookup.{lookup}
+use Rattle.semantic_syntax.specs.Lookup.{lookup}
 use Rattle.semantic_model.specs.Tie.{Tie, ties, answers, symbol_of}
 use Rattle.semantic_model.specs.TablesOf.{is_symbol, uses_of, with_tie, free_of}
 use Rattle.semantic_model.proofs.Settled.{tie_times}

@@ -5,7 +5,7 @@ use Rattle.semantic_model.specs.Reference.{Occurrence, references}
 use Rattle.semantic_model.specs.Event.{Event, events}
 use Rattle.semantic_model.specs.Fold.{State, start}
 use Rattle.semantic_model.specs.Hoist.{run}
-use Rattle.semantic_model.specs.Lookup.{scopes_asked}
+use Rattle.semantic_syntax.specs.Lookup.{scopes_asked}
 use Rattle.semantic_model.specs.Tie.{answers}
 
 abbrev asked_by : State → List Event → List Occurrence → ℕ

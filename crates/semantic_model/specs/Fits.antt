@@ -2,6 +2,7 @@
 use Rattle.std.specs.Prelude.{◌≡◌, ◌<◌, ℕ, ◌+◌, List, [], ◌∷◌, ◌++◌, true, false, Option, Some, None, ◌⊎◌, length, map, codes, bytes_eq, slice_get}
 use Rattle.semantic_syntax.specs.declared.references.Reference.{Reference}
 use Rattle.semantic_syntax.specs.Tables.{Name, Tables, Scope, Symbol}
+use Rattle.semantic_syntax.specs.Reading.{bound_in}
 use Rattle.semantic_tree.specs.Tree.{Tree}
 use Rattle.semantic_model.specs.Place.{OpenScope, innermost}
 use Rattle.semantic_model.specs.Step.{steps}
@@ -12,7 +13,7 @@ use Rattle.semantic_model.specs.FreeNames.{free_references}
 use Rattle.semantic_model.specs.TablesOf.{scopes}
 use Rattle.semantic_model.specs.Fold.{new_symbol}
 use Rattle.semantic_model.specs.NodeTable.{Belongs, NodeTables}
-use Rattle.semantic_model.specs.Outward.{bound_in, first_outward}
+use Rattle.semantic_model.specs.Outward.{first_outward}
 use Rattle.semantic_model.specs.Entries.{times, times_in_all, or_empty, Among}
 
 -- a scope without its flags

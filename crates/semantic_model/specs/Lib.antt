@@ -15,7 +15,6 @@ pub mod Event
 pub mod Binding
 pub mod Fold
 pub mod Hoist
-pub mod Lookup
 pub mod Tie
 pub mod FreeNames
 pub mod TablesOf

@@ -3,8 +3,8 @@ use Rattle.std.specs.Prelude.{◌≡◌, ◌<◌, ◌≤◌, ℕ, ◌+◌, List,
 use Rattle.semantic_syntax.specs.declared.references.Reference.{Reference}
 use Rattle.semantic_syntax.specs.declared.references.Redeclaration.{Redeclaration}
 use Rattle.semantic_syntax.specs.Tables.{Name, Tables, Symbol}
+use Rattle.semantic_syntax.specs.Reading.{bindings_of}
 use Rattle.semantic_model.specs.Entries.{times, times_in_all, or_empty, Among}
-use Rattle.semantic_model.specs.Outward.{list_at}
 use Rattle.semantic_model.specs.TablesOf.{is_symbol}
 
 -- a reference is in the uses of a symbol exactly if that is its symbol, and there once
@@ -24,7 +24,7 @@ pub record IsOwned (t : Tables) (c : ℕ) (b : Name × ℕ) : Type 0 where
 
 -- a name that a scope binds is its symbol's name, and the scope is that symbol's; no symbol is bound twice
 pub record BindingsAreSymbols (t : Tables) : Type 0 where
-  pub owned : (c : ℕ) (b : Name × ℕ) → Among b (list_at t.bindings c) → IsOwned t c b
+  pub owned : (c : ℕ) (b : Name × ℕ) → Among b (bindings_of t c) → IsOwned t c b
   pub once : (s : ℕ) → times_in_all s (map (map (λ b. b.1)) t.bindings) ≤ 1
 
 -- a list of declarations of a symbol: two or more, of which the first is the symbol's own

@@ -8,7 +8,7 @@ use Rattle.semantic_model.specs.Binding.{get}
 use Rattle.semantic_model.specs.Event.{Event, ends_header}
 use Rattle.semantic_model.specs.Fold.{State, start, flags_of}
 use Rattle.semantic_model.specs.Hoist.{run}
-use Rattle.semantic_model.specs.Lookup.{Seen, Asked, Lookup, tied, barred, unanswered, lookup}
+use Rattle.semantic_syntax.specs.Lookup.{Seen, Asked, Lookup, tied, barred, unanswered, lookup}
 
 abbrev pub is_end_of : ℕ → Event → Bool
 is_end_of c (ends_header d) = d == c

@@ -5,3 +5,7 @@ pub mod Counts
 pub mod ReferenceParts
 pub mod FlagNames
 pub mod Tables
+pub mod Source
+pub mod Reading
+pub mod Told
+pub mod Lookup

@@ -12,7 +12,7 @@ use Rattle.semantic_syntax.specs.declared.scope_flags.TheConstants.ScopeFlags as
 use Rattle.semantic_syntax.specs.Sets.{meets, union}
 use Rattle.semantic_syntax.specs.Tables.{Bindings, Tables}
 use Rattle.semantic_tree.specs.declared.node.Node.{Node}
-use Rattle.scoping.specs.Reading.{scope_of, bindings_of}
+use Rattle.semantic_syntax.specs.Reading.{scope_of, bindings_of}
 use Rattle.scoping.specs.Writing as writing
 use Rattle.semantic_model.specs.Nodes.{is, has_use_strict}
 use Rattle.semantic_model.specs.Place.{Place, OpenScope, innermost, parent_holds}

@@ -6,7 +6,7 @@ use Rattle.semantic_syntax.specs.declared.scope_flags.ScopeFlags.{ScopeFlags}
 use Rattle.semantic_syntax.specs.declared.scope_flags.TheConstants.ScopeFlags as scope
 use Rattle.semantic_syntax.specs.declared.source_type.SourceType.{SourceType}
 use Rattle.semantic_syntax.specs.Sets.{meets}
-use Rattle.scoping.specs.Reading.{scope_of}
+use Rattle.semantic_syntax.specs.Reading.{scope_of}
 use Rattle.semantic_tree.specs.declared.node.Node.{Node}
 use Rattle.semantic_tree.specs.declared.view.AstKind.{AstKind}
 use Rattle.semantic_model.specs.Nodes.{is, has}

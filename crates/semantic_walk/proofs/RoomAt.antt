@@ -6,7 +6,7 @@ use Rattle.std.proofs.lemmas.List.{reverse-append}
 use Rattle.semantic_kinds.specs.declared.kind.AstType.{AstType}
 use Rattle.semantic_kinds.specs.declared.kind.AstType.TheVariants as kind
 use Rattle.semantic_kinds.specs.declared.role.Role.{Role}
-use Rattle.scoping.specs.Reading.{bindings_of}
+use Rattle.semantic_syntax.specs.Reading.{bindings_of}
 use Rattle.semantic_tree.specs.Children.{forest_of, node_count}
 use Rattle.semantic_tree.specs.Forest.{nothing}
 use Rattle.semantic_tree.specs.Limits.{room_left}

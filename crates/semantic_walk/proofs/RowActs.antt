@@ -5,7 +5,7 @@ use Rattle.semantic_syntax.specs.declared.scope_flags.TheConstants.ScopeFlags as
 use Rattle.semantic_syntax.specs.Sets.{meets}
 use Rattle.semantic_syntax.specs.Tables.{Tables}
 use Rattle.semantic_tree.specs.declared.node.Node.{Node}
-use Rattle.scoping.specs.Reading.{scope_of}
+use Rattle.semantic_syntax.specs.Reading.{scope_of}
 use Rattle.semantic_model.specs.Place.{Place, OpenScope, innermost, outside}
 use Rattle.semantic_model.specs.Declaration as declaration
 use Rattle.semantic_model.specs.Declaration.{Declaration, plain, hoisted, moved, passed_before, first_with, route_from, here, outward_to, outward_past, stands_in}

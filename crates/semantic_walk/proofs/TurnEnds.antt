@@ -3,12 +3,13 @@ use Rattle.std.proofs.Common.{◌≡◌, ℕ, Bool, true, false, cond, ◌&&◌,
 use Rattle.semantic_tree.specs.Forest.{Forest, nothing}
 use Rattle.semantic_kinds.specs.declared.kind.AstType.{AstType}
 use Rattle.semantic_kinds.specs.declared.role.Role.{Role}
+use Rattle.semantic_syntax.specs.Told.{source_of}
 use Rattle.semantic_model.specs.Nodes.{has_role}
 use Rattle.semantic_model.specs.Place.{Place, OpenScope}
 use Rattle.semantic_model.specs.Inside.{opens, is_inside, any_inside, header_roles, is_in_header}
 use Rattle.semantic_model.specs.ScopeKind.{opened_scope}
 use Rattle.semantic_model.specs.Declaration.{Declaration}
-use Rattle.semantic_model.specs.Outcome.{source_of, header_outcome}
+use Rattle.semantic_model.specs.Outcome.{header_outcome}
 use Rattle.semantic_model.specs.Step.{opening, opening_at, scope_at, ending_after, opening_last}
 use Rattle.walk_model.specs.Standing.{Standing}
 use Rattle.walk_model.specs.Opens.{close_scope}

@@ -6,7 +6,7 @@ use Rattle.semantic_kinds.specs.Kinds.{same_kind}
 use Rattle.semantic_kinds.specs.declared.kind.AstType.{AstType}
 use Rattle.semantic_kinds.specs.declared.kind.AstType.TheVariants as kind
 use Rattle.semantic_kinds.specs.declared.role.Role.{Role}
-use Rattle.scoping.specs.Reading.{scope_of}
+use Rattle.semantic_syntax.specs.Reading.{scope_of}
 use Rattle.semantic_syntax.specs.Tables.{Tables}
 use Rattle.semantic_tree.specs.Forest.{Forest, nothing}
 use Rattle.semantic_tree.specs.Limits.{source_limit}

@@ -2,7 +2,7 @@
 use Rattle.std.specs.Prelude.{◌≡◌, ℕ, List, [], ◌∷◌, None, cond, fold, length}
 use Rattle.std.specs.Ordering.{nat_cmp}
 use Rattle.std.specs.BTreeSet.{insert_key}
-use Rattle.scoping.specs.Reading.{bindings_of}
+use Rattle.semantic_syntax.specs.Reading.{bindings_of}
 use Rattle.semantic_model.specs.Binding.{Binding, get, bound_by}
 use Rattle.semantic_model.specs.Fold.{State, Made}
 use Rattle.semantic_model.specs.NodeTable.{symbols_of}

@@ -3,7 +3,7 @@ use Rattle.std.specs.Prelude.{ℕ, ◌<◌, ◌≤◌, Bool, true, cond, Option,
 use Rattle.semantic_kinds.specs.declared.kind.AstType.{AstType}
 use Rattle.semantic_kinds.specs.declared.role.Role.{Role}
 use Rattle.semantic_syntax.specs.Tables.{Tables}
-use Rattle.scoping.specs.Reading.{scope_of}
+use Rattle.semantic_syntax.specs.Reading.{scope_of}
 use Rattle.semantic_model.specs.Inside.{is_inside, is_parameter_decorator}
 use Rattle.semantic_walk.specs.declared.visit.Turn.{Turn}
 use Rattle.walk_model.specs.Standing.{Standing}

@@ -8,7 +8,7 @@ use Rattle.semantic_model.specs.Namespace.{InstanceState}
 use Rattle.semantic_model.specs.Place.{Place}
 use Rattle.semantic_syntax.specs.declared.scope_flags.TheConstants.ScopeFlags as scope
 use Rattle.semantic_syntax.specs.Sets.{meets, union}
-use Rattle.scoping.specs.Reading.{scope_of}
+use Rattle.semantic_syntax.specs.Reading.{scope_of}
 use Rattle.scoping.specs.Writing.{taken_over}
 use Rattle.node_store.specs.Entered.{Entered, entering}
 use Rattle.semantic_model.specs.Cursor.{way_of}

@@ -4,7 +4,7 @@ use Rattle.std.proofs.lemmas.List.Elements.{All-nil, All-cons, All-append}
 use Rattle.std.proofs.lemmas.List.{map-append}
 use Rattle.std.specs.Map.{values_of}
 use Rattle.semantic_syntax.specs.Tables.{Tables, Name}
-use Rattle.scoping.specs.Reading.{bindings_of}
+use Rattle.semantic_syntax.specs.Reading.{bindings_of}
 use Rattle.scoping.specs.Writing.{taken_over}
 use Rattle.count_laws.proofs.Growth.{homes_count}
 use Rattle.semantic_model.specs.Binding.{Binding, is_of, get, put}

@@ -3,11 +3,12 @@ use Rattle.std.proofs.Common.{ℕ, zero, suc, ◌==◌, ◌<◌, Bool, true, fal
 use Rattle.std.specs.List.{AllByRecursion}
 use Rattle.std.specs.Option.{option_map_or}
 use Rattle.semantic_syntax.specs.Tables.{Name}
-use Rattle.scoping.specs.Source.{Source, IsSource, chain_within}
+use Rattle.semantic_syntax.specs.Source.{Source, IsSource, chain_within}
 use Rattle.resolver.specs.declared.outcomes.Outcome.{Outcome}
 use Rattle.resolver.specs.declared.outcomes.Outcome.TheVariants.{Tied, Free, Pending}
 use Rattle.resolver.specs.declared.pending.UnresolvedReference.{UnresolvedReference}
-use Rattle.resolver.specs.Outward.{tie, fits, ends_after, answer, up_to, up_to_last}
+use Rattle.semantic_syntax.specs.Lookup.{fits}
+use Rattle.resolver.specs.Outward.{tie, ends_after, answer, up_to, up_to_last}
 use Rattle.resolver.specs.Settling.{answer_of, answered_or, outside, header_outcome, last_outcome, waits_within}
 use Rattle.table_building.specs.Settled.{IsOutcomeWithin, IsAnswerWithin}
 

@@ -1,7 +1,9 @@
 -- References that wait outside of a header stay as they are.
 use Rattle.std.proofs.Common.{◌≡◌, ℕ, zero, suc, false, List, [], ◌∷◌, ◌++◌, map, take, drop, refl, ap, sym, ◌∙◌}
 use Rattle.semantic_syntax.specs.Tables.{Tables}
-use Rattle.semantic_model.specs.Outcome.{Source, Pending, waits, source_of, is_below, header_outcome}
+use Rattle.semantic_syntax.specs.Source.{Source}
+use Rattle.semantic_syntax.specs.Told.{source_of}
+use Rattle.semantic_model.specs.Outcome.{Pending, waits, is_below, header_outcome}
 use Rattle.walk_model.specs.Standing.{Standing}
 use Rattle.walk_model.specs.Settles.{settle, staying, end_header}
 use Rattle.table_building.specs.Settled.{settled_from, AreOutside}

@@ -1,7 +1,7 @@
 -- References that wait, in tables that grow.
 use Rattle.std.proofs.Common.{◌≡◌, ℕ, zero, suc, ◌<◌, List, [], ◌∷◌, ◌++◌, length, take, drop, map, Some, None, All, arith, get_or, Result, Ok, Err, IfOk, subst, sym, refl, ap, slice_get, slice_index_or}
 use Rattle.std.proofs.lemmas.List.Elements.{All-nil, All-cons, All-head, All-tail, All-map}
-use Rattle.scoping.specs.Source.{Source, IsSource}
+use Rattle.semantic_syntax.specs.Source.{Source, IsSource}
 use Rattle.resolver.specs.Settling.{header_outcome, last_outcome}
 use Rattle.table_building.proofs.Outcomes.{header_outcome-below, last_outcome-below}
 use Rattle.semantic_syntax.specs.Tables.{Tables}

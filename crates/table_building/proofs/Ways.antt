@@ -2,8 +2,8 @@
 use Rattle.std.proofs.Common.{◌≡◌, ℕ, suc, ◌-◌, ◌<◌, Bool, true, false, List, [], ◌∷◌, ◌++◌, length, Option, None, Some, map, refl, sym, ap, subst, ◌∙◌, arith, append_assoc}
 use Rattle.semantic_syntax.specs.Sets.{meets}
 use Rattle.semantic_syntax.specs.Tables.{Tables}
-use Rattle.scoping.specs.Source.{chain_within}
-use Rattle.scoping.specs.Reading.{scope_of, parent_of, chain}
+use Rattle.semantic_syntax.specs.Source.{chain_within}
+use Rattle.semantic_syntax.specs.Reading.{scope_of, parent_of, chain}
 use Rattle.semantic_model.specs.Place.{OpenScope, innermost}
 use Rattle.semantic_model.specs.Declaration.{passed_before, first_with, route_from}
 use Rattle.table_building.specs.Routes.{open_of, open_from, way_from, IsWay}

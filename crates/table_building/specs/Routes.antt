@@ -2,7 +2,7 @@
 use Rattle.std.specs.Prelude.{◌≡◌, ℕ, ◌<◌, List, map, All}
 use Rattle.semantic_syntax.specs.Sets.{meets}
 use Rattle.semantic_syntax.specs.Tables.{Tables}
-use Rattle.scoping.specs.Reading.{scope_of, chain}
+use Rattle.semantic_syntax.specs.Reading.{scope_of, chain}
 use Rattle.semantic_model.specs.Place.{OpenScope, no_scope}
 use Rattle.semantic_model.specs.Declaration.{Route as Way, outward_to}
 use Rattle.table_building.specs.declared.route.Route.{Route}

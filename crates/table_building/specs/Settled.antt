@@ -1,6 +1,8 @@
 -- Outcomes that name what exists, in the words of the definitions, and what they settle.
 use Rattle.std.specs.Prelude.{◌≡◌, ℕ, ◌<◌, false, List, [], ◌++◌, take, drop, Option, None, Some}
 use Rattle.std.specs.List.{AllByRecursion, sum_by}
+use Rattle.semantic_syntax.specs.Source.{Source}
+use Rattle.semantic_syntax.specs.Told.{source_of}
 use Rattle.resolver.specs.declared.outcomes.Outcome.{Outcome}
 use Rattle.resolver.specs.declared.outcomes.Outcome.TheVariants.{Tied, Free, Pending}
 use Rattle.semantic_model.specs.Outcome as model
@@ -36,8 +38,8 @@ settled_from w start outcomes = record w {
 
 -- how many scopes the end of the scope's header asks for the references that wait from a place on
 abbrev pub asked_from : Standing → (start scope : ℕ) → ℕ
-asked_from w start c = sum_by (model.header_asks (model.source_of w.tables) c) (drop start w.waiting)
+asked_from w start c = sum_by (model.header_asks (source_of w.tables) c) (drop start w.waiting)
 
 -- the references wait neither in the scope nor below it
-abbrev pub AreOutside : model.Source → ℕ → List model.Pending → Type 0
+abbrev pub AreOutside : Source → ℕ → List model.Pending → Type 0
 AreOutside source c es = AllByRecursion (λ e. model.is_below source c e ≡ false) es

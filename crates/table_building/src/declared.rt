@@ -4,7 +4,7 @@ ghost use Rattle.std.specs.Prelude.{◌≡◌, ◌<◌, ◌++◌, None, length, 
 ghost use Rattle.std.specs.Str.{bytes_eq};
 ghost use Rattle.std.specs.Map.{lookup};
 ghost use Rattle.scoping.specs.Names.{name_of};
-ghost use Rattle.scoping.specs.Reading.{scope_of};
+ghost use Rattle.semantic_syntax.specs.Reading.{scope_of};
 ghost use Rattle.semantic_model.specs.Binding.{get};
 ghost use Rattle.semantic_model.specs.Fold.{or_else};
 ghost use Rattle.walk_model.specs.Opens.{open_in};

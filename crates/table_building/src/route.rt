@@ -2,7 +2,7 @@
 //! `infer` declares to its conditional type (TypeScript's `getInferTypeContainer`).
 
 ghost use Rattle.std.specs.Prelude.{◌≡◌, ◌<◌, length, IfOk, IfSome};
-ghost use Rattle.scoping.specs.Reading.{scope_of};
+ghost use Rattle.semantic_syntax.specs.Reading.{scope_of};
 ghost use Rattle.table_building.specs.Routes.{IsRoute, IsWay, way_from};
 
 use scoping::Scoping;

@@ -2,7 +2,7 @@
 
 ghost use Rattle.std.specs.Prelude.{◌≡◌, ◌<◌, None, Some, length, unwrap_or, IfOk, OnOk};
 ghost use Rattle.std.specs.Option.{option_map_or};
-ghost use Rattle.scoping.specs.Reading.{scope_of};
+ghost use Rattle.semantic_syntax.specs.Reading.{scope_of};
 ghost use Rattle.semantic_model.specs.ScopeKind.{strict_if};
 ghost use Rattle.semantic_syntax.specs.Sets.{meets, union};
 ghost use Rattle.semantic_syntax.specs.declared.scope_flags.TheConstants.ScopeFlags as scope_flag;

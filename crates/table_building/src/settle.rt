@@ -3,7 +3,8 @@
 ghost use Rattle.std.specs.Prelude.{◌≡◌, ◌+◌, ◌<◌, ◌≤◌, length, map, take, drop, slice_index_or, All, IfOk, OnOk, OnErr};
 ghost use Rattle.std.specs.List.{sum_by};
 ghost use Rattle.semantic_syntax.specs.Counts.{raised};
-ghost use Rattle.semantic_model.specs.Outcome.{source_of, header_outcome, last_outcome, last_asks};
+ghost use Rattle.semantic_syntax.specs.Told.{source_of};
+ghost use Rattle.semantic_model.specs.Outcome.{header_outcome, last_outcome, last_asks};
 ghost use Rattle.walk_model.specs.Settles as walked;
 ghost use Rattle.table_building.specs.Growth.{Grows};
 ghost use Rattle.table_building.specs.Made.{pending_of};

@@ -9,7 +9,7 @@ use Rattle.semantic_kinds.specs.declared.kind.AstType.TheVariants as kind
 use Rattle.semantic_syntax.specs.Sets.{meets}
 use Rattle.semantic_syntax.specs.declared.scope_flags.TheConstants.ScopeFlags as scope
 use Rattle.semantic_syntax.specs.Tables.{Bindings, Tables}
-use Rattle.scoping.specs.Reading.{scope_of}
+use Rattle.semantic_syntax.specs.Reading.{scope_of}
 use Rattle.scoping.specs.Writing.{taken_over, with_home}
 use Rattle.semantic_model.specs.Nodes.{is}
 use Rattle.semantic_model.specs.Place.{Place, OpenScope, at}

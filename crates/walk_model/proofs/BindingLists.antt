@@ -7,15 +7,12 @@ use Rattle.semantic_syntax.specs.Tables.{Name, Bindings}
 use Rattle.semantic_model.specs.Binding.{Binding, is_of, get, put, remove, take_over, bound_by}
 use Rattle.semantic_model.proofs.BindingLaws.{is_of_tells, same_key_tells, get-put, get-remove, get-take_over_body, get-take_over_other}
 use Rattle.semantic_model.proofs.Under.{name_tells}
+use Rattle.semantic_model.proofs.Outwards.{lookup-bound_by}
 
 -- each scope binds a name once
 abbrev pub IsSingle : List Binding → Type 0
 IsSingle [] = Unit {0}
 IsSingle (b ∷ bs) = (get bs b.scope b.name ≡ None) × IsSingle bs
-
-pub lookup-bound_by : (bs : List Binding) (c : ℕ) (x : Name) → lookup (bytes_eq x) (bound_by bs c) ≡ get bs c x
-lookup-bound_by [] c x = refl
-lookup-bound_by (b ∷ bs) c x = grind (arith, lookup-bound_by bs c x, eqb_tells b.scope c, name_tells b.name x, name_tells x b.name)
 
 pub put_here : (bs : List Binding) (c : ℕ) (x : Name) (y : ℕ) → bound_by (put bs c x y) c ≡ insert_entry bytes_eq (bound_by bs c) x y
 put_here [] c x y = grind (arith, eqb_tells c c)

@@ -1,45 +1,27 @@
 -- The parents that the tables tell lead along a chain that they show, and so do ways outward.
-use Rattle.std.proofs.Common.{◌≡◌, ℕ, zero, suc, ◌≤◌, List, [], ◌∷◌, Option, Some, None, Bool, true, false, cond, refl, sym, ap, subst, length, map, slice_index_or, arith}
+use Rattle.std.proofs.Common.{◌≡◌, ℕ, zero, suc, ◌≤◌, List, [], ◌∷◌, Option, Some, None, Bool, true, false, cond, refl, sym, ap, subst, length, map, arith}
 use Rattle.semantic_syntax.specs.declared.scope_flags.TheConstants.ScopeFlags as flag
 use Rattle.semantic_syntax.specs.Sets.{meets}
-use Rattle.semantic_syntax.specs.Tables.{Scope, Tables}
-use Rattle.scoping.specs.Reading.{scope_of, no_scope}
-use Rattle.scoping.specs.Reading as reading
-use Rattle.scoping.specs.Source as scoping
+use Rattle.semantic_syntax.specs.Tables.{Tables}
+use Rattle.semantic_syntax.specs.Reading.{scope_of, no_scope}
+use Rattle.semantic_syntax.specs.Reading as reading
+use Rattle.semantic_syntax.specs.Source.{chain_within}
 use Rattle.semantic_model.specs.Place.{Place, OpenScope, innermost}
 use Rattle.semantic_model.specs.Place as place
 use Rattle.semantic_model.specs.Declaration.{Route, passed_before, first_with, route_from, outward_to, outward_past}
-use Rattle.semantic_model.specs.Outcome.{source_of}
-use Rattle.semantic_model.specs.Outcome as outcome
-use Rattle.semantic_model.specs.Outward as outward
 use Rattle.walk_model.specs.Walks.{numbers}
 use Rattle.walk_model.proofs.Nested.{Descends}
 use Rattle.walk_model.proofs.ChainRows.{IsOther, ShowsChain, chain_descends}
 
--- a parent is read alike
-pub parent_as : (es : List Scope) (i : ℕ) → outward.parent_at es i ≡ (slice_index_or es i no_scope).parent
-parent_as [] i = refl
-parent_as (e ∷ es) zero = refl
-parent_as (e ∷ es) (suc i) = parent_as es i
-
 -- the scopes from one outward, in so many rounds
-pub within_shown : (t : Tables) (rounds n : ℕ) (s : OpenScope) (ss : List OpenScope) → n ≤ rounds → Descends n (s ∷ ss) → ShowsChain t (s ∷ ss) → scoping.chain_within (reading.parent_of t.scopes) rounds s.number ≡ numbers (s ∷ ss)
-unfolding scoping.chain_within
+pub within_shown : (t : Tables) (rounds n : ℕ) (s : OpenScope) (ss : List OpenScope) → n ≤ rounds → Descends n (s ∷ ss) → ShowsChain t (s ∷ ss) → chain_within (reading.parent_of t.scopes) rounds s.number ≡ numbers (s ∷ ss)
+unfolding chain_within
 within_shown t zero n s ss l d h = absurd (omega (arith, l, d.0))
 within_shown t (suc rounds) n s [] l d h = rw h.0.parent refl
 within_shown t (suc rounds) n s (r ∷ rs) l d h = rw h.0.parent (ap (λ ns. s.number ∷ ns) (within_shown t rounds s.number r rs (omega (arith, l, d.0)) d.1 h.1))
 
 pub rows_chain : (t : Tables) (s : OpenScope) (ss : List OpenScope) → ShowsChain t (s ∷ ss) → reading.chain t.scopes s.number ≡ numbers (s ∷ ss)
 rows_chain t s ss h = within_shown t (length t.scopes) (length t.scopes) s ss (omega arith) (chain_descends t (s ∷ ss) h) h
-
--- the same as what waits is looked up
-pub outward_shown : (t : Tables) (rounds n : ℕ) (s : OpenScope) (ss : List OpenScope) → n ≤ rounds → Descends n (s ∷ ss) → ShowsChain t (s ∷ ss) → outward.chain_within (outward.parent_of t) rounds s.number ≡ numbers (s ∷ ss)
-outward_shown t zero n s ss l d h = absurd (omega (arith, l, d.0))
-outward_shown t (suc rounds) n s [] l d h = rw (parent_as t.scopes s.number, h.0.parent) refl
-outward_shown t (suc rounds) n s (r ∷ rs) l d h = rw (parent_as t.scopes s.number, h.0.parent) (ap (λ ns. s.number ∷ ns) (outward_shown t rounds s.number r rs (omega (arith, l, d.0)) d.1 h.1))
-
-pub source_chain : (t : Tables) (s : OpenScope) (ss : List OpenScope) → ShowsChain t (s ∷ ss) → outcome.chain (source_of t) s.number ≡ numbers (s ∷ ss)
-source_chain t s ss h = outward_shown t (length t.scopes) (length t.scopes) s ss (omega arith) (chain_descends t (s ∷ ss) h) h
 
 -- a row as an open scope
 abbrev pub open_row : Tables → ℕ → OpenScope

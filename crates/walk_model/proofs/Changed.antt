@@ -8,7 +8,7 @@ use Rattle.std.proofs.lemmas.List.{length-set, length-append}
 use Rattle.std.proofs.lemmas.List.Sums.{fold-append}
 use Rattle.indexmap.specs.IndexMap.{insert_entry}
 use Rattle.semantic_syntax.specs.Tables.{Name, Bindings, Symbol}
-use Rattle.scoping.specs.Reading.{no_symbol}
+use Rattle.semantic_syntax.specs.Reading.{no_symbol}
 use Rattle.semantic_model.specs.Binding.{put, remove}
 use Rattle.semantic_model.specs.Declaration.{Declaration}
 use Rattle.semantic_model.specs.Fold.{State, Made, found, update, redeclared, united, in_scope, new_symbol, gets, make, against, conflict_with, declare_in, chosen}

@@ -14,7 +14,7 @@ use Rattle.semantic_syntax.specs.Sets.{meets, union}
 use Rattle.semantic_syntax.specs.SourceTypes.{is_module}
 use Rattle.semantic_syntax.specs.Tables.{Scope}
 use Rattle.semantic_tree.specs.declared.node.Node.{Node}
-use Rattle.scoping.specs.Reading.{no_scope}
+use Rattle.semantic_syntax.specs.Reading.{no_scope}
 use Rattle.semantic_model.specs.Nodes.{has_use_strict, reads}
 use Rattle.semantic_model.specs.Place.{Place, is_strict}
 use Rattle.semantic_model.specs.ScopeKind.{strict_if, strict_by_body, accessor, value_of, method_flags, flags_of_kind, opened_scope}

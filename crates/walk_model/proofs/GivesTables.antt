@@ -1,9 +1,11 @@
 -- The walk gives the tables of the definitions.
-use Rattle.std.proofs.Common.{◌≡◌, ℕ, List, [], ◌∷◌, ◌++◌, None, Bool, refl, sym, ap, subst, ◌∙◌, map, flat_map, length, slice_index_or, arith}
+use Rattle.std.proofs.Common.{◌≡◌, ℕ, List, [], ◌∷◌, ◌++◌, None, Bool, refl, sym, ap, subst, ◌∙◌, map, flat_map, length, arith}
 use Rattle.std.specs.Prelude.{filter}
 use Rattle.std.proofs.lemmas.List.{length-append, append_assoc, append-nil}
 use Rattle.semantic_syntax.specs.declared.references.Reference.{Reference}
 use Rattle.semantic_syntax.specs.Tables.{Scope}
+use Rattle.semantic_syntax.specs.Told.{source_of}
+use Rattle.semantic_syntax.specs.Reading.{way_of}
 use Rattle.semantic_tree.specs.Tree.{Tree}
 use Rattle.semantic_tree.specs.Faults.{first_fault}
 use Rattle.semantic_model.specs.Reference.{Occurrence, references}
@@ -13,7 +15,7 @@ use Rattle.semantic_model.specs.Event.{Event, events_of, events, written_declara
 use Rattle.semantic_model.specs.Fold.{State, start}
 use Rattle.semantic_model.specs.Hoist.{run}
 use Rattle.semantic_model.specs.Tie.{Tie, ties, moment, is_last, settled_at, in_order}
-use Rattle.semantic_model.specs.Outcome.{Pending, source_of, last_outcome}
+use Rattle.semantic_model.specs.Outcome.{Pending, last_outcome}
 use Rattle.semantic_model.specs.TablesOf.{entry_of, tables_of}
 use Rattle.semantic_model.specs.NodeTable.{numbered_from}
 use Rattle.semantic_model.proofs.Growth.{start_is_sound}
@@ -110,14 +112,14 @@ has_referred p h =
     let here_is : here ≡ all = ap (ties final es 0) (referred_are [] (steps p)) in
     let now : Tie → Bool = λ t. is_last (moment t) in
     let NoWait : Tie → Pending → Type 0 = λ t x. ⊥ in
-    let WithWay : Tie → Pending → Type 0 = λ t x. Waits [] seen fs final es t x × (slice_index_or (map (λ (r : Reference). r.flags.bits) w.tables.references) t.number 0 ≡ t.reference.way) in
+    let WithWay : Tie → Pending → Type 0 = λ t x. Waits [] seen fs final es t x × (way_of w.tables t.number ≡ t.reference.way) in
     let Anything : Tie → Type 0 = λ t. Unit {0} in
     let at_w : At w final stack seen calls bare fs = record { shows = i.represents.shows; scopes = i.scopes; flags = i.flags; sound = i.sound } in
     let ways : Tracks (IsDone [] (length seen)) WithWay here w.tables.references w.waiting = with_ways (IsDone [] (length seen)) (Waits [] seen fs final es) w.tables.references here w.tables.references w.waiting 0 [] i.tracks (numbered final es 0 rs) refl refl in
     let last : Settled Anything NoWait [] (flat_map (settled_at all) es) (filter now here) here (length final.symbols) (staying w.waiting (map (last_outcome (source_of w.tables)) w.waiting)) (settle w.tables w.waiting (map (last_outcome (source_of w.tables)) w.waiting)) =
     settle_tracks (IsDone [] (length seen)) Anything WithWay NoWait final.symbols now (last_outcome (source_of w.tables))
     (λ t d. tt) (λ t q. tt) (λ t d. ap is_last d.is) (λ t x y. (y.0.name, y.0.number))
-    (λ t x y. right_last w final final es stack seen calls bare fs at_w t x refl NoWait y.0 (ap (λ m. slice_index_or (map (λ (r : Reference). r.flags.bits) w.tables.references) m 0) y.0.number ∙ y.1))
+    (λ t x y. right_last w final final es stack seen calls bare fs at_w t x refl NoWait y.0 (ap (way_of w.tables) y.0.number ∙ y.1))
     here w.tables.references w.waiting 0 (length final.symbols) [] (flat_map (settled_at all) es) w.tables ways (numbered final es 0 rs) refl refl refl i.represents.shows.symbols i.lists in
     let ordered : Lists (in_order es all) (length final.symbols) (walk.walked p).tables =
     subst (λ l. Lists (flat_map (settled_at all) es ++ filter now l) (length final.symbols) (walk.walked p).tables) here_is last.lists in

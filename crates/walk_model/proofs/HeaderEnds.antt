@@ -4,20 +4,21 @@ use Rattle.std.proofs.lemmas.Bool.Decides.{eqb_tells}
 use Rattle.std.proofs.lemmas.List.{append_assoc, map-append}
 use Rattle.semantic_syntax.specs.Usable.{settled}
 use Rattle.semantic_syntax.specs.Tables.{Name, Scope}
+use Rattle.semantic_syntax.specs.Told.{source_of}
 use Rattle.semantic_model.specs.Place.{OpenScope}
 use Rattle.semantic_model.specs.Binding.{get}
 use Rattle.semantic_model.specs.Declaration.{contains}
 use Rattle.semantic_model.specs.Event.{Event}
 use Rattle.semantic_model.specs.Fold.{State, flags_of}
-use Rattle.semantic_model.specs.Lookup.{Seen, Asked, Lookup, tied, barred, unanswered, lookup}
+use Rattle.semantic_syntax.specs.Lookup.{Seen, Asked, Lookup, tied, barred, unanswered, lookup}
 use Rattle.semantic_model.specs.Tie.{Tie, seen_as, answer, symbol_by, final_flags, header_from, moment, is_at}
-use Rattle.semantic_model.specs.Outcome.{Pending, Outcome, source_of, answer as source_answer, outcome_or}
+use Rattle.semantic_model.specs.Outcome.{Pending, Outcome, answer as source_answer, outcome_or}
 use Rattle.semantic_model.proofs.Bounds.{IsSound, get_below}
 use Rattle.semantic_model.proofs.Lists.{IsBelow}
 use Rattle.semantic_model.proofs.Members.{contains_first}
 use Rattle.walk_model.specs.Standing.{Standing}
 use Rattle.walk_model.specs.Walks.{numbers}
-use Rattle.walk_model.proofs.SymbolLists.{flags_at}
+use Rattle.semantic_model.proofs.Outwards.{flags_at}
 use Rattle.walk_model.proofs.Represents.{Shows}
 use Rattle.walk_model.proofs.Nested.{AreLinked, Descends, descends_more}
 use Rattle.walk_model.proofs.OpenedScopes.{ShowsScopes}

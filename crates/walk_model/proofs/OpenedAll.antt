@@ -4,6 +4,7 @@ use Rattle.std.specs.Prelude.{filter_map}
 use Rattle.std.specs.List.{cons_option}
 use Rattle.std.proofs.lemmas.List.{length-append, append_assoc, append-nil}
 use Rattle.semantic_syntax.specs.Tables.{Scope}
+use Rattle.semantic_syntax.specs.Told.{source_of}
 use Rattle.semantic_tree.specs.Tree.{Tree}
 use Rattle.semantic_tree.specs.Faults.{first_fault}
 use Rattle.semantic_model.specs.Place.{Place, OpenScope}
@@ -13,7 +14,7 @@ use Rattle.semantic_model.specs.Declaration.{Declaration}
 use Rattle.semantic_model.specs.Event.{written_declarations}
 use Rattle.semantic_model.specs.TablesOf.{is_direct_eval, evals, opened_entry, scopes, any_holds}
 use Rattle.semantic_model.specs.NodeTable.{numbered_from}
-use Rattle.semantic_model.specs.Outcome.{last_outcome, source_of}
+use Rattle.semantic_model.specs.Outcome.{last_outcome}
 use Rattle.walk_model.specs.Standing.{Standing, nothing_made}
 use Rattle.walk_model.specs.Noted.{entries_of}
 use Rattle.walk_model.specs.Agreement.{HasOpened}

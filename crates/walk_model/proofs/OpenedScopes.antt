@@ -10,7 +10,8 @@ use Rattle.semantic_kinds.specs.declared.kind.AstType.TheVariants as kind
 use Rattle.semantic_syntax.specs.declared.scope_flags.TheConstants.ScopeFlags as scope
 use Rattle.semantic_syntax.specs.Sets.{meets}
 use Rattle.semantic_syntax.specs.Tables.{Scope}
-use Rattle.scoping.specs.Reading.{scope_of, no_scope}
+use Rattle.semantic_syntax.specs.Reading.{scope_of, no_scope}
+use Rattle.semantic_syntax.specs.Told.{source_of}
 use Rattle.semantic_model.specs.Nodes.{is}
 use Rattle.semantic_model.specs.Place.{Place, OpenScope, at, innermost}
 use Rattle.semantic_model.specs.Declaration.{Declaration, contains}
@@ -19,7 +20,7 @@ use Rattle.semantic_model.specs.Binder.{declared_on_entering, declared_on_openin
 use Rattle.semantic_model.specs.Event.{Event, takes_over, declares_all, taken_over, is_catch_body, events_of}
 use Rattle.semantic_model.specs.TablesOf.{is_direct_eval}
 use Rattle.semantic_model.specs.NodeTable.{Belongs, numbered_from}
-use Rattle.semantic_model.specs.Outcome.{Pending, Outcome, header_outcome, source_of}
+use Rattle.semantic_model.specs.Outcome.{Pending, Outcome, header_outcome}
 use Rattle.walk_model.specs.Standing.{Standing}
 use Rattle.walk_model.specs.Opens.{number_of, with_eval, add_eval, note_eval, note_reference, refer, open_scope, close_scope}
 use Rattle.walk_model.specs.Settles.{settle, settle_by}

@@ -2,18 +2,20 @@
 use Rattle.std.proofs.Common.{◌≡◌, ℕ, ◌<◌, List, [], ◌∷◌, refl, sym, ap, subst, ◌∙◌, Option, Some, None, cond, Bool, true, false, ◌⊎◌, inl, inr, length, arith}
 use Rattle.std.specs.Option.{unwrap_or}
 use Rattle.semantic_syntax.specs.Tables.{Name}
+use Rattle.semantic_syntax.specs.Reading.{bound_in}
 use Rattle.semantic_model.specs.Place.{OpenScope}
 use Rattle.semantic_model.specs.Binding.{Binding, get, put, remove, move}
 use Rattle.semantic_model.specs.Declaration.{Declaration, stands_in}
 use Rattle.semantic_model.specs.Fold.{State, found, update, redeclared, in_scope, gets, against, declare_in, chosen, or_else, unless_expression}
 use Rattle.semantic_model.specs.Hoist.{Hit, hit, hit_or, counts, asked, against_all, remembering, move_symbol, hoist_by, hoist, move_out, move_function}
+use Rattle.semantic_model.proofs.Outwards.{flags_at}
 use Rattle.semantic_model.proofs.BindingLaws.{same_key_tells, get-put_same, get-put_other}
 use Rattle.walk_model.specs.Standing.{Standing}
 use Rattle.walk_model.specs.Naming.{naming_of}
 use Rattle.walk_model.specs.Declares as writes
 use Rattle.walk_model.specs.Hoists as reaches
 use Rattle.walk_model.specs.Walks.{numbers}
-use Rattle.walk_model.proofs.SymbolLists.{flags_at, update_twice}
+use Rattle.walk_model.proofs.SymbolLists.{update_twice}
 use Rattle.walk_model.proofs.Represents.{Shows, Represents, bound_as, found_as}
 use Rattle.walk_model.proofs.Changed.{represents_gets, represents_redeclare, represents_give, represents_against, represents_declare_in, chosen_as, represents_remember, represents_rebind}
 
@@ -81,9 +83,9 @@ got b w y d = record w { nodes = (writes.gets w y (naming_of d)).nodes; tables =
 
 -- it is the same whether the declaration gets its symbol before or after the move
 move_then_gets : (w : Standing) (from to y : ℕ) (d : Declaration) → writes.gets (reaches.move_symbol w from to y d.name) y (naming_of d) ≡ reaches.move_symbol (writes.gets w y (naming_of d)) from to y d.name
-move_then_gets w from to y d = by d.is_pure (writes.bound_to w.tables to d.name) refl
+move_then_gets w from to y d = by d.is_pure (bound_in w.tables to d.name) refl
   where
-    by : (b : Bool) (o : Option ℕ) → writes.bound_to w.tables to d.name ≡ o → got b (reaches.move_symbol w from to y d.name) y d ≡ reaches.move_symbol (got b w y d) from to y d.name
+    by : (b : Bool) (o : Option ℕ) → bound_in w.tables to d.name ≡ o → got b (reaches.move_symbol w from to y d.name) y d ≡ reaches.move_symbol (got b w y d) from to y d.name
     by true None e = rw e refl
     by true (Some z) e = rw e refl
     by false None e = rw e refl

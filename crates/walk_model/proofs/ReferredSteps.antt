@@ -1,12 +1,13 @@
 -- Each step keeps what is tracked of references.
-use Rattle.std.proofs.Common.{◌≡◌, ℕ, zero, suc, ◌+◌, ◌<◌, ◌≤◌, List, [], ◌∷◌, ◌++◌, Some, Bool, true, false, cond, inl, inr, refl, sym, ap, subst, ◌∙◌, map, flat_map, length, slice_index_or, arith}
+use Rattle.std.proofs.Common.{◌≡◌, ℕ, zero, suc, ◌+◌, ◌<◌, ◌≤◌, List, [], ◌∷◌, ◌++◌, Some, Bool, true, false, cond, inl, inr, refl, sym, ap, subst, ◌∙◌, map, flat_map, length, arith}
 use Rattle.std.specs.Prelude.{slice_get, filter}
 use Rattle.std.proofs.lemmas.Bool.Decides.{eqb_tells}
 use Rattle.std.proofs.lemmas.Option.{slice_get_within}
 use Rattle.std.proofs.lemmas.List.{length-append, append-nil, map-append}
 use Rattle.semantic_kinds.specs.declared.kind.AstType.TheVariants as kind
-use Rattle.semantic_syntax.specs.declared.references.Reference.{Reference}
 use Rattle.semantic_syntax.specs.Tables.{Scope}
+use Rattle.semantic_syntax.specs.Told.{source_of}
+use Rattle.semantic_syntax.specs.Reading.{way_of}
 use Rattle.semantic_tree.specs.Forest.{Forest, nothing, tree}
 use Rattle.semantic_model.specs.Nodes.{is, has_role}
 use Rattle.semantic_model.specs.Inside.{header_roles}
@@ -19,7 +20,7 @@ use Rattle.semantic_model.specs.Event.{Event, ends_header, events_of}
 use Rattle.semantic_model.specs.Fold.{State, start}
 use Rattle.semantic_model.specs.Hoist.{run}
 use Rattle.semantic_model.specs.Tie.{Tie, ties, until_end_of, moment, is_at, settled_at}
-use Rattle.semantic_model.specs.Outcome.{Pending, source_of, header_outcome}
+use Rattle.semantic_model.specs.Outcome.{Pending, header_outcome}
 use Rattle.semantic_model.specs.TablesOf.{is_direct_eval}
 use Rattle.semantic_model.proofs.Growth.{run_grows}
 use Rattle.semantic_model.proofs.Compose.{run-append, flat-append}
@@ -202,7 +203,7 @@ module _ (ds : List Declaration) (all : List Tie) (final : State) (es : List Eve
       let still : Frozen c n st final = subst (Frozen c n st) (sym final_run) (frozen c n st evs i.sided.0 i.within i.sound touch) in
       let view_is : run start (until_end_of c es) ≡ st = ap (λ l. run start (until_end_of c l)) es_is ∙ ap (run start) (until_is aw n c done evs i.ends) ∙ sym st_is in
       let at_w : At w st (c ∷ around) seen calls bare fs = record { shows = i.represents.shows; scopes = i.scopes; flags = i.flags; sound = i.sound } in
-      let WithWay : Tie → Pending → Type 0 = λ t x. Waits (c ∷ aw) seen fs final es t x × (slice_index_or (map (λ (r : Reference). r.flags.bits) w.tables.references) t.number 0 ≡ t.reference.way) in
+      let WithWay : Tie → Pending → Type 0 = λ t x. Waits (c ∷ aw) seen fs final es t x × (way_of w.tables t.number ≡ t.reference.way) in
       let ways : Tracks (IsDone (c ∷ aw) n) WithWay here w.tables.references w.waiting = with_ways (IsDone (c ∷ aw) n) (Waits (c ∷ aw) seen fs final es) w.tables.references here w.tables.references w.waiting 0 [] i.tracks (numbered final es 0 rs) refl refl in
       let done2 : Settled (IsDone aw n) (Waits aw seen fs final es) [] (flat_map (settled_at all) done) (filter now here) here (length st.symbols) (staying w.waiting (map (header_outcome (source_of w.tables) c) w.waiting)) (settle w.tables w.waiting (map (header_outcome (source_of w.tables) c) w.waiting)) =
       settle_tracks (IsDone (c ∷ aw) n) (IsDone aw n) WithWay (Waits aw seen fs final es) st.symbols now (header_outcome (source_of w.tables) c)
@@ -210,7 +211,7 @@ module _ (ds : List Declaration) (all : List Tie) (final : State) (es : List Eve
       (λ t q. record { header = c; is = at_is c (moment t) q; ended = not_among aw c c (omega arith) i.old.0; older = i.less.0 })
       (λ t d. done_not c aw n t d)
       (λ t x y. (y.0.name, y.0.number))
-      (λ t x y. right_end w st final es (c ∷ around) seen calls bare fs at_w c aw i.inner.0.first i.inner.0.others still view_is i.old.0 i.inner.0.is t x y.0 (ap (λ m. slice_index_or (map (λ (r : Reference). r.flags.bits) w.tables.references) m 0) y.0.number ∙ y.1))
+      (λ t x y. right_end w st final es (c ∷ around) seen calls bare fs at_w c aw i.inner.0.first i.inner.0.others still view_is i.old.0 i.inner.0.is t x y.0 (ap (way_of w.tables) y.0.number ∙ y.1))
       here w.tables.references w.waiting 0 (length st.symbols) [] (flat_map (settled_at all) done) w.tables ways (numbered final es 0 rs) refl refl refl i.represents.shows.symbols i.lists in
       let now_all : filter now all ≡ filter now here =
       ap (filter now) (all_is ∙ ties-append final es 0 rs (references ss)) ∙ filter-append now here (ties final es (0 + length rs) (references ss))

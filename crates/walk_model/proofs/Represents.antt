@@ -8,13 +8,13 @@ use Rattle.std.proofs.lemmas.Bool.Decides.{eqb_tells}
 use Rattle.std.proofs.lemmas.List.{get_or-set_same, get_or-set_other}
 use Rattle.indexmap.specs.IndexMap.{insert_entry, shift_remove_entry}
 use Rattle.semantic_syntax.specs.Tables.{Name, Bindings}
-use Rattle.scoping.specs.Reading.{bindings_of}
+use Rattle.semantic_syntax.specs.Reading.{bindings_of, bound_in}
 use Rattle.semantic_model.specs.Binding.{Binding, get, put, remove, bound_by}
 use Rattle.semantic_model.specs.Fold.{State, Made, found, or_else, unless_expression}
+use Rattle.semantic_model.proofs.Outwards.{lookup-bound_by, flags_at}
 use Rattle.walk_model.specs.Standing.{Standing}
 use Rattle.walk_model.specs.Declares as writes
-use Rattle.walk_model.proofs.BindingLists.{IsSingle, lookup-bound_by, put_here, put_elsewhere, remove_here, remove_elsewhere}
-use Rattle.walk_model.proofs.SymbolLists.{flags_at}
+use Rattle.walk_model.proofs.BindingLists.{IsSingle, put_here, put_elsewhere, remove_here, remove_elsewhere}
 
 -- with so many scopes
 pub record Shows (n : ℕ) (w : Standing) (st : State) : Type 0 where
@@ -49,7 +49,7 @@ pub record Represents (n : ℕ) (w : Standing) (st : State) : Type 0 where
   pub notes : Notes w.tables.pure_symbols w.nodes.symbols st.made
 
 -- what is bound and remembered shows what is found
-pub bound_as : (n : ℕ) (w : Standing) (st : State) (c : ℕ) (x : Name) → Shows n w st → writes.bound_to w.tables c x ≡ get st.bindings c x
+pub bound_as : (n : ℕ) (w : Standing) (st : State) (c : ℕ) (x : Name) → Shows n w st → bound_in w.tables c x ≡ get st.bindings c x
 bound_as n w st c x h = ap (lookup (bytes_eq x)) (h.bindings c) ∙ lookup-bound_by st.bindings c x
 
 unless_as : (n : ℕ) (w : Standing) (st : State) (o : Option ℕ) → Shows n w st → writes.unless_expression w.tables o ≡ unless_expression st o

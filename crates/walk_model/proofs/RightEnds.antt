@@ -5,16 +5,18 @@ use Rattle.std.specs.Option.{option_map_or}
 use Rattle.std.proofs.lemmas.Bool.Decides.{eqb_tells}
 use Rattle.std.proofs.lemmas.List.{append_assoc}
 use Rattle.semantic_syntax.specs.Tables.{Name, Scope}
+use Rattle.semantic_syntax.specs.Reading.{way_of, parent_of}
+use Rattle.semantic_syntax.specs.Told.{source_of}
+use Rattle.semantic_syntax.specs.Source.{chain}
 use Rattle.semantic_model.specs.Place.{OpenScope}
 use Rattle.semantic_model.specs.Binding.{get}
 use Rattle.semantic_model.specs.Declaration.{contains}
 use Rattle.semantic_model.specs.Event.{Event}
 use Rattle.semantic_model.specs.Fold.{State, start}
 use Rattle.semantic_model.specs.Hoist.{run}
-use Rattle.semantic_model.specs.Lookup.{Lookup, tied, barred, unanswered, lookup}
+use Rattle.semantic_syntax.specs.Lookup.{Lookup, tied, barred, unanswered, lookup}
 use Rattle.semantic_model.specs.Tie.{Tie, until_end_of, seen_as, symbol_by, final_flags, header_from, moment, is_at, is_last}
-use Rattle.semantic_model.specs.Outward.{way_of, parent_of}
-use Rattle.semantic_model.specs.Outcome.{Pending, is_free, waits, source_of, chain, up_to, answer as source_answer, outcome_or, waits_outside, header_outcome, last_outcome}
+use Rattle.semantic_model.specs.Outcome.{Pending, is_free, waits, up_to, answer as source_answer, outcome_or, waits_outside, header_outcome, last_outcome}
 use Rattle.semantic_model.proofs.Members.{contains_first}
 use Rattle.walk_model.specs.Standing.{Standing}
 use Rattle.walk_model.specs.Walks.{numbers}
@@ -59,7 +61,7 @@ module _ (w : Standing) (st final : State) (es : List Event) (stack : List ℕ) 
         let f : AreFlagged fs (own ∷ t2 ∷ ts) = flagged_right fs seg (own ∷ t2 ∷ ts) (subst (AreFlagged fs) p h.flagged) in
         let outer : contains (numbers (t2 ∷ ts)) c ≡ false = subst (λ n. contains (numbers (t2 ∷ ts)) n ≡ false) q (tail_apart (length seen) seg own (t2 ∷ ts) (descends_right (length seen) h.asked (seg ++ own ∷ t2 ∷ ts) down)) in
         let none : answered_in (looked_up final es t (h.asked ++ (seg ++ own ∷ []))) ≡ None = through_more final es t h.asked (seg ++ own ∷ []) h.through a in
-        let parent : parent_of w.tables c ≡ Some t2.number = parent_is stack seen calls bare w c (numbers (t2 ∷ ts)) now_at.scopes (subst (λ n. slice_get seen n ≡ Some (numbers (t2 ∷ ts))) q l.0) in
+        let parent : parent_of w.tables.scopes c ≡ Some t2.number = parent_is stack seen calls bare w c (numbers (t2 ∷ ts)) now_at.scopes (subst (λ n. slice_get seen n ≡ Some (numbers (t2 ∷ ts))) q l.0) in
         subst (λ o. IsRight WaitsThen st.symbols now t e (option_map_or waits o is_free)) (sym parent)
         (goes_on t2.number (not_now final es t (length seen) c (h.asked ++ (seg ++ own ∷ [])) (t2 ∷ ts) split none h.is_tie h.descends outer) (record {
           asked = h.asked ++ (seg ++ own ∷ []);

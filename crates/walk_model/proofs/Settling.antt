@@ -11,7 +11,7 @@ use Rattle.indexmap.specs.IndexMap.{insert_entry}
 use Rattle.semantic_syntax.specs.Usable.{settled}
 use Rattle.semantic_syntax.specs.declared.references.Reference.{Reference}
 use Rattle.semantic_syntax.specs.Tables.{Name, Tables, Symbol, FreeLists}
-use Rattle.scoping.specs.Reading.{no_symbol, no_reference, reference_of}
+use Rattle.semantic_syntax.specs.Reading.{no_symbol, no_reference, reference_of}
 use Rattle.semantic_model.specs.FreeNames.{add_free}
 use Rattle.semantic_model.specs.Place.{innermost}
 use Rattle.semantic_model.specs.Outcome.{Pending, Outcome, means, is_free, waits}

@@ -6,6 +6,7 @@ use Rattle.semantic_kinds.specs.declared.role.Role.TheVariants as role
 use Rattle.semantic_kinds.specs.Roles.{same_role}
 use Rattle.semantic_tree.specs.Tree.{Tree}
 use Rattle.semantic_tree.specs.Faults.{first_fault}
+use Rattle.semantic_syntax.specs.Told.{source_of}
 use Rattle.semantic_model.specs.Nodes.{is}
 use Rattle.semantic_model.specs.Place.{Place, OpenScope, innermost, parent_holds}
 use Rattle.semantic_model.specs.Binding.{bound_by}
@@ -16,7 +17,7 @@ use Rattle.semantic_model.specs.Binder.{declared_by, declared_on_entering, decla
 use Rattle.semantic_model.specs.Event.{Event, takes_over, is_catch_body, taken_over, declares_all, placed, events_of, events, written_declarations}
 use Rattle.semantic_model.specs.Fold.{State, start}
 use Rattle.semantic_model.specs.Hoist.{declare_by, run}
-use Rattle.semantic_model.specs.Outcome.{header_outcome, last_outcome, source_of}
+use Rattle.semantic_model.specs.Outcome.{header_outcome, last_outcome}
 use Rattle.semantic_model.proofs.Compose.{run-append}
 use Rattle.semantic_model.proofs.Clauses.{first_holds}
 use Rattle.walk_model.specs.Standing.{Standing, nothing_made}

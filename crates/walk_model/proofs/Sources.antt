@@ -1,5 +1,5 @@
 -- What the walk's tables tell as a source is what the definitions ask.
-use Rattle.std.proofs.Common.{◌≡◌, ℕ, zero, suc, ◌+◌, ◌<◌, ◌==◌, List, [], ◌∷◌, ◌++◌, Option, Some, None, Bool, true, false, cond, ◌&&◌, not, inl, inr, refl, sym, ap, subst, ◌∙◌, map, length, bytes_eq, slice_index_or, arith}
+use Rattle.std.proofs.Common.{◌≡◌, ℕ, zero, suc, ◌+◌, ◌<◌, ◌==◌, List, [], ◌∷◌, ◌++◌, Option, Some, None, Bool, true, false, ◌&&◌, not, inl, inr, refl, sym, ap, subst, ◌∙◌, map, length, slice_index_or, arith}
 use Rattle.std.specs.Prelude.{slice_get}
 use Rattle.std.specs.Option.{option_map_or}
 use Rattle.std.specs.Int.RustNames.{bit_and}
@@ -8,22 +8,24 @@ use Rattle.std.proofs.lemmas.Nat.{and_or_apart}
 use Rattle.std.proofs.lemmas.Bool.Decides.{eqb_tells}
 use Rattle.semantic_syntax.specs.declared.scope_flags.TheConstants.ScopeFlags as scope
 use Rattle.semantic_syntax.specs.Sets.{meets, union}
-use Rattle.semantic_syntax.specs.Tables.{Name, Bindings, Scope}
-use Rattle.scoping.specs.Reading.{no_scope}
+use Rattle.semantic_syntax.specs.Tables.{Name, Scope}
+use Rattle.semantic_syntax.specs.Source.{chain_within, chain}
+use Rattle.semantic_syntax.specs.Reading.{no_scope, scope_flags, symbol_flags, parent_of}
+use Rattle.semantic_syntax.specs.Told.{source_of}
 use Rattle.semantic_model.specs.Place.{OpenScope}
-use Rattle.semantic_model.specs.Binding.{Binding, get, bound_by}
+use Rattle.semantic_model.specs.Binding.{get}
 use Rattle.semantic_model.specs.Declaration.{contains}
 use Rattle.semantic_model.specs.Event.{Event}
 use Rattle.semantic_model.specs.Fold.{State, start}
 use Rattle.semantic_model.specs.Hoist.{run}
-use Rattle.semantic_model.specs.Lookup.{is_arguments, ends_after}
+use Rattle.semantic_syntax.specs.Lookup.{is_arguments, ends_after}
 use Rattle.semantic_model.specs.Tie.{until_end_of, seen_as, answer}
-use Rattle.semantic_model.specs.Outward.{bound_to, list_at, bound_in, scope_flags, symbol_flags, parent_at, parent_of, chain_within}
-use Rattle.semantic_model.specs.Outcome.{source_of, chain, up_to, answer as source_answer}
+use Rattle.semantic_model.specs.Outcome.{up_to, answer as source_answer}
+use Rattle.semantic_model.proofs.Outwards.{flags_at}
 use Rattle.walk_model.specs.Standing.{Standing}
 use Rattle.walk_model.specs.Walks.{numbers}
 use Rattle.walk_model.proofs.Nested.{AreLinked, Descends}
-use Rattle.walk_model.proofs.Represents.{Shows}
+use Rattle.walk_model.proofs.Represents.{Shows, bound_as}
 use Rattle.walk_model.proofs.Flags.{flagged, flag_if, flagged_parent}
 use Rattle.walk_model.proofs.Reaching.{reached, head_of}
 use Rattle.walk_model.proofs.OpenedScopes.{ShowsScopes, parent_seen, as_many}
@@ -32,28 +34,12 @@ use Rattle.walk_model.proofs.Lookups.{AreAlike}
 use Rattle.walk_model.proofs.Frozen.{Frozen}
 
 -- bindings
-list_is : (bss : List Bindings) (c : ℕ) → list_at bss c ≡ slice_index_or bss c []
-list_is [] c = refl
-list_is (bs ∷ bss) zero = refl
-list_is (bs ∷ bss) (suc c) = list_is bss c
-
-bound_is : (bs : List Binding) (c : ℕ) (x : Name) → bound_to x (bound_by bs c) ≡ get bs c x
-bound_is [] c x = refl
-bound_is (b ∷ bs) c x = by (b.scope == c) (bytes_eq b.name x) (bound_is bs c x)
-  where
-    by : (t u : Bool) → bound_to x (bound_by bs c) ≡ get bs c x → bound_to x (cond t ((b.name, b.symbol) ∷ bound_by bs c) (bound_by bs c)) ≡ cond (t && bytes_eq b.name x) (Some b.symbol) (get bs c x)
-    by true u h = ap (λ o. cond (bytes_eq b.name x) (Some b.symbol) o) h
-    by false u h = h
-
-pub bound_seen : (n : ℕ) (w : Standing) (st : State) (c : ℕ) (x : Name) → Shows n w st → bound_in w.tables c x ≡ get st.bindings c x
-bound_seen n w st c x h = ap (bound_to x) (list_is w.tables.bindings c ∙ h.bindings c) ∙ bound_is st.bindings c x
-
 symbol_seen : (n : ℕ) (w : Standing) (st : State) (o : Option ℕ) → Shows n w st → option_map_or (λ y. Some (record { symbol = y; flags = symbol_flags w.tables y })) o None ≡ seen_as st o
 symbol_seen n w st None h = refl
-symbol_seen n w st (Some y) h = rw h.symbols refl
+symbol_seen n w st (Some y) h = rw (h.symbols, flags_at st.symbols y) refl
 
 pub answer_bound : (n : ℕ) (w : Standing) (st : State) (c : ℕ) (x : Name) → Shows n w st → (source_answer (source_of w.tables) x c).bound ≡ seen_as st (get st.bindings c x)
-answer_bound n w st c x h = ap (λ o. option_map_or (λ y. Some (record { symbol = y; flags = symbol_flags w.tables y })) o None) (bound_seen n w st c x h) ∙ symbol_seen n w st (get st.bindings c x) h
+answer_bound n w st c x h = ap (λ o. option_map_or (λ y. Some (record { symbol = y; flags = symbol_flags w.tables y })) o None) (bound_as n w st c x h) ∙ symbol_seen n w st (get st.bindings c x) h
 
 -- the flag of `eval` ends no lookup
 meets_flagged : (f : ℕ) (b : Bool) (m : ℕ) → bit_and scope.DirectEval.bits m ≡ 0 → meets (union f (flag_if b)) m ≡ meets f m
@@ -63,7 +49,7 @@ meets_flagged f false m e = ap (λ k. not (bit_and k m == 0)) (or_zero_r f)
 ends_flagged : (x : Name) (way f : ℕ) (b : Bool) → ends_after x way (union f (flag_if b)) ≡ ends_after x way f
 ends_flagged x way f b = λ i. is_arguments x way && meets_flagged f b scope.Function.bits refl i && not (meets_flagged f b scope.Arrow.bits refl i)
 
-flags_listed : (g : ℕ → Bool) (k : ℕ) (bare : List Scope) (i f : ℕ) → slice_get (map (λ e. e.flags.bits) bare) i ≡ Some f → slice_index_or (map (λ e. e.flags.bits) (flagged g k bare)) i 0 ≡ union f (flag_if (g (k + i)))
+flags_listed : (g : ℕ → Bool) (k : ℕ) (bare : List Scope) (i f : ℕ) → slice_get (map (λ e. e.flags.bits) bare) i ≡ Some f → (slice_index_or (flagged g k bare) i no_scope).flags.bits ≡ union f (flag_if (g (k + i)))
 flags_listed g k [] i f h = absurd cc
 flags_listed g k (e ∷ es) zero f h =
     let q : e.flags.bits ≡ f = cc in
@@ -75,20 +61,16 @@ pub ends_alike : (x : Name) (way : ℕ) (stack : List ℕ) (seen calls : List (L
     → ends_after x way (scope_flags w.tables s.number) ≡ ends_after x way s.flags
 ends_alike x way stack seen calls bare fs w s h e g =
     let listed : scope_flags w.tables s.number ≡ union s.flags (flag_if (reached stack calls (0 + s.number))) =
-    ap (λ es. slice_index_or (map (λ (f : Scope). f.flags.bits) es) s.number 0) h.scopes ∙ flags_listed (reached stack calls) 0 bare s.number s.flags (subst (λ l. slice_get l s.number ≡ Some s.flags) (sym e) g) in
+    ap (λ es. (slice_index_or es s.number no_scope).flags.bits) h.scopes ∙ flags_listed (reached stack calls) 0 bare s.number s.flags (subst (λ l. slice_get l s.number ≡ Some s.flags) (sym e) g) in
     ap (ends_after x way) listed ∙ ends_flagged x way s.flags (reached stack calls (0 + s.number))
 
 -- the chain by parents
-parent_list : (es : List Scope) (i : ℕ) → parent_at es i ≡ (slice_index_or es i no_scope).parent
-parent_list [] i = refl
-parent_list (e ∷ es) zero = refl
-parent_list (e ∷ es) (suc i) = parent_list es i
-
-pub parent_is : (stack : List ℕ) (seen calls : List (List ℕ)) (bare : List Scope) (w : Standing) (i : ℕ) (around : List ℕ) → ShowsScopes stack seen calls bare w → slice_get seen i ≡ Some around → parent_of w.tables i ≡ head_of around
+pub parent_is : (stack : List ℕ) (seen calls : List (List ℕ)) (bare : List Scope) (w : Standing) (i : ℕ) (around : List ℕ) → ShowsScopes stack seen calls bare w → slice_get seen i ≡ Some around → parent_of w.tables.scopes i ≡ head_of around
 parent_is stack seen calls bare w i around h e =
-    ap (λ es. parent_at es i) h.scopes ∙ parent_list (flagged (reached stack calls) 0 bare) i ∙ flagged_parent (reached stack calls) 0 bare i ∙ parent_seen bare seen i around h.parents e
+    ap (λ es. parent_of es i) h.scopes ∙ flagged_parent (reached stack calls) 0 bare i ∙ parent_seen bare seen i around h.parents e
 
 chain_along : (parent : ℕ → Option ℕ) (seen : List (List ℕ)) → ((i : ℕ) (around : List ℕ) → slice_get seen i ≡ Some around → parent i ≡ head_of around) → (rounds : ℕ) (s : OpenScope) (ss : List OpenScope) → AreLinked seen (s ∷ ss) → Descends rounds (s ∷ ss) → chain_within parent rounds s.number ≡ numbers (s ∷ ss)
+unfolding chain_within
 chain_along parent seen p zero s ss l d = absurd (omega (arith, d.0))
 chain_along parent seen p (suc rounds) s [] l d = ap (λ o. s.number ∷ option_map_or (chain_within parent rounds) o []) (p s.number [] l.0)
 chain_along parent seen p (suc rounds) s (t ∷ ts) l d =
@@ -103,8 +85,8 @@ pub chain_is : (stack : List ℕ) (seen calls : List (List ℕ)) (bare : List Sc
     → chain (source_of w.tables) s.number ≡ numbers (s ∷ ss)
 chain_is stack seen calls bare w s ss h l d =
     let count : length w.tables.scopes ≡ length seen = omega (arith, ap length h.scopes, flagged_count (reached stack calls) 0 bare, as_many bare seen h.parents) in
-    ap (λ n. chain_within (parent_of w.tables) n s.number) count
-    ∙ chain_along (parent_of w.tables) seen (λ i around e. parent_is stack seen calls bare w i around h e) (length seen) s ss l d
+    ap (λ n. chain_within (parent_of w.tables.scopes) n s.number) count
+    ∙ chain_along (parent_of w.tables.scopes) seen (λ i around e. parent_is stack seen calls bare w i around h e) (length seen) s ss l d
 
 -- the scopes up to one of them
 pub up_to_is : (c : ℕ) (seg : List OpenScope) (h : OpenScope) (tail : List OpenScope) → h.number ≡ c → contains (numbers seg) c ≡ false → up_to c (numbers (seg ++ h ∷ tail)) ≡ numbers (seg ++ h ∷ [])

@@ -10,16 +10,17 @@ use Rattle.semantic_kinds.specs.declared.kind.AstType.TheVariants as kind
 use Rattle.semantic_syntax.specs.declared.scope_flags.TheConstants.ScopeFlags as flag
 use Rattle.semantic_syntax.specs.Sets.{meets}
 use Rattle.semantic_syntax.specs.Tables.{Scope, Tables}
-use Rattle.scoping.specs.Reading.{scope_of, no_scope}
+use Rattle.semantic_syntax.specs.Source.{chain_within, chain}
+use Rattle.semantic_syntax.specs.Reading.{scope_of, no_scope, parent_of}
+use Rattle.semantic_syntax.specs.Told.{source_of}
 use Rattle.semantic_model.specs.Nodes.{is}
 use Rattle.semantic_model.specs.Place.{Place, OpenScope, at}
 use Rattle.semantic_model.specs.Declaration.{Declaration, contains}
 use Rattle.semantic_model.specs.Step.{Step, entering, opening, header_ending, closing, leaving}
 use Rattle.semantic_model.specs.Event.{events_of}
-use Rattle.semantic_model.specs.Lookup.{Lookup, tied, barred, unanswered}
+use Rattle.semantic_syntax.specs.Lookup.{Lookup, tied, barred, unanswered}
 use Rattle.semantic_model.specs.TablesOf.{is_direct_eval}
-use Rattle.semantic_model.specs.Outward as outward
-use Rattle.semantic_model.specs.Outcome.{Pending, Outcome, means, is_free, waits, outcome_or, waits_outside, is_below, lookup_along, up_to, chain, header_outcome, source_of}
+use Rattle.semantic_model.specs.Outcome.{Pending, Outcome, means, is_free, waits, outcome_or, waits_outside, is_below, lookup_along, up_to, header_outcome}
 use Rattle.walk_model.specs.Standing.{Standing}
 use Rattle.walk_model.specs.Settles.{settle, staying, waiting_on, end_header}
 use Rattle.walk_model.specs.Opens.{number_of, with_eval, add_eval, note_eval, refer, note_reference, open_scope}
@@ -27,7 +28,6 @@ use Rattle.walk_model.specs.Walks.{prepare, after, after_all}
 use Rattle.walk_model.proofs.Untouched.{Untouched, acts_untouched}
 use Rattle.walk_model.proofs.OpenedScopes.{entering_declares, opening_declares}
 use Rattle.walk_model.proofs.ChainRows.{settle_scopes, after_count}
-use Rattle.walk_model.proofs.ChainWays.{parent_as}
 pub use Rattle.walk_model.specs.Waits.{ParentsFall, WaitsBelow, IsSound, FirstBelow}
 
 -- the first so many references that wait stay as they are
@@ -36,14 +36,15 @@ pub record KeepsBefore (start : ℕ) (w v : Standing) : Type 0 where
   pub same : take start v.waiting ≡ take start w.waiting
 
 -- a scope before another doesn't lead outward to it
-chain_below : (t : Tables) (rounds s c : ℕ) → ParentsFall t.scopes → s < c → contains (outward.chain_within (outward.parent_of t) rounds s) c ≡ false
+chain_below : (t : Tables) (rounds s c : ℕ) → ParentsFall t.scopes → s < c → contains (chain_within (parent_of t.scopes) rounds s) c ≡ false
+unfolding chain_within
 chain_below t zero s c f l = refl
 chain_below t (suc rounds) s c f l =
     let other : (s == c) ≡ false = elim (eqb_tells s c) [ inl q ↦ absurd (omega (arith, q.1, l)) | inr q ↦ q.0 ] in
-    let parent : IfSome (outward.parent_of t s) (λ p. p < s) = subst (λ o. IfSome o (λ p. p < s)) (sym (parent_as t.scopes s)) (f s) in
-    ap (λ b. b || contains (option_map_or (outward.chain_within (outward.parent_of t) rounds) (outward.parent_of t s) []) c) other ∙ further (outward.parent_of t s) parent (λ p k. chain_below t rounds p c f k)
+    let parent : IfSome (parent_of t.scopes s) (λ p. p < s) = f s in
+    ap (λ b. b || contains (option_map_or (chain_within (parent_of t.scopes) rounds) (parent_of t.scopes s) []) c) other ∙ further (parent_of t.scopes s) parent (λ p k. chain_below t rounds p c f k)
   where
-    further : (o : Option ℕ) → IfSome o (λ p. p < s) → ((p : ℕ) → p < c → contains (outward.chain_within (outward.parent_of t) rounds p) c ≡ false) → contains (option_map_or (outward.chain_within (outward.parent_of t) rounds) o []) c ≡ false
+    further : (o : Option ℕ) → IfSome o (λ p. p < s) → ((p : ℕ) → p < c → contains (chain_within (parent_of t.scopes) rounds p) c ≡ false) → contains (option_map_or (chain_within (parent_of t.scopes) rounds) o []) c ≡ false
     further None h below = refl
     further (Some p) h below = below p (omega (arith, h, l))
 
@@ -183,7 +184,7 @@ header_within t n c e f l h = by (is_below (source_of t) c e) (lookup_along (sou
     by : (b : Bool) (o : Lookup) → IsWithin n (cond b (outcome_or (waits_outside (source_of t) c) o) (waits e.lookup_scope))
     by true (tied s y flags) = tt
     by true (barred s) = tt
-    by true unanswered = out (outward.parent_of t c) (subst (λ o. IfSome o (λ p. p < c)) (sym (parent_as t.scopes c)) (f c))
+    by true unanswered = out (parent_of t.scopes c) (f c)
     by false o = h
 
 staying_within : (n : ℕ) (outcome : Pending → Outcome) (es : List Pending) → ((e : Pending) → WaitsBelow n e → IsWithin n (outcome e)) → AllByRecursion (WaitsBelow n) es → AllByRecursion (WaitsBelow n) (staying es (map outcome es))

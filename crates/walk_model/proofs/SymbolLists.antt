@@ -3,10 +3,10 @@ use Rattle.std.proofs.Common.{◌≡◌, ℕ, zero, suc, List, [], ◌∷◌, re
 use Rattle.std.specs.Prelude.{slice_get, slice_set}
 use Rattle.std.specs.Map.{values_of}
 use Rattle.semantic_syntax.specs.Tables.{Symbol, Bindings}
-use Rattle.scoping.specs.Reading.{no_symbol}
+use Rattle.semantic_syntax.specs.Reading.{no_symbol}
 use Rattle.scoping.specs.Writing.{with_home}
 use Rattle.semantic_model.specs.Declaration.{Declaration}
-use Rattle.semantic_model.specs.Fold.{update, flags_or_none, conflict_with, redeclared, united, in_scope}
+use Rattle.semantic_model.specs.Fold.{update, conflict_with, redeclared, united, in_scope}
 use Rattle.semantic_model.specs.Hoist.{rescoped}
 use Rattle.walk_model.specs.Naming.{naming_of}
 use Rattle.walk_model.specs.Declares as writes
@@ -23,11 +23,6 @@ pub update_twice : (f g : Symbol → Symbol) (ys : List Symbol) (n : ℕ) → up
 update_twice f g [] n = refl
 update_twice f g (y ∷ ys) zero = refl
 update_twice f g (y ∷ ys) (suc n) = ap (λ zs. y ∷ zs) (update_twice f g ys n)
-
-pub flags_at : (ys : List Symbol) (n : ℕ) → (slice_index_or ys n no_symbol).flags.bits ≡ flags_or_none (slice_get ys n)
-flags_at [] n = refl
-flags_at (y ∷ ys) zero = refl
-flags_at (y ∷ ys) (suc n) = flags_at ys n
 
 pub conflict_at : (d : Declaration) (ys : List Symbol) (n : ℕ) → writes.conflict_of (naming_of d) (slice_index_or ys n no_symbol) ≡ conflict_with d (slice_get ys n)
 conflict_at d [] n = refl

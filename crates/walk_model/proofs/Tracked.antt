@@ -1,10 +1,11 @@
 -- What the walk tracks of references, from step to step.
-use Rattle.std.proofs.Common.{◌≡◌, ℕ, zero, suc, ◌+◌, ◌<◌, ◌≤◌, List, [], ◌∷◌, ◌++◌, Option, Some, None, Bool, true, false, cond, inl, inr, refl, sym, ap, subst, ◌∙◌, map, length, slice_index_or, arith}
+use Rattle.std.proofs.Common.{◌≡◌, ℕ, zero, suc, ◌+◌, ◌<◌, ◌≤◌, List, [], ◌∷◌, ◌++◌, Option, Some, None, Bool, true, false, cond, inl, inr, refl, sym, ap, subst, ◌∙◌, length, slice_index_or, arith}
 use Rattle.std.specs.Prelude.{filter}
 use Rattle.std.specs.List.{cons_option}
 use Rattle.std.proofs.lemmas.Bool.Decides.{eqb_tells}
 use Rattle.std.proofs.lemmas.List.{length-append, append_assoc}
 use Rattle.semantic_syntax.specs.declared.references.Reference.{Reference}
+use Rattle.semantic_syntax.specs.Reading.{no_reference}
 use Rattle.semantic_kinds.specs.declared.kind.AstType.TheVariants as kind
 use Rattle.semantic_model.specs.Nodes.{is}
 use Rattle.semantic_model.specs.Place.{Place, OpenScope}
@@ -14,7 +15,7 @@ use Rattle.semantic_model.specs.Step.{Step, entering, opening, header_ending, cl
 use Rattle.semantic_model.specs.Event.{Event, declares, takes_over, ends_header}
 use Rattle.semantic_model.specs.Fold.{State}
 use Rattle.semantic_model.specs.Tie.{Tie, ties, answers, until_end_of, moment, is_at}
-use Rattle.semantic_model.specs.Lookup as look
+use Rattle.semantic_syntax.specs.Lookup as look
 use Rattle.semantic_model.specs.Outcome.{Pending}
 use Rattle.semantic_model.specs.TablesOf.{entry_of}
 use Rattle.walk_model.specs.Walks.{numbers}
@@ -57,19 +58,19 @@ ties_length final es n [] = refl
 ties_length final es n (r ∷ rs) = omega (arith, ties_length final es (suc n) rs)
 
 -- a reference that waits still has its way
-way_middle : (xs : List Reference) (x : Reference) (ys : List Reference) (n : ℕ) → length xs ≡ n → slice_index_or (map (λ e. e.flags.bits) (xs ++ x ∷ ys)) n 0 ≡ x.flags.bits
+way_middle : (xs : List Reference) (x : Reference) (ys : List Reference) (n : ℕ) → length xs ≡ n → (slice_index_or (xs ++ x ∷ ys) n no_reference).flags.bits ≡ x.flags.bits
 way_middle [] x ys zero e = refl
 way_middle [] x ys (suc n) e = absurd (omega arith)
 way_middle (z ∷ xs) x ys zero e = absurd (omega arith)
 way_middle (z ∷ xs) x ys (suc n) e = way_middle xs x ys n (omega arith)
 
 pub with_ways : (D : Tie → Type 0) (W : Tie → Pending → Type 0) (all : List Reference) (ts : List Tie) (rs : List Reference) (es : List Pending) (n : ℕ) (before : List Reference) → Tracks D W ts rs es → AreNumbered n ts → length before ≡ n → all ≡ before ++ rs
-    → Tracks D (λ t e. W t e × (slice_index_or (map (λ r. r.flags.bits) all) t.number 0 ≡ t.reference.way)) ts rs es
+    → Tracks D (λ t e. W t e × ((slice_index_or all t.number no_reference).flags.bits ≡ t.reference.way)) ts rs es
 with_ways D W all ts rs es n before none k l e = none
 with_ways D W all ts rs es n before (is_done {t = u} {ts = ts2} {rs = rs2} {es = es2} d h) k l e =
     is_done d (with_ways D W all ts2 rs2 es2 (suc n) (before ++ entry_of u ∷ []) h k.1 (omega (arith, length-append before (entry_of u ∷ []), l)) (e ∙ sym (append_assoc before (entry_of u ∷ []) rs2)))
 with_ways D W all ts rs es n before (is_open {t = u} {e = x} {ts = ts2} {rs = rs2} {es = es2} v h) k l e =
-    is_open (v, ap (λ m. slice_index_or (map (λ (r : Reference). r.flags.bits) all) m 0) k.0 ∙ ap (λ xs. slice_index_or (map (λ (r : Reference). r.flags.bits) xs) n 0) e ∙ way_middle before (open_entry u) rs2 n l)
+    is_open (v, ap (λ m. (slice_index_or all m no_reference).flags.bits) k.0 ∙ ap (λ (xs : List Reference). (slice_index_or xs n no_reference).flags.bits) e ∙ way_middle before (open_entry u) rs2 n l)
     (with_ways D W all ts2 rs2 es2 (suc n) (before ++ open_entry u ∷ []) h k.1 (omega (arith, length-append before (open_entry u ∷ []), l)) (e ∙ sym (append_assoc before (open_entry u ∷ []) rs2)))
 
 -- settled at a header that has ended

@@ -9,13 +9,14 @@ use Rattle.semantic_kinds.specs.declared.role.Role.{Role}
 use Rattle.semantic_syntax.specs.declared.scope_flags.TheConstants.ScopeFlags as flag
 use Rattle.semantic_syntax.specs.Sets.{meets, union}
 use Rattle.semantic_syntax.specs.Tables.{Tables}
-use Rattle.scoping.specs.Reading.{scope_of}
+use Rattle.semantic_syntax.specs.Reading.{scope_of}
+use Rattle.semantic_syntax.specs.Told.{source_of}
 use Rattle.semantic_model.specs.Nodes.{has_role}
 use Rattle.semantic_model.specs.Place.{Place, OpenScope, at, innermost, outside}
 use Rattle.semantic_model.specs.Inside.{opens, is_inside, any_inside, header_roles, is_in_header, is_parameter_decorator}
 use Rattle.semantic_model.specs.ScopeKind.{opened_scope, flags_of_kind, strict_if}
 use Rattle.semantic_model.specs.Declaration.{Declaration}
-use Rattle.semantic_model.specs.Outcome.{Outcome, header_outcome, source_of}
+use Rattle.semantic_model.specs.Outcome.{Outcome, header_outcome}
 use Rattle.semantic_model.specs.Step.{opening, header_ending, closing, opening_at, ending_after, opening_last, child_place, chain_within}
 use Rattle.walk_model.specs.Standing.{Standing}
 use Rattle.walk_model.specs.Settles.{settle, staying, end_header}

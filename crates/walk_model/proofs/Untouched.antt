@@ -2,6 +2,7 @@
 use Rattle.std.proofs.Common.{◌≡◌, ℕ, List, [], ◌∷◌, ◌++◌, Option, Some, None, Bool, true, false, cond, refl, sym, ap, ◌∙◌, map}
 use Rattle.std.proofs.lemmas.List.{append_assoc, append-nil}
 use Rattle.semantic_syntax.specs.Tables.{Name}
+use Rattle.semantic_syntax.specs.Reading.{bound_in}
 use Rattle.semantic_model.specs.Declaration.{How, plain, hoisted, moved, caught, Declaration, stands_in}
 use Rattle.semantic_model.specs.Event.{Event, declares, takes_over, ends_header}
 use Rattle.semantic_model.specs.Hoist.{Hit}
@@ -87,7 +88,7 @@ remember_untouched w (s ∷ ss) x y =
     (remember_untouched (reaches.remember w s x y) ss x y)
 
 move_untouched : (w : Standing) (from to y : ℕ) (x : Name) → Untouched w (reaches.move_symbol w from to y x)
-move_untouched w from to y x = by (writes.bound_to w.tables to x)
+move_untouched w from to y x = by (bound_in w.tables to x)
   where
     by : (o : Option ℕ) → Untouched w (reaches.unless_bound o w (reaches.rebind w x y from to))
     by None = same_uses w (reaches.rebind w x y from to) refl refl refl refl refl refl refl
@@ -110,7 +111,7 @@ hoist_untouched w passed target d =
     (remember_untouched (writes.gets there y d) passed d.name y)
 
 out_untouched : (w : Standing) (block target y : ℕ) (x : Name) → Untouched w (reaches.move_out w block target y x)
-out_untouched w block target y x = by (writes.bound_to w.tables target x) (writes.bound_to w.tables block x)
+out_untouched w block target y x = by (bound_in w.tables target x) (bound_in w.tables block x)
   where
     by : (o q : Option ℕ) → Untouched w (reaches.unless_bound o w (reaches.remember (reaches.give (reaches.rebind_bound w x q block target) y target) block x y))
     by None None = same_uses w _ refl refl refl refl refl refl refl

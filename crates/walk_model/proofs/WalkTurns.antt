@@ -2,7 +2,7 @@
 use Rattle.std.proofs.Common.{◌≡◌, ℕ, suc, ◌+◌, ◌<◌, ◌≤◌, List, ◌∷◌, Option, Some, None, Bool, true, false, cond, length, arith, refl, sym, ◌∙◌}
 use Rattle.std.specs.Option.{unwrap_or}
 use Rattle.semantic_kinds.specs.declared.role.Role.{Role}
-use Rattle.scoping.specs.Reading.{scope_of}
+use Rattle.semantic_syntax.specs.Reading.{scope_of}
 use Rattle.semantic_tree.specs.Children.{forest_of}
 use Rattle.semantic_tree.specs.Tree.{Tree}
 use Rattle.semantic_tree.specs.Faults.{first_fault}

@@ -3,24 +3,18 @@ use Rattle.std.specs.Prelude.{ℕ, List, [], ◌∷◌, ◌++◌, Option, Some, 
 use Rattle.std.specs.Ordering.{nat_cmp}
 use Rattle.std.specs.Int.RustNames.{bit_or}
 use Rattle.std.specs.Option.{unwrap_or}
-use Rattle.std.specs.Map.{lookup}
-use Rattle.std.specs.Str.{bytes_eq}
 use Rattle.std.specs.BTreeSet.{insert_key}
 use Rattle.indexmap.specs.IndexMap.{insert_entry}
 use Rattle.semantic_syntax.specs.declared.symbol_flags.TheConstants.SymbolFlags as symbol
 use Rattle.semantic_syntax.specs.declared.references.Redeclaration.{Redeclaration}
 use Rattle.semantic_syntax.specs.Sets.{meets}
 use Rattle.semantic_syntax.specs.Tables.{Name, Symbol, Tables}
-use Rattle.scoping.specs.Reading.{bindings_of, symbol_of, own_entry}
+use Rattle.semantic_syntax.specs.Reading.{bound_in, symbol_of, own_entry}
 use Rattle.scoping.specs.Writing.{bound, with_symbol}
 use Rattle.semantic_model.specs.Binding.{get}
 use Rattle.semantic_model.specs.Fold.{Conflict, or_else}
 use Rattle.walk_model.specs.Standing.{Standing}
 use Rattle.walk_model.specs.Naming.{Naming}
-
--- the symbol to which the scope binds the name
-abbrev pub bound_to : Tables → ℕ → Name → Option ℕ
-bound_to t s x = lookup (bytes_eq x) (bindings_of t s)
 
 abbrev pub unless_expression : Tables → Option ℕ → Option ℕ
 unless_expression t None = None
@@ -28,7 +22,7 @@ unless_expression t (Some y) = cond (meets (symbol_of t y).flags.bits symbol.Fun
 
 -- the symbol that the scope binds to the name, else the one that it remembers; the name of a function expression counts as none
 abbrev pub found : Standing → ℕ → Name → Option ℕ
-found w s x = unless_expression w.tables (or_else (bound_to w.tables s x) (get w.remembered s x))
+found w s x = unless_expression w.tables (or_else (bound_in w.tables s x) (get w.remembered s x))
 
 abbrev pub conflict_of : Naming → Symbol → List Conflict
 conflict_of d y = cond (meets y.flags.bits d.excluded) (record { name = d.name; earlier = y.span; later = d.span } ∷ []) []

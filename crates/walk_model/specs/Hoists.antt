@@ -3,13 +3,13 @@ use Rattle.std.specs.Prelude.{ℕ, List, [], ◌∷◌, Option, Some, None, cond
 use Rattle.semantic_syntax.specs.declared.symbol_flags.TheConstants.SymbolFlags as symbol
 use Rattle.semantic_syntax.specs.Sets.{meets}
 use Rattle.semantic_syntax.specs.Tables.{Name, Tables}
-use Rattle.scoping.specs.Reading.{symbol_of}
+use Rattle.semantic_syntax.specs.Reading.{bound_in, symbol_of}
 use Rattle.scoping.specs.Writing.{bound, unbound, with_symbol}
 use Rattle.semantic_model.specs.Binding.{put}
 use Rattle.semantic_model.specs.Hoist.{Hit}
 use Rattle.walk_model.specs.Standing.{Standing}
 use Rattle.walk_model.specs.Naming.{Naming}
-use Rattle.walk_model.specs.Declares.{found, bound_to, against, redeclare, with_symbol_in, symbol_in, gets}
+use Rattle.walk_model.specs.Declares.{found, against, redeclare, with_symbol_in, symbol_in, gets}
 
 -- the symbol that is found, if it counts as the variable: if it is a value or an import
 abbrev pub counting : Tables → Option ℕ → Option ℕ
@@ -58,7 +58,7 @@ unless_bound (Some y) w moved = w
 
 -- the symbol moves from a passed scope to the target, unless the target binds the name
 abbrev pub move_symbol : Standing → (from target y : ℕ) → Name → Standing
-move_symbol w from target y x = unless_bound (bound_to w.tables target x) w (rebind w x y from target)
+move_symbol w from target y x = unless_bound (bound_in w.tables target x) w (rebind w x y from target)
 
 -- the scope remembers the name with the symbol
 abbrev pub remember : Standing → ℕ → Name → ℕ → Standing
@@ -93,12 +93,12 @@ rebind_bound w x (Some y) from to = rebind w x y from to
 
 -- the name moves from one scope to another, where it is bound, and its symbol too
 abbrev pub move_name : Standing → Name → (from to : ℕ) → Standing
-move_name w x from to = rebind_bound w x (bound_to w.tables from x) from to
+move_name w x from to = rebind_bound w x (bound_in w.tables from x) from to
 
 -- a block's binding of the name moves to the target, if that lacks the name, and the block remembers it
 abbrev pub move_out : Standing → (block target y : ℕ) → Name → Standing
 move_out w block target y x =
-    unless_bound (bound_to w.tables target x) w (remember (give (move_name w x block target) y target) block x y)
+    unless_bound (bound_in w.tables target x) w (remember (give (move_name w x block target) y target) block x y)
 
 -- a block function is declared in its block, and moves then
 abbrev pub declare_and_move : Standing → (block target : ℕ) → Naming → Standing

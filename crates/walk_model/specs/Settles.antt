@@ -5,9 +5,10 @@ use Rattle.indexmap.specs.IndexMap.{insert_entry}
 use Rattle.semantic_syntax.specs.Usable.{settled}
 use Rattle.semantic_syntax.specs.declared.references.Reference.{Reference}
 use Rattle.semantic_syntax.specs.Tables.{Tables, Symbol}
-use Rattle.scoping.specs.Reading.{symbol_of, reference_of, uses_of, free_of}
+use Rattle.semantic_syntax.specs.Reading.{symbol_of, reference_of, uses_of, free_of}
+use Rattle.semantic_syntax.specs.Told.{source_of}
 use Rattle.scoping.specs.Writing.{with_uses, with_reference}
-use Rattle.semantic_model.specs.Outcome.{Pending, Outcome, means, is_free, waits, source_of, header_outcome, last_outcome}
+use Rattle.semantic_model.specs.Outcome.{Pending, Outcome, means, is_free, waits, header_outcome, last_outcome}
 use Rattle.walk_model.specs.Standing.{Standing}
 
 abbrev pub tied_to : ℕ → Symbol → Reference → Reference

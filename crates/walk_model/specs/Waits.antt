@@ -3,7 +3,7 @@ use Rattle.std.specs.Prelude.{ℕ, ◌<◌, ◌≤◌, List, Option, Some, None,
 use Rattle.std.specs.List.{AllByRecursion}
 use Rattle.semantic_kinds.specs.declared.role.Role.{Role}
 use Rattle.semantic_syntax.specs.Tables.{Scope}
-use Rattle.scoping.specs.Reading.{no_scope}
+use Rattle.semantic_syntax.specs.Reading.{no_scope}
 use Rattle.semantic_model.specs.Place.{Place, OpenScope}
 use Rattle.semantic_model.specs.Inside.{is_inside}
 use Rattle.semantic_model.specs.Outcome.{Pending}

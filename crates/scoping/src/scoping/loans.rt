@@ -1,7 +1,7 @@
 //! Parts that are lent to be changed.
 ghost use Rattle.std.specs.Prelude.{◌≡◌, ◌<◌, length};
 ghost use Rattle.std.specs.Borrow.{sem};
-ghost use Rattle.scoping.specs.Reading.{scope_of, symbol_of, reference_of};
+ghost use Rattle.semantic_syntax.specs.Reading.{scope_of, symbol_of, reference_of};
 ghost use Rattle.scoping.specs.Lending.{LendsReference, LendsScopeFlags, LendsSymbolFlags};
 
 use super::Scoping;

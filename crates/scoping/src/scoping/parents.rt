@@ -1,7 +1,7 @@
 //! Scopes that get another parent.
 ghost use Rattle.std.specs.Prelude.{◌≡◌, ◌<◌, length, nat_eq, false, IfSome};
 ghost use Rattle.std.specs.List.{list_any};
-ghost use Rattle.scoping.specs.Reading.{scope_of, chain};
+ghost use Rattle.semantic_syntax.specs.Reading.{scope_of, chain};
 ghost use Rattle.scoping.specs.Writing.{with_scope};
 
 use super::Scoping;

@@ -1,7 +1,7 @@
 //! References.
 ghost use Rattle.std.specs.Prelude.{◌≡◌, ◌<◌, ◌++◌, [], ◌∷◌, length, map, option_map, is_some, ◌==◌, IfOk, OnOk, OnErr, IfSome};
 ghost use Rattle.std.specs.Str.{chars};
-ghost use Rattle.scoping.specs.Reading.{symbol_of, reference_of, uses_of};
+ghost use Rattle.semantic_syntax.specs.Reading.{symbol_of, reference_of, uses_of};
 ghost use Rattle.scoping.specs.Kept.{is_mutated};
 ghost use Rattle.scoping.specs.Writing.{with_uses};
 

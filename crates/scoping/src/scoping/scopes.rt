@@ -3,7 +3,7 @@ ghost use Rattle.std.specs.Prelude.{◌≡◌, ◌==◌, ◌<◌, ◌++◌, [], 
 ghost use Rattle.std.specs.List.{range_with_len, list_any};
 ghost use Rattle.std.specs.Int.RustNames.{bit_and, bit_or};
 ghost use Rattle.scoping.specs.Ancestry.{RunsOutward};
-ghost use Rattle.scoping.specs.Reading.{scope_of, chain};
+ghost use Rattle.semantic_syntax.specs.Reading.{scope_of, chain};
 
 use super::{ScopeRow, Scoping};
 use crate::scope_iterators::{ScopeAncestors, ScopeIds};

@@ -3,7 +3,7 @@ ghost use Rattle.std.specs.Prelude.{◌≡◌, ◌==◌, ◌<◌, ◌++◌, [], 
 ghost use Rattle.std.specs.Str.{chars, encode_utf8_all};
 ghost use Rattle.std.specs.Int.RustNames.{bit_or};
 ghost use Rattle.scoping.specs.Names.{name_of};
-ghost use Rattle.scoping.specs.Reading.{symbol_of, own_entry, redeclarations_of, declarations_of};
+ghost use Rattle.semantic_syntax.specs.Reading.{symbol_of, own_entry, redeclarations_of, declarations_of};
 ghost use Rattle.std.specs.List.{range_with_len};
 ghost use Rattle.semantic_syntax.specs.Tables.{Symbol};
 ghost use Rattle.scoping.specs.Writing.{with_symbol, bound};

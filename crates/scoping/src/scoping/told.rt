@@ -1,7 +1,7 @@
 //! What a look-up asks.
 ghost use Rattle.std.specs.Prelude.{◌≡◌, length};
-ghost use Rattle.scoping.specs.Source.{IsSource};
-ghost use Rattle.scoping.specs.Told.{source_of};
+ghost use Rattle.semantic_syntax.specs.Source.{IsSource};
+ghost use Rattle.semantic_syntax.specs.Told.{source_of};
 
 use super::Scoping;
 use crate::bound_name::BoundName;

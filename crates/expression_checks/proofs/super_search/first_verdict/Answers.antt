@@ -1,6 +1,6 @@
 use Rattle.std.proofs.Common.{◌≡◌, ℕ, ◌<◌, List, ◌∷◌, Option, IfSome, length, refl, sym, ap, subst, ◌∙◌, arith}
 use Rattle.semantic_syntax.specs.Tables.{Tables}
-use Rattle.scoping.specs.Reading.{parent_of}
+use Rattle.semantic_syntax.specs.Reading.{parent_of}
 use Rattle.check_model.specs.Context.{seen_row}
 use Rattle.check_model.specs.Sight.{Sight, SeenScope, SeenClass}
 use Rattle.check_model.specs.Super.{kept_after, search_from}

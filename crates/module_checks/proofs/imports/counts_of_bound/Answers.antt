@@ -2,7 +2,7 @@ use Rattle.std.proofs.Common.{◌≡◌, ℕ, ◌+◌, ◌<◌, ◌≤◌, List,
 use Rattle.std.proofs.lemmas.List.{get_or_default}
 use Rattle.std.proofs.lemmas.Map.Iter.{rest_more}
 use Rattle.std.specs.Map.{values_of}
-use Rattle.scoping.specs.Reading.{bindings_of}
+use Rattle.semantic_syntax.specs.Reading.{bindings_of}
 use Rattle.module_checks.specs.Bound.{bound_in, AreCounting}
 use Rattle.module_checks.proofs.Counts.{count_fits}
 use Rattle.module_checks.proofs.imports.counts_of_bound.Goals as goal

@@ -1,6 +1,6 @@
 use Rattle.std.proofs.Common.{ℕ, ◌+◌, ◌<◌, List, ◌++◌, get_or, drop, length, subst, ap, ◌∙◌, arith}
 use Rattle.semantic_diagnostics.specs.declared.diagnostic.Diagnostic.{Diagnostic}
-use Rattle.scoping.specs.Reading.{symbol_of}
+use Rattle.semantic_syntax.specs.Reading.{symbol_of}
 use Rattle.check_model.specs.Exports.{bound_rows, import_rows}
 use Rattle.check_context.specs.Tells.{IsBegun, IsTelling}
 use Rattle.check_context.proofs.Telling.{goes_on, stops}

@@ -1,6 +1,6 @@
 use Rattle.std.proofs.Common.{List, ◌-◌, ◌+◌, subst}
 use Rattle.semantic_diagnostics.specs.declared.diagnostic.Diagnostic.{Diagnostic}
-use Rattle.scoping.specs.Reading.{symbol_of}
+use Rattle.semantic_syntax.specs.Reading.{symbol_of}
 use Rattle.check_model.specs.Exports.{import_rows}
 use Rattle.check_context.specs.Tells.{IsTelling}
 use Rattle.check_context.proofs.Telling.{stops}

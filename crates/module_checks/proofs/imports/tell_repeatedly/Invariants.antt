@@ -1,6 +1,6 @@
 use Rattle.std.proofs.Common.{◌-◌}
 use Rattle.check_model.specs.Exports.{import_rows}
-use Rattle.scoping.specs.Reading.{symbol_of}
+use Rattle.semantic_syntax.specs.Reading.{symbol_of}
 use Rattle.check_context.specs.Tells.{IsTelling}
 use Rattle.module_checks.specs.Bound.{repeated}
 use Rattle.module_checks.proofs.imports.tell_repeatedly.Given as goal

@@ -1,11 +1,10 @@
-use Rattle.std.proofs.Common.{◌≡◌, ap, ◌∙◌}
+use Rattle.std.proofs.Common.{◌≡◌, ap}
 use Rattle.std.specs.List.{list_any}
-use Rattle.scoping.specs.Reading.{chain}
+use Rattle.semantic_syntax.specs.Reading.{chain}
 use Rattle.name_uses.specs.Undeclared.{has_arguments}
-use Rattle.name_uses.proofs.ScopesTold.{function_told}
 use Rattle.name_uses.proofs.scope_questions.is_within_function.Goals as goal
 
 pub loop-around-init : goal.loop-around-init
 loop-around-init c =
     let same : chain c.args.scoping.now.scopes c.args.scope ≡ c.into_iter-around-iterator.result = cc in
-    function_told c.args.scoping.now c.args.scope ∙ ap (list_any (has_arguments c.args.scoping.now)) same
+    ap (list_any (has_arguments c.args.scoping.now)) same

@@ -1,6 +1,6 @@
 use Rattle.std.proofs.Common.{◌≡◌, ◌<◌, [], ◌∷◌, ◌++◌, length, sym, ap, ◌∙◌, arith}
 use Rattle.semantic_syntax.specs.Tables.{Tables}
-use Rattle.scoping.specs.Reading.{reference_of}
+use Rattle.semantic_syntax.specs.Reading.{reference_of}
 use Rattle.name_uses.specs.Gathered.{text_of}
 use Rattle.name_uses.specs.Undeclared.{is_undeclared}
 use Rattle.name_uses.proofs.Turns.{added, passed_over, undeclared_turn}

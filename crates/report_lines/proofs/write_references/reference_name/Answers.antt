@@ -1,6 +1,6 @@
 use Rattle.std.proofs.Common.{◌≡◌, get_or, ap, sym, ◌∙◌, None, [], unwrap_or}
 use Rattle.std.specs.Str.{encode_utf8_all}
-use Rattle.scoping.specs.Reading.{reference_of}
+use Rattle.semantic_syntax.specs.Reading.{reference_of}
 use Rattle.report_lines.specs.TableLines.{name_by}
 use Rattle.report_lines.specs.FreeNames.{name_shown}
 use Rattle.report_lines.proofs.NamesFound.{names_length, name_there}

@@ -1,4 +1,4 @@
-use Rattle.scoping.specs.Reading.{no_reference}
+use Rattle.semantic_syntax.specs.Reading.{no_reference}
 use Rattle.report_lines.specs.TableLines.{reference_line}
 use Rattle.report_lines.proofs.Items.{places_go_on, places_fail}
 use Rattle.report_lines.proofs.write_references.write_named.Goals as goal

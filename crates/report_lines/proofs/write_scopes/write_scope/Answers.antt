@@ -1,5 +1,5 @@
 use Rattle.std.proofs.Common.{refl, flat_map}
-use Rattle.scoping.specs.Reading.{bindings_of}
+use Rattle.semantic_syntax.specs.Reading.{bindings_of}
 use Rattle.report_ends.proofs.Stages.{writes_not_then, writes_then}
 use Rattle.report_lines.specs.TableLines.{bind_line}
 use Rattle.report_lines.proofs.write_scopes.write_scope.Goals as goal

@@ -1,4 +1,4 @@
-use Rattle.scoping.specs.Reading.{no_scope}
+use Rattle.semantic_syntax.specs.Reading.{no_scope}
 use Rattle.report_lines.specs.TableLines.{scope_lines}
 use Rattle.report_lines.proofs.Items.{places_go_on, places_fail}
 use Rattle.report_lines.proofs.write_scopes.write_scopes.Goals as goal

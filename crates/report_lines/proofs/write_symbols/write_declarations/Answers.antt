@@ -1,5 +1,5 @@
 use Rattle.std.proofs.Common.{refl, flat_map}
-use Rattle.scoping.specs.Reading.{redeclarations_of}
+use Rattle.semantic_syntax.specs.Reading.{redeclarations_of}
 use Rattle.report_ends.proofs.Stages.{writes_not_then, writes_then}
 use Rattle.report_lines.specs.TableLines.{redeclaration_line}
 use Rattle.report_lines.proofs.write_symbols.write_declarations.Goals as goal

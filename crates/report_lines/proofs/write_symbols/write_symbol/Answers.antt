@@ -1,5 +1,5 @@
 use Rattle.std.proofs.Common.{refl}
-use Rattle.scoping.specs.Reading.{uses_of}
+use Rattle.semantic_syntax.specs.Reading.{uses_of}
 use Rattle.report_ends.proofs.Stages.{writes_not_then, writes_then}
 use Rattle.report_lines.specs.TableLines.{uses_line}
 use Rattle.report_lines.proofs.write_symbols.write_symbol.Goals as goal

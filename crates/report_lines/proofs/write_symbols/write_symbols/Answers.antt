@@ -1,4 +1,4 @@
-use Rattle.scoping.specs.Reading.{no_symbol}
+use Rattle.semantic_syntax.specs.Reading.{no_symbol}
 use Rattle.report_lines.specs.TableLines.{symbol_lines}
 use Rattle.report_lines.proofs.Items.{places_go_on, places_fail}
 use Rattle.report_lines.proofs.write_symbols.write_symbols.Goals as goal

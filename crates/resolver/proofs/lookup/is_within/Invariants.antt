@@ -1,5 +1,5 @@
 use Rattle.std.proofs.Common.{length}
-use Rattle.scoping.specs.Source.{chain}
+use Rattle.semantic_syntax.specs.Source.{chain}
 use Rattle.resolver.proofs.Chain.{HasComeOut}
 use Rattle.resolver.proofs.lookup.is_within.Given as goal
 

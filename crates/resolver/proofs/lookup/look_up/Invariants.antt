@@ -1,6 +1,6 @@
 use Rattle.std.proofs.Common.{length}
 use Rattle.std.specs.Str.{chars}
-use Rattle.scoping.specs.Source.{chain}
+use Rattle.semantic_syntax.specs.Source.{chain}
 use Rattle.resolver.proofs.Asking.{HasCome}
 use Rattle.resolver.proofs.lookup.look_up.Given as goal
 

@@ -1,6 +1,6 @@
 use Rattle.std.proofs.Common.{◌≡◌, ◌<◌, length}
 use Rattle.std.specs.Prelude.{find, map}
-use Rattle.scoping.specs.Reading.{chain}
+use Rattle.semantic_syntax.specs.Reading.{chain}
 use Rattle.check_model.specs.Context.{seen_row}
 use Rattle.check_context.specs.Handed.{is_block_or_function}
 use Rattle.check_context.proofs.context.CheckContext.is_in_static_block.Given as goal

@@ -1,7 +1,7 @@
 use Rattle.std.proofs.Common.{◌<◌, sym, ap, ◌∙◌, length, map, arith, []}
 use Rattle.std.specs.Option.{option_map_or}
 use Rattle.std.proofs.lemmas.List.{length-map}
-use Rattle.scoping.specs.Reading.{chain}
+use Rattle.semantic_syntax.specs.Reading.{chain}
 use Rattle.scoping.specs.View.{scope_of_row}
 use Rattle.scoping.proofs.Parents.{chain-next, parent_of-read}
 use Rattle.scoping.proofs.scope_iterators.ScopeAncestorsIterator.next.Goals as goal

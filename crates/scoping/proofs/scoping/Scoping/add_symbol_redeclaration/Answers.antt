@@ -1,5 +1,5 @@
 use Rattle.std.proofs.Common.{refl, ap, ◌++◌, ◌∷◌, [], Some, unwrap_or}
-use Rattle.scoping.specs.Reading.{own_entry}
+use Rattle.semantic_syntax.specs.Reading.{own_entry}
 use Rattle.scoping.specs.Row.{symbol_of_row}
 use Rattle.scoping.proofs.Shown.{tables_eq, symbol_changed, symbol_within}
 use Rattle.scoping.proofs.scoping.Scoping.add_symbol_redeclaration.Goals as goal

@@ -1,6 +1,6 @@
 use Rattle.std.proofs.Common.{◌≡◌, ◌<◌, length}
 use Rattle.scoping.specs.Names.{name_of}
-use Rattle.scoping.specs.Reading.{first_bound, chain}
+use Rattle.semantic_syntax.specs.Reading.{first_bound, chain}
 use Rattle.scoping.proofs.scoping.Scoping.find_binding.Given as goal
 
 abbrev pub invariant-loop-symbol : goal.invariant-loop-symbol

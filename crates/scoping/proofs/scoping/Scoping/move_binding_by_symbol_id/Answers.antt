@@ -1,7 +1,7 @@
 use Rattle.std.proofs.Common.{refl, ap, ◌∙◌, subst}
 use Rattle.std.proofs.lemmas.List.{length-set}
 use Rattle.scoping.specs.Names.{name_at, IsNumberOf}
-use Rattle.scoping.specs.Reading.{symbol_of}
+use Rattle.semantic_syntax.specs.Reading.{symbol_of}
 use Rattle.scoping.specs.Row.{symbol_of_row}
 use Rattle.scoping.specs.View.{tables}
 use Rattle.scoping.specs.Writing.{with_symbol}

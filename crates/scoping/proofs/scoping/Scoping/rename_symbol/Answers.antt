@@ -4,7 +4,7 @@ use Rattle.std.proofs.lemmas.Bool.{eq-eqb, false_from_ne_true, eqb-true}
 use Rattle.std.proofs.Math.ListN.{set}
 use Rattle.semantic_syntax.specs.Tables.{Tables}
 use Rattle.scoping.specs.Names.{name_of, name_at, IsNumberOf}
-use Rattle.scoping.specs.Reading.{symbol_of, no_symbol}
+use Rattle.semantic_syntax.specs.Reading.{symbol_of, no_symbol}
 use Rattle.scoping.specs.Row.{symbol_of_row}
 use Rattle.scoping.specs.View.{tables}
 use Rattle.scoping.specs.Writing.{with_symbol, renamed}

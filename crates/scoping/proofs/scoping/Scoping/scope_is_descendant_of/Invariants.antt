@@ -1,6 +1,6 @@
 use Rattle.std.proofs.Common.{◌≡◌, nat_eq, drop}
 use Rattle.std.specs.List.{list_any}
-use Rattle.scoping.specs.Reading.{chain}
+use Rattle.semantic_syntax.specs.Reading.{chain}
 use Rattle.scoping.proofs.scoping.Scoping.scope_is_descendant_of.Given as goal
 
 abbrev pub invariant-loop-around : goal.invariant-loop-around

@@ -3,7 +3,7 @@ use Rattle.std.specs.List.{list_any}
 use Rattle.semantic_syntax.specs.declared.references.Reference.{Reference}
 use Rattle.semantic_syntax.specs.declared.reference_flags.TheConstants.ReferenceFlags as way
 use Rattle.semantic_syntax.specs.Sets.{meets}
-use Rattle.scoping.specs.Reading.{reference_of, uses_of}
+use Rattle.semantic_syntax.specs.Reading.{reference_of, uses_of}
 use Rattle.scoping.proofs.scoping.Scoping.symbol_is_mutated.Given as goal
 
 abbrev pub invariant-loop-reference : goal.invariant-loop-reference

@@ -7,13 +7,13 @@ use Rattle.semantic_model.specs.Outcome as model
 use Rattle.table_building.proofs.Asking.{headers-asked}
 use Rattle.table_building.proofs.declared.Declared.header_outcomes.Given as given
 use Rattle.std.proofs.lemmas.List.Elements.{All-drop}
-use Rattle.scoping.specs.Told.{source_of as told_of}
+use Rattle.semantic_syntax.specs.Told.{source_of}
 use Rattle.resolver.specs.declared.outcomes.Outcome.{Outcome}
 use Rattle.resolver.specs.declared.pending.UnresolvedReference.{UnresolvedReference}
-use Rattle.semantic_model.specs.Outcome.{source_of, header_outcome}
+use Rattle.semantic_model.specs.Outcome.{header_outcome}
 use Rattle.table_building.specs.Made.{pending_of}
 use Rattle.table_building.specs.Settled.{IsOutcomeWithin, outcome_of}
-use Rattle.table_building.proofs.Bridging.{headers-same, tell_same}
+use Rattle.table_building.proofs.Bridging.{headers-same}
 use Rattle.table_building.proofs.Waiting.{scopes_exist, references_exist, drop_same, header-within, if_ok_is}
 use Rattle.table_building.proofs.declared.Declared.header_outcomes.Goals as goal
 
@@ -33,22 +33,22 @@ returns-clause-outcomes g c =
     let us = c.self.inside.pending in
     rw (← c.self.view_is)
     (if_ok_is c.resolve_header.result (λ (o : List Outcome). map outcome_of o ≡ map (header_outcome (source_of t) c.args.scope) (drop c.args.start (map pending_of us))) _ c.resolve_header.ensures.outcomes
-    (headers-same _ _ (tell_same t) c.args.scope (drop c.args.start us) ∙ ap (map (header_outcome (source_of t) c.args.scope)) (drop_same c.args.start us)))
+    (headers-same (source_of t) c.args.scope (drop c.args.start us) ∙ ap (map (header_outcome (source_of t) c.args.scope)) (drop_same c.args.start us)))
 
 pub returns-clause-within : goal.returns-clause-within
 returns-clause-within g c =
     let t = c.self.inside.scoping in
     rw (← c.self.view_is)
     (if_ok_is c.resolve_header.result (All (IsOutcomeWithin (length t.symbols) (length t.scopes))) _ c.resolve_header.ensures.outcomes
-    (header-within (told_of t) c.attest.ensures.source c.args.scope (drop c.args.start c.self.inside.pending) (rw (← c.self.view_is) at c.requires.scope)
+    (header-within (source_of t) c.attest.ensures.source c.args.scope (drop c.args.start c.self.inside.pending) (rw (← c.self.view_is) at c.requires.scope)
     (All-drop (λ (u : UnresolvedReference). u.lookup_scope_id < length t.scopes) c.args.start c.self.inside.pending
     (scopes_exist t c.self.inside.pending c.self.invariant.waiting))))
 
 module _ (g : given.Over) (c : goal.After-resolve_header g) where
   -- what the look-ups ask, in the words of the definitions
-  asks : sum_by (header_asks (told_of c.self.inside.scoping) c.args.scope) (drop c.args.start c.self.inside.pending)
+  asks : sum_by (header_asks (source_of c.self.inside.scoping) c.args.scope) (drop c.args.start c.self.inside.pending)
       ≡ sum_by (model.header_asks (source_of c.self.inside.scoping) c.args.scope) (drop c.args.start (map pending_of c.self.inside.pending))
-  asks = headers-asked _ _ (tell_same c.self.inside.scoping) c.args.scope (drop c.args.start c.self.inside.pending)
+  asks = headers-asked (source_of c.self.inside.scoping) c.args.scope (drop c.args.start c.self.inside.pending)
       ∙ ap (sum_by (model.header_asks (source_of c.self.inside.scoping) c.args.scope)) (drop_same c.args.start c.self.inside.pending)
 
 pub returns-clause-cost : goal.returns-clause-cost

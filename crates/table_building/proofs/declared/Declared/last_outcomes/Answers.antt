@@ -6,12 +6,12 @@ use Rattle.resolver.specs.Settling.{last_asks}
 use Rattle.semantic_model.specs.Outcome as model
 use Rattle.table_building.proofs.Asking.{lasts-asked}
 use Rattle.table_building.proofs.declared.Declared.last_outcomes.Given as given
-use Rattle.scoping.specs.Told.{source_of as told_of}
+use Rattle.semantic_syntax.specs.Told.{source_of}
 use Rattle.resolver.specs.declared.outcomes.Outcome.{Outcome}
-use Rattle.semantic_model.specs.Outcome.{source_of, last_outcome}
+use Rattle.semantic_model.specs.Outcome.{last_outcome}
 use Rattle.table_building.specs.Made.{pending_of}
 use Rattle.table_building.specs.Settled.{IsOutcomeWithin, outcome_of}
-use Rattle.table_building.proofs.Bridging.{lasts-same, tell_same}
+use Rattle.table_building.proofs.Bridging.{lasts-same}
 use Rattle.table_building.proofs.Waiting.{scopes_exist, references_exist, last-within, if_ok_is}
 use Rattle.table_building.proofs.declared.Declared.last_outcomes.Goals as goal
 
@@ -26,19 +26,19 @@ returns-clause-outcomes g c =
     let t = c.self.inside.scoping in
     rw (← c.self.view_is)
     (if_ok_is c.resolve_all.result (λ (o : List Outcome). map outcome_of o ≡ map (last_outcome (source_of t)) (map pending_of c.self.inside.pending)) _ c.resolve_all.ensures.outcomes
-    (lasts-same _ _ (tell_same t) c.self.inside.pending))
+    (lasts-same (source_of t) c.self.inside.pending))
 
 pub returns-clause-within : goal.returns-clause-within
 returns-clause-within g c =
     let t = c.self.inside.scoping in
     rw (← c.self.view_is)
     (if_ok_is c.resolve_all.result (All (IsOutcomeWithin (length t.symbols) (length t.scopes))) _ c.resolve_all.ensures.outcomes
-    (last-within (told_of t) c.attest.ensures.source c.self.inside.pending (scopes_exist t c.self.inside.pending c.self.invariant.waiting)))
+    (last-within (source_of t) c.attest.ensures.source c.self.inside.pending (scopes_exist t c.self.inside.pending c.self.invariant.waiting)))
 
 module _ (g : given.Over) (c : goal.After-resolve_all g) where
   -- what the look-ups ask, in the words of the definitions
-  asks : sum_by (last_asks (told_of c.self.inside.scoping)) c.self.inside.pending ≡ sum_by (model.last_asks (source_of c.self.inside.scoping)) (map pending_of c.self.inside.pending)
-  asks = lasts-asked _ _ (tell_same c.self.inside.scoping) c.self.inside.pending
+  asks : sum_by (last_asks (source_of c.self.inside.scoping)) c.self.inside.pending ≡ sum_by (model.last_asks (source_of c.self.inside.scoping)) (map pending_of c.self.inside.pending)
+  asks = lasts-asked (source_of c.self.inside.scoping) c.self.inside.pending
 
 pub returns-clause-cost : goal.returns-clause-cost
 returns-clause-cost g c = rw (← c.self.view_is) (on_ok_weaker c.resolve_all.result (λ e. e ∙ ap (raised c.args.steps.now) (asks g c)) c.resolve_all.ensures.cost)

@@ -6,7 +6,7 @@ use Rattle.std.specs.Map.{lookup}
 use Rattle.semantic_syntax.specs.declared.references.Reference.{Reference}
 use Rattle.semantic_syntax.specs.declared.references.Redeclaration.{Redeclaration}
 use Rattle.semantic_syntax.specs.Tables.{Name, Scope, Symbol, Bindings, Tables}
-use Rattle.scoping.specs.Source.{chain_within, ends_within}
+use Rattle.semantic_syntax.specs.Source.{chain_within, ends_within}
 
 -- what stands past the end of a list
 abbrev pub no_scope : Scope
@@ -30,6 +30,20 @@ reference_of t r = slice_index_or t.references r no_reference
 -- what the scope binds
 abbrev pub bindings_of : Tables → ℕ → Bindings
 bindings_of t s = slice_index_or t.bindings s []
+
+-- the symbol to which the scope binds the name
+abbrev pub bound_in : Tables → ℕ → Name → Option ℕ
+bound_in t s name = lookup (bytes_eq name) (bindings_of t s)
+
+abbrev pub scope_flags : Tables → ℕ → ℕ
+scope_flags t s = (scope_of t s).flags.bits
+
+abbrev pub symbol_flags : Tables → ℕ → ℕ
+symbol_flags t y = (symbol_of t y).flags.bits
+
+-- the way in which the reference uses its name
+abbrev pub way_of : Tables → ℕ → ℕ
+way_of t r = (reference_of t r).flags.bits
 
 -- the references of the symbol
 abbrev pub uses_of : Tables → ℕ → List ℕ
