@@ -14,7 +14,7 @@ use Rattle.semantic_tree.specs.Forest.{Forest}
 use Rattle.semantic_tree.specs.declared.node.Node.{Node}
 use Rattle.semantic_model.specs.Ambient.{ambient_inside, ambient_round}
 use Rattle.semantic_model.specs.Binder.{declared_by}
-use Rattle.semantic_model.specs.Cursor.{at_child, cursor_before, cursor_behind, is_write_place}
+use Rattle.semantic_model.specs.Cursor.{at_child, cursor_before, cursor_behind, is_write_place, on_entering, on_leaving}
 use Rattle.semantic_model.specs.Declaration.{Declaration}
 use Rattle.semantic_model.specs.Inside.{Inside, no_scope_opens, holds_for, inside, opens_for, is_inside, header_roles, is_parameter_decorator}
 use Rattle.semantic_model.specs.Nodes.{is, has}
@@ -24,9 +24,9 @@ use Rattle.semantic_model.specs.Step.{opening, closing, opening_at, opening_last
 use Rattle.walk_model.specs.Standing.{Standing}
 use Rattle.walk_model.specs.Waits.{start_at}
 use Rattle.walk_model.specs.Walks.{after_all}
-use Rattle.walk_notes.specs.NoteLists.{is_noted}
+use Rattle.walk_notes.specs.NoteLists.{is_noted, is_noted_behind}
 use Rattle.semantic_walk.specs.AtPlace.{IsTurnAt, IsBetweenAt}
-use Rattle.semantic_walk.specs.EvenKinds.{acts_on_entering, acts_between, stands_alike}
+use Rattle.semantic_walk.specs.EvenKinds.{acts_on_entering, acts_between, is_quiet, stands_alike}
 use Rattle.semantic_walk.specs.Walker.{Walker}
 use Rattle.semantic_walk.specs.declared.visit.Turn.{Turn}
 
@@ -64,6 +64,40 @@ module _ (k : AstType) (quiet : acts_on_entering k ≡ false) where
 
   pub no_note : is_noted k ≡ false
   no_note = otherwise (acts_on_entering k) false (is_noted k) false (notes k) quiet
+
+-- and a quiet node is such a node, at which the cursor stays, and behind which nothing is noted
+
+where_true : {A : Type 0} (b : Bool) (x y z : A) → cond b x y ≡ z → b ≡ true → x ≡ z
+where_true b x y z e h = ap (λ c. cond c x y) (sym h) ∙ e
+
+enters_quiet : (k : AstType) → cond (is_quiet k) (acts_on_entering k) false ≡ false
+enters_quiet kind.IdentifierName = refl
+enters_quiet _ = refl
+
+between_quiet : (k : AstType) → cond (is_quiet k) (acts_between k) false ≡ false
+between_quiet kind.IdentifierName = refl
+between_quiet _ = refl
+
+notes_quiet : (k : AstType) → cond (is_quiet k) (is_noted_behind k) false ≡ false
+notes_quiet kind.IdentifierName = refl
+notes_quiet _ = refl
+
+cursor_quiet : (k : AstType) (cursor : ℕ) → cond (is_quiet k) (on_leaving k (on_entering k cursor)) cursor ≡ cursor
+cursor_quiet kind.IdentifierName cursor = refl
+cursor_quiet _ cursor = refl
+
+module _ (k : AstType) (quiet : is_quiet k ≡ true) where
+  pub quiet_entering : acts_on_entering k ≡ false
+  quiet_entering = where_true (is_quiet k) (acts_on_entering k) false false (enters_quiet k) quiet
+
+  pub quiet_between : acts_between k ≡ false
+  quiet_between = where_true (is_quiet k) (acts_between k) false false (between_quiet k) quiet
+
+  pub quiet_behind : is_noted_behind k ≡ false
+  quiet_behind = where_true (is_quiet k) (is_noted_behind k) false false (notes_quiet k) quiet
+
+  pub quiet_cursor : (cursor : ℕ) → on_leaving k (on_entering k cursor) ≡ cursor
+  quiet_cursor cursor = where_true (is_quiet k) (on_leaving k (on_entering k cursor)) cursor cursor (cursor_quiet k cursor) quiet
 
 -- and where nothing acts round a child
 
@@ -178,12 +212,13 @@ module _ (p : Place) (even : acts_between p.node.kind ≡ false) where
             is_ambient = h.stands.is_ambient;
             own_scope = h.stands.own_scope ∙ ap (λ (o : Option OpenScope). option_map (λ s. s.number) o) (sym (same_scope own));
             header = h.stands.header ∙ sym (same_start own start w.made);
+            acts = h.stands.acts;
           },
         )
 
 -- a child in such a role, of a node that is so
-pub are_alike : (node : Node) (r : Role) → stands_alike node r ≡ true → (acts_between node.kind ≡ false) × (same_role r role.Binding ≡ false) × (has mark.Declare node ≡ false)
-are_alike node r h = by (acts_between node.kind) (same_role r role.Binding) (has mark.Declare node) h
+pub are_alike : (acts : Bool) (node : Node) (r : Role) → stands_alike acts node r ≡ true → (acts ≡ false) × (same_role r role.Binding ≡ false) × (has mark.Declare node ≡ false)
+are_alike acts node r h = by acts (same_role r role.Binding) (has mark.Declare node) h
   where
     by : (a b c : Bool) → (not a && not b && not c) ≡ true → (a ≡ false) × (b ≡ false) × (c ≡ false)
     by false false false e = (refl, refl, refl)
@@ -193,20 +228,20 @@ are_alike node r h = by (acts_between node.kind) (same_role r role.Binding) (has
 
 -- before such a child nothing happens
 pub comes_alike : (ds : List Declaration) (w : Walker) (turn : Turn) (p : Place) (own : Option OpenScope) (n cursor start : ℕ) (f : Forest) (parent : Node) (r : Role) (child : Node)
-    → p.node ≡ parent → stands_alike parent r ≡ true → IsBetweenAt ds w turn p own n cursor start f
+    → p.node ≡ parent → stands_alike turn.acts parent r ≡ true → IsBetweenAt ds w turn p own n cursor start f
     → let place = child_place p (scope_at p r own n) cursor r child in
     (w ≡ record w { made = after_all ds w.made (opening_at p r own n); current = at place; cursor = place.cursor; is_ambient = place.is_ambient })
     × IsTurnAt turn p (scope_at p r own n) (start_at p r own start w.made)
 comes_alike ds w turn p own n cursor start f parent r child node alike h =
-    let all = are_alike p.node r (ap (λ (x : Node). stands_alike x r) node ∙ alike) in
-    stands_there p all.0 r all.1 all.2 child n cursor ds w turn own start f h
+    let all = are_alike turn.acts p.node r (ap (λ (x : Node). stands_alike turn.acts x r) node ∙ alike) in
+    stands_there p (sym h.stands.acts ∙ all.0) r all.1 all.2 child n cursor ds w turn own start f h
 
 -- and behind one the walk stands in the node again
 pub ends_alike : (ds : List Declaration) (w v : Walker) (turn : Turn) (p : Place) (own : Option OpenScope) (start before : ℕ) (k : AstType) (r : Role) (f : Forest)
-    → p.node.kind ≡ k → acts_between k ≡ false → IsTurnAt turn p own start → v ≡ record w { current = turn.outer; is_ambient = turn.is_ambient }
+    → p.node.kind ≡ k → turn.acts ≡ false → IsTurnAt turn p own start → v ≡ record w { current = turn.outer; is_ambient = turn.is_ambient }
     → v ≡ record w { made = after_all ds w.made (ending_after p r own f); current = at p; cursor = cursor_behind k r before w.cursor; is_ambient = p.is_ambient }
 ends_alike ds w v turn p own start before k r f same quiet h e =
-    let even : acts_between p.node.kind ≡ false = ap acts_between same ∙ quiet in
+    let even : acts_between p.node.kind ≡ false = sym h.acts ∙ quiet in
     e
     ∙ (λ i. record w {
       made = after_all ds w.made (sym (none_ends p even r own f) i);

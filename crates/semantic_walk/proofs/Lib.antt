@@ -22,6 +22,7 @@ pub mod BindArms
 pub mod EnterSteps
 pub mod NamesBy
 pub mod RoomAt
+pub mod Passing
 pub mod Folding
 pub mod ListedPaths
 pub mod StoredPaths

@@ -36,6 +36,7 @@ use Rattle.node_store.specs.Entered.{Entered}
 use Rattle.semantic_walk.specs.Listed.{IsAmong, all_listed}
 use Rattle.walk_notes.specs.NoteLists.{NoteLists, noting, noted_inside, noted_over}
 use Rattle.semantic_walk.specs.Stated.{IsStated, AllStated}
+use Rattle.semantic_walk.specs.EvenKinds.{acts_between}
 use Rattle.semantic_walk.specs.Walker.{Walker, telling_of}
 use Rattle.semantic_walk.specs.Turns.{child_scope, own_or}
 use Rattle.semantic_walk.specs.AtPlace.{asked_over, ComesTo, IsWithin, IsTurnAt, IsBetweenAt, IsOpenAtRoot, IsComing, entered, kept_at, told_within, walked_within, left_at, walked_over}
@@ -152,7 +153,7 @@ module _ (ds : List Declaration) (first : Walker) (p : Place) (own : Option Open
   -- it does so once the node is entered
   pub rests_first : (w : Walker) (turn : Turn) (k : AstType) (f : Forest) (before : ℕ) → IsComing ds first p own n → k ≡ p.node.kind → f ≡ p.node.children
       → w ≡ record first { made = entered ds first p; path = first.path ++ p.node ∷ []; cursor = on_entering p.node.kind p.cursor; nodes = kept_at first p; notes = noting p.path p.node first.notes }
-      → turn ≡ record { outer = w.current; is_ambient = w.is_ambient; own = cond (same_kind k kind.Program) (Some w.current) None; header_start = length w.made.waiting }
+      → turn ≡ record { outer = w.current; is_ambient = w.is_ambient; own = cond (same_kind k kind.Program) (Some w.current) None; header_start = length w.made.waiting; acts = acts_between k }
       → Rests before before w turn f
   rests_first w turn k f before h kind_same is e t =
       let comes : ComesTo first p = h.comes in
@@ -181,6 +182,7 @@ module _ (ds : List Declaration) (first : Walker) (p : Place) (own : Option Open
             is_ambient = ap (λ (u : Turn). u.is_ambient) t ∙ ambient;
             own_scope = own_first turn w.current (ap (λ (u : Turn). u.own) t ∙ ap (λ (k : AstType). cond (same_kind k kind.Program) (Some w.current) None) kind_same) current h.root;
             header = ap (λ (u : Turn). u.header_start) t ∙ ap (λ (v : Standing). length v.waiting) made;
+            acts = ap (λ (u : Turn). u.acts) t ∙ ap acts_between kind_same;
           };
           between = subst (λ (v : Standing). IsBetween v p own n cursor (length (entered ds first p).waiting) f) (sym made)
               (subst (λ (g : Forest). IsBetween (entered ds first p) p own n cursor (length (entered ds first p).waiting) g) (sym is) h.between);

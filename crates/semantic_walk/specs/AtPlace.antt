@@ -18,6 +18,7 @@ use Rattle.count_model.specs.Asks.{asked_by_steps}
 use Rattle.count_laws.specs.Room.{HasRoom}
 use Rattle.node_store.specs.Entered.{Entered, leaving as leaving_node}
 use Rattle.walk_notes.specs.NoteLists.{noting, noted_inside, noted_over, leaving as leaving_notes}
+use Rattle.semantic_walk.specs.EvenKinds.{acts_between}
 use Rattle.semantic_walk.specs.Listed.{IsNext, all_listed, entered_at}
 use Rattle.check_walk.specs.Ready.{IsReadyAt}
 use Rattle.check_walk.specs.SoFar.{Telling}
@@ -48,12 +49,13 @@ pub record IsShown (ds : List Declaration) (w : Walker) (p : Place) : Type 0 whe
   pub named : IsStepNamed ds w.namesakes (entering p)
   pub stated : IsStated w.states p
 
--- what stands between two children of a place, with its own scope and where its header starts
+-- what stands between two children of a place, with its own scope, where its header starts, and whether its kind acts between them
 pub record IsTurnAt (turn : Turn) (p : Place) (own : Option OpenScope) (start : ℕ) : Type 0 where
   pub outer : turn.outer ≡ at p
   pub is_ambient : turn.is_ambient ≡ p.is_ambient
   pub own_scope : turn.own ≡ option_map (λ s. s.number) own
   pub header : turn.header_start ≡ start
+  pub acts : turn.acts ≡ acts_between p.node.kind
 
 -- the walk stands between two children of a place, with those that are left
 pub record IsBetweenAt (ds : List Declaration) (w : Walker) (turn : Turn) (p : Place) (own : Option OpenScope) (n cursor start : ℕ) (f : Forest) : Type 0 where

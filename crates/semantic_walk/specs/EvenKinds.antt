@@ -6,6 +6,7 @@ use Rattle.semantic_kinds.specs.declared.kind.AstType.TheVariants as kind
 use Rattle.semantic_kinds.specs.declared.mark.Mark.TheVariants as mark
 use Rattle.semantic_kinds.specs.declared.role.Role.{Role}
 use Rattle.semantic_kinds.specs.declared.role.Role.TheVariants as role
+use Rattle.semantic_tree.specs.Forest.{Forest, nothing, tree}
 use Rattle.semantic_tree.specs.declared.node.Node.{Node}
 use Rattle.semantic_model.specs.Nodes.{has}
 
@@ -86,6 +87,30 @@ acts_between kind.FormalParameter = true
 acts_between kind.FormalParameterRest = true
 acts_between _ = false
 
--- whether a child in the role stands as its parent does: in its scope, under its cursor, and ambient as it is
-abbrev pub stands_alike : Node → Role → Bool
-stands_alike parent r = not (acts_between parent.kind) && not (same_role r role.Binding) && not (has mark.Declare parent)
+-- whether nothing happens at a node of the kind itself: it has no scope, nothing is made or noted on entering and leaving it, and the cursor is the same behind it
+abbrev pub is_quiet : AstType → Bool
+is_quiet kind.IdentifierName = true
+is_quiet kind.BindingIdentifier = true
+is_quiet kind.LabelIdentifier = true
+is_quiet kind.StringLiteral = true
+is_quiet kind.NumericLiteral = true
+is_quiet kind.BooleanLiteral = true
+is_quiet kind.NullLiteral = true
+is_quiet kind.RegExpLiteral = true
+is_quiet kind.BigIntLiteral = true
+is_quiet kind.TemplateElement = true
+is_quiet kind.ThisExpression = true
+is_quiet kind.Super = true
+is_quiet kind.Directive = true
+is_quiet kind.EmptyStatement = true
+is_quiet kind.DebuggerStatement = true
+is_quiet _ = false
+
+-- whether a node with these children has none
+abbrev pub is_leaf : Forest → Bool
+is_leaf nothing = true
+is_leaf (tree r k span text marks below id after) = false
+
+-- whether a child in the role stands as its parent does, which acts between its children or not: in its scope, under its cursor, and ambient as it is
+abbrev pub stands_alike : Bool → Node → Role → Bool
+stands_alike acts parent r = not acts && not (same_role r role.Binding) && not (has mark.Declare parent)

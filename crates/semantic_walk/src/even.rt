@@ -1,7 +1,7 @@
 //! Nodes where nothing happens, by their kinds: most nodes only carry what is below them.
 
 ghost use Rattle.std.specs.Prelude.{◌≡◌};
-ghost use Rattle.semantic_walk.specs.EvenKinds.{acts_on_entering, acts_between, stands_alike};
+ghost use Rattle.semantic_walk.specs.EvenKinds.{acts_on_entering, acts_between, is_quiet, is_leaf, stands_alike};
 
 use semantic_tree::{AstKind, AstType, Mark, Role};
 
@@ -98,10 +98,45 @@ pub(crate) fn acts_between(kind: AstType) -> bool
     }
 }
 
-/// Whether a child in the role stands as its parent does: in its scope, under its cursor, and ambient as it is.
+/// Whether nothing happens at a node of the kind itself: it has no scope, nothing is made or noted on entering and
+/// leaving it, and the cursor is the same behind it.
 #[inline(always)]
-pub(crate) fn stands_alike(parent: AstKind<'_>, role: Role) -> bool
-    ensures { result ≡ stands_alike parent.entry.node.now role }
+pub(crate) fn is_quiet(kind: AstType) -> bool
+    ensures { result ≡ is_quiet kind }
 {
-    !acts_between(parent.ty()) && role != Role::Binding && !parent.has_mark(Mark::Declare)
+    matches!(
+        kind,
+        AstType::IdentifierName
+            | AstType::BindingIdentifier
+            | AstType::LabelIdentifier
+            | AstType::StringLiteral
+            | AstType::NumericLiteral
+            | AstType::BooleanLiteral
+            | AstType::NullLiteral
+            | AstType::RegExpLiteral
+            | AstType::BigIntLiteral
+            | AstType::TemplateElement
+            | AstType::ThisExpression
+            | AstType::Super
+            | AstType::Directive
+            | AstType::EmptyStatement
+            | AstType::DebuggerStatement
+    )
+}
+
+/// Whether the node has no children.
+#[inline(always)]
+pub(crate) fn is_leaf(kind: AstKind<'_>) -> bool
+    ensures { result ≡ is_leaf kind.entry.node.now.children }
+{
+    kind.node().children.as_slice().is_empty()
+}
+
+/// Whether a child in the role stands as its parent does, which acts between its children or not: in its scope, under
+/// its cursor, and ambient as it is.
+#[inline(always)]
+pub(crate) fn stands_alike(acts: bool, parent: AstKind<'_>, role: Role) -> bool
+    ensures { result ≡ stands_alike acts parent.entry.node.now role }
+{
+    !acts && role != Role::Binding && !parent.has_mark(Mark::Declare)
 }

@@ -1,6 +1,6 @@
 //! The way from the root to the node that a walk visits.
 
-ghost use Rattle.std.specs.Prelude.{◌≡◌, ◌++◌, ◌∷◌, ◌-◌, ◌<◌, ◌≤◌, [], length, reverse, take, option_map, OnOk};
+ghost use Rattle.std.specs.Prelude.{◌≡◌, ◌++◌, ◌∷◌, ◌-◌, ◌<◌, ◌≤◌, [], is_some, length, reverse, take, option_map, OnOk};
 ghost use Rattle.node_rules.specs.Seen.{path_of};
 ghost use Rattle.node_store.specs.Entered.{entering, leaving};
 ghost use Rattle.node_store.specs.PathOf.{path_of as outward_path, IsInStore};
@@ -9,7 +9,7 @@ ghost use Rattle.semantic_walk.specs.Listed.{kept_from, list_kept};
 ghost use Rattle.semantic_walk.specs.Paths.{parent_in, is_marked, first_mark};
 
 use node_rules::rows::is_simple_list;
-use node_store::{Ancestry, AstNodeStore, AstNodes};
+use node_store::{Ancestry, AstNodeStore, AstNodeStoreKind, AstNodes};
 use semantic_syntax::ScopeId;
 use semantic_tree::{AstKind, AstType};
 use std::alloc::{AllocError, Global};
@@ -100,6 +100,17 @@ impl<'a> Path<'a> {
         let mut outward = self.store.outward();
         outward.next()?;
         outward.next()
+    }
+
+    /// Whether all nodes that are entered are kept, and not those on the way alone.
+    #[inline(always)]
+    pub fn keeps_nodes(&self) -> bool
+        ensures { result ≡ is_some self.now.entered }
+    {
+        match &self.store.kind {
+            AstNodeStoreKind::Full(_) => true,
+            AstNodeStoreKind::Ancestry(_) => false,
+        }
     }
 
     /// The mark of that parent.

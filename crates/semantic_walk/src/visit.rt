@@ -23,12 +23,13 @@ ghost use Rattle.semantic_syntax.specs.Counts.{raised};
 ghost use Rattle.semantic_syntax.specs.Told.{source_of};
 ghost use Rattle.count_model.specs.Asks.{asked_by_steps};
 ghost use Rattle.table_building.specs.Settled.{settled_from, asked_from};
-ghost use Rattle.semantic_walk.specs.Turns.{IsTurn, child_scope};
+ghost use Rattle.semantic_walk.specs.EvenKinds.{acts_between};
+ghost use Rattle.semantic_walk.specs.Turns.{IsTurn, child_scope, is_passed};
 ghost use Rattle.semantic_walk.specs.AtPlace.{IsWithin, IsTurnAt, IsBetweenAt, IsComing, IsSomewhere, walked_within, asked_over};
 ghost use Rattle.semantic_walk.specs.Ids.{MayOpen};
 ghost use Rattle.semantic_walk.specs.Leaving.{IsLeaving};
 
-use crate::even::{acts_between, stands_alike};
+use crate::even::{acts_between, is_leaf, is_quiet, stands_alike};
 use crate::walk::Walk;
 use node_rules::ambient::{is_ambient_in_child, is_ambient_inside};
 use node_rules::cursor::{before_child, behind_child};
@@ -48,6 +49,8 @@ pub struct Turn {
     own: Option<ScopeId>,
     /// How many references waited when it opened.
     header_start: usize,
+    /// Whether something may happen round a child of the node.
+    acts: bool,
 }
 
 /// Whether one of the children stands inside the scope of a parent of the kind.
@@ -84,6 +87,7 @@ impl<'a> Walk<'a> {
           is_ambient = self.now.is_ambient;
           own = cond (same_kind kind program_kind) (Some self.now.current) None;
           header_start = length self.now.made.waiting;
+          acts = acts_between kind;
         } }
     {
         Turn {
@@ -95,6 +99,7 @@ impl<'a> Walk<'a> {
                 None
             },
             header_start: self.waiting(),
+            acts: acts_between(kind),
         }
     }
 
@@ -198,7 +203,7 @@ impl<'a> Walk<'a> {
         ensures stands { OnOk result (IsTurn self.new.made turn.new) }
         ensures start { OnOk result (turn.old.header_start ≤ turn.new.header_start) }
     {
-        if stands_alike(parent, role) {
+        if stands_alike(turn.acts, parent, role) {
             return Ok(());
         }
         self.open_for(parent, parent_role, turn, role)?;
@@ -331,7 +336,7 @@ impl<'a> Walk<'a> {
             OnOk result (self.new ≡ record self.old { made = after_all ds self.old.made (opening_last p own n) }) }
         ensures goes { OnOk result (Goes self.old.made self.new.made) }
     {
-        if acts_between(kind.ty()) {
+        if turn.acts {
             self.open_unopened(kind, role, turn)
         } else {
             Ok(())
@@ -380,12 +385,25 @@ impl<'a> Walk<'a> {
             OnErr result (steps.new ≤ raised steps.old (asked_by_steps ds self.old.made (ending_after p role own (forest_of rest.now)))) }
     {
         self.come_back(turn);
-        if acts_between(parent) {
+        if turn.acts {
             self.turn_cursor(parent, role, before);
             self.end_child(parent, turn, role, rest, steps)
         } else {
             Ok(())
         }
+    }
+
+    /// Whether the child is passed over: to enter it and to leave it would make, note and tell nothing, and leave no trace
+    /// of it.
+    #[inline(always)]
+    fn passes(&self, parent: AstKind<'a>, turn: &Turn, role: Role, child: AstKind<'a>) -> bool
+        ensures { result ≡ is_passed self.now turn.now parent.entry.node.now role child.entry.node.now }
+    {
+        !self.checks
+            && stands_alike(turn.acts, parent, role)
+            && is_quiet(child.ty())
+            && is_leaf(child)
+            && !self.path.keeps_nodes()
     }
 
     /// Walks over a node in its role and all that is below it, and stands at the node then: who visits it leaves it.
@@ -409,11 +427,18 @@ impl<'a> Walk<'a> {
             OnErr result (steps.new ≤ raised steps.old (asked_over ds self.old p own n)) }
     {
         self.enter(kind)?;
+        if is_leaf(kind) && !acts_between(kind.ty()) {
+            return Ok(());
+        }
         let mut turn = self.turn(kind.ty());
         let mut left = kind.node().children.as_slice();
         while let Some(((child_role, child), rest)) = left.split_first() {
-            let before = self.cursor();
             let child = AstKind::new(child);
+            if self.passes(kind, &turn, *child_role, child) {
+                left = rest;
+                continue;
+            }
+            let before = self.cursor();
             self.begin_child(kind, role, &mut turn, *child_role, child)?;
             self.visit(child, *child_role, steps)?;
             self.leave(child)?;

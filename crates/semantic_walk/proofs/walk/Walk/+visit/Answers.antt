@@ -1,4 +1,4 @@
-use Rattle.std.proofs.Common.{◌≡◌, ◌<◌, ℕ, List, [], ◌∷◌, Option, None, refl, ap, sym, subst, ◌∙◌, length, arith}
+use Rattle.std.proofs.Common.{◌≡◌, ◌<◌, ℕ, List, [], ◌∷◌, false, Option, None, refl, ap, sym, subst, ◌∙◌, length, arith}
 use Rattle.semantic_kinds.specs.declared.role.Role.{Role}
 use Rattle.semantic_kinds.specs.declared.kind.AstType.{AstType}
 use Rattle.semantic_tree.specs.Forest.{Forest, nothing, count}
@@ -12,6 +12,8 @@ use Rattle.walk_model.specs.Waits.{HoldsAt, start_at}
 use Rattle.walk_model.specs.Walks.{after_all}
 use Rattle.semantic_walk.specs.Walker.{Walker}
 use Rattle.semantic_walk.specs.AtPlace.{IsComing, IsSomewhere, left_at, walked_over}
+use Rattle.semantic_walk.specs.EvenKinds.{acts_between}
+use Rattle.semantic_walk.specs.Turns.{is_passed}
 use Rattle.semantic_walk.specs.Leaving.{IsLeaving}
 use Rattle.semantic_walk.specs.declared.visit.Turn.{Turn}
 use Rattle.table_building.proofs.Growing.{goes-refl, grows-trans}
@@ -20,6 +22,7 @@ use Rattle.semantic_walk.proofs.Visiting.{Rests, rests_first, rests_past, walked
 use Rattle.semantic_walk.proofs.RoomAt.{may_enter, opens_for, opens_last}
 use Rattle.semantic_walk.proofs.Counting.{left_past, rests_so_far, rests_end, rests_child, rests_ending, on_err, on_success}
 use Rattle.semantic_walk.proofs.Leaves.{leaves, shows_rows}
+use Rattle.semantic_walk.proofs.Passing.{no_children, walks_alone, leaves_alone, asks_alone, rests_passed}
 use Rattle.semantic_walk.proofs.walk.Walk.+visit.Goals as goal
 
 pub loop-child_role-init : goal.loop-child_role-init
@@ -32,8 +35,8 @@ loop-child_role-init g t c =
       start = omega (arith, ap (λ (u : Turn). u.header_start) c.turn-turn.ensures.value);
       risen = omega arith;
       rests = λ ds p own n node role coming.
-          rests_first ds c.args.self.now p own n c.enter.new.self c.turn-turn.result c.ty.result (forest_of c.as_slice-left.result.now) c.args.steps.now coming
-          (c.ty.ensures ∙ sym (ap (λ (x : Node). x.kind) node)) (same ∙ sym (ap (λ (x : Node). x.children) node))
+          rests_first ds c.args.self.now p own n c.enter.new.self c.turn-turn.result c.ty-2.result (forest_of c.as_slice-left.result.now) c.args.steps.now coming
+          (c.ty-2.ensures ∙ sym (ap (λ (x : Node). x.kind) node)) (same ∙ sym (ap (λ (x : Node). x.children) node))
           (c.in_ok-enter.ensures.walks ds p node coming.comes coming.shown) c.turn-turn.ensures.value;
     }
 
@@ -82,6 +85,25 @@ loop-child_role-preserved g t c =
           let asks = left_past ds p h.scope h.next h.cursor h.start child rest w v past came.0 went c.finish_child.new.self c.loop-child_role.steps c.visit.new.steps c.finish_child.new.steps ended
           (c.in_ok-visit.ensures.cost ds place None next refl refl comes) (c.in_ok-finish_child.ensures.cost ds p scope start (sym kind_same) came.1 holds) in
           rests_past ds c.args.self.now p own n child rest w v past c.finish_child.new.self c.loop-child_role.turn c.begin_child.new.turn c.args.steps.now c.loop-child_role.steps c.finish_child.new.steps h came.0 came.1 went ended asks;
+    }
+
+pub loop-child_role-preserved-then-passes : goal.loop-child_role-preserved-then-passes
+loop-child_role-preserved-then-passes g t c =
+    let w : Walker = c.loop-child_role.self in
+    let rest : List (Role × Node) = c.in-Some.rest.now in
+    let child : Role × Node = (c.in-Some.field-0-0.now.0, c.new-child.result.node.now) in
+    let split : c.loop-child_role.left.now ≡ child ∷ rest = c.in-Some.ensures.cases.0 ∙ ap (λ (x : Node). (c.in-Some.field-0-0.now.0, x) ∷ rest) (sym c.new-child.ensures) in
+    record {
+      left = omega (arith, c.loop-child_role.invariant.left, ap (λ (xs : List (Role × Node)). count (forest_of xs)) split);
+      turn = c.loop-child_role.invariant.turn;
+      goes = c.loop-child_role.invariant.goes;
+      start = c.loop-child_role.invariant.start;
+      risen = c.loop-child_role.invariant.risen;
+      rests = λ ds p own n node role coming.
+          let h : Rests ds c.args.self.now p own n c.args.steps.now c.loop-child_role.steps w c.loop-child_role.turn (forest_of (child ∷ rest)) =
+          subst (λ (xs : List (Role × Node)). Rests ds c.args.self.now p own n c.args.steps.now c.loop-child_role.steps w c.loop-child_role.turn (forest_of xs)) split (c.loop-child_role.invariant.rests ds p own n node role coming) in
+          rests_passed ds c.args.self.now p own n child rest w c.loop-child_role.turn c.args.steps.now c.loop-child_role.steps h
+          (ap (λ (x : Node). is_passed w c.loop-child_role.turn x child.0 child.1) node ∙ sym {b = is_passed w c.loop-child_role.turn c.args.kind.node.now child.0 child.1} c.passes.ensures ∙ c.if-passes.true);
     }
 
 -- there are ids for what is entered
@@ -147,16 +169,16 @@ leave-requires g t c =
     let left : IsLeaving c.visit.new.self place = c.in_ok-visit.ensures.leaves r.ds place None next refl refl comes in
     left.fit
 
-no_children : (items : List (Role × Node)) → length items ≡ 0 → forest_of items ≡ nothing
-no_children [] h = refl
-no_children (x ∷ xs) h = absurd (omega arith)
+none_left : (items : List (Role × Node)) → length items ≡ 0 → forest_of items ≡ nothing
+none_left [] h = refl
+none_left (x ∷ xs) h = absurd (omega arith)
 
 pub open_last-requires-clause-ids : goal.open_last-requires-clause-ids
 open_last-requires-clause-ids g t c =
     let r : IsSomewhere c.args.self.now c.args.kind.node.now c.args.role = c.requires in
     let w : Walker = c.loop-child_role.self in
     let h : Rests r.ds c.args.self.now r.place r.own r.next c.args.steps.now c.loop-child_role.steps w c.loop-child_role.turn nothing =
-    subst (λ (f : Forest). Rests r.ds c.args.self.now r.place r.own r.next c.args.steps.now c.loop-child_role.steps w c.loop-child_role.turn f) (no_children c.loop-child_role.left.now c.in_default.ensures.cases)
+    subst (λ (f : Forest). Rests r.ds c.args.self.now r.place r.own r.next c.args.steps.now c.loop-child_role.steps w c.loop-child_role.turn f) (none_left c.loop-child_role.left.now c.in_default.ensures.cases)
     (c.loop-child_role.invariant.rests r.ds r.place r.own r.next r.node_is r.role_is r.coming) in
     λ absent some. opens_last r.ds w c.loop-child_role.turn r.place h.scope h.next h.cursor h.start c.args.kind.node.now r.node_is h.between absent some
 
@@ -164,21 +186,21 @@ pub returns-clause-walks : goal.returns-clause-walks
 returns-clause-walks g t c = λ ds p own n node role coming.
     let w : Walker = c.loop-child_role.self in
     let h : Rests ds c.args.self.now p own n c.args.steps.now c.loop-child_role.steps w c.loop-child_role.turn nothing =
-    subst (λ (f : Forest). Rests ds c.args.self.now p own n c.args.steps.now c.loop-child_role.steps w c.loop-child_role.turn f) (no_children c.loop-child_role.left.now c.in_default.ensures.cases) (c.loop-child_role.invariant.rests ds p own n node role coming) in
+    subst (λ (f : Forest). Rests ds c.args.self.now p own n c.args.steps.now c.loop-child_role.steps w c.loop-child_role.turn f) (none_left c.loop-child_role.left.now c.in_default.ensures.cases) (c.loop-child_role.invariant.rests ds p own n node role coming) in
     on_ok c.open_last.result (c.open_last.ensures.ends ds p h.scope h.next h.cursor h.start node role h.between) (walked ds c.args.self.now p own n w c.open_last.new.self c.loop-child_role.turn c.args.steps.now c.loop-child_role.steps coming h)
 
 pub returns-clause-leaves : goal.returns-clause-leaves
 returns-clause-leaves g t c = λ ds p own n node role coming.
     let w : Walker = c.loop-child_role.self in
     let h : Rests ds c.args.self.now p own n c.args.steps.now c.loop-child_role.steps w c.loop-child_role.turn nothing =
-    subst (λ (f : Forest). Rests ds c.args.self.now p own n c.args.steps.now c.loop-child_role.steps w c.loop-child_role.turn f) (no_children c.loop-child_role.left.now c.in_default.ensures.cases) (c.loop-child_role.invariant.rests ds p own n node role coming) in
+    subst (λ (f : Forest). Rests ds c.args.self.now p own n c.args.steps.now c.loop-child_role.steps w c.loop-child_role.turn f) (none_left c.loop-child_role.left.now c.in_default.ensures.cases) (c.loop-child_role.invariant.rests ds p own n node role coming) in
     on_ok c.open_last.result (c.open_last.ensures.ends ds p h.scope h.next h.cursor h.start node role h.between) (leaves ds c.args.self.now p own n w c.open_last.new.self c.loop-child_role.turn c.args.steps.now c.loop-child_role.steps coming h)
 
 pub returns-clause-cost : goal.returns-clause-cost
 returns-clause-cost g t c = λ ds p own n node role coming.
     let w : Walker = c.loop-child_role.self in
     let h : Rests ds c.args.self.now p own n c.args.steps.now c.loop-child_role.steps w c.loop-child_role.turn nothing =
-    subst (λ (f : Forest). Rests ds c.args.self.now p own n c.args.steps.now c.loop-child_role.steps w c.loop-child_role.turn f) (no_children c.loop-child_role.left.now c.in_default.ensures.cases) (c.loop-child_role.invariant.rests ds p own n node role coming) in
+    subst (λ (f : Forest). Rests ds c.args.self.now p own n c.args.steps.now c.loop-child_role.steps w c.loop-child_role.turn f) (none_left c.loop-child_role.left.now c.in_default.ensures.cases) (c.loop-child_role.invariant.rests ds p own n node role coming) in
     on_success c.open_last.result (rests_end ds c.args.self.now p own n c.args.steps.now c.loop-child_role.steps w c.loop-child_role.turn h)
 
 pub returns-clause-given_up : goal.returns-clause-given_up
@@ -247,3 +269,25 @@ returns-in_err-finish_child-clause-given_up g t c = λ ds p own n node role comi
     on_err c.from_residual-in_err-finish_child.result
     (rests_ending ds c.args.self.now p own n c.args.steps.now c.loop-child_role.steps w c.loop-child_role.turn child rest h v came.0 past c.visit.new.steps c.finish_child.new.steps went
     (c.in_ok-visit.ensures.cost ds place None next refl refl comes) (c.in_err-finish_child.ensures.given_up ds p scope start (sym kind_same) came.1 holds))
+
+-- a node without children, where nothing acts between children, is walked once it is entered
+pub returns-then-not-acts_between-clause-walks : goal.returns-then-not-acts_between-clause-walks
+returns-then-not-acts_between-clause-walks g t c = λ ds p own n node role coming.
+    let leaf : p.node.children ≡ nothing = ap (λ (x : Node). x.children) node ∙ no_children c.args.kind.node.now.children (sym c.is_leaf.ensures ∙ c.if-is_leaf.true) in
+    let even : acts_between p.node.kind ≡ false =
+    ap (λ (x : Node). acts_between x.kind) node ∙ ap acts_between (sym c.ty.ensures) ∙ sym c.acts_between.ensures ∙ c.if-not-acts_between.true in
+    walks_alone ds c.args.self.now p own n coming leaf even c.enter.new.self (c.in_ok-enter.ensures.walks ds p node coming.comes coming.shown)
+
+pub returns-then-not-acts_between-clause-leaves : goal.returns-then-not-acts_between-clause-leaves
+returns-then-not-acts_between-clause-leaves g t c = λ ds p own n node role coming.
+    let leaf : p.node.children ≡ nothing = ap (λ (x : Node). x.children) node ∙ no_children c.args.kind.node.now.children (sym c.is_leaf.ensures ∙ c.if-is_leaf.true) in
+    let even : acts_between p.node.kind ≡ false =
+    ap (λ (x : Node). acts_between x.kind) node ∙ ap acts_between (sym c.ty.ensures) ∙ sym c.acts_between.ensures ∙ c.if-not-acts_between.true in
+    leaves_alone ds c.args.self.now p own n coming leaf even c.enter.new.self (c.in_ok-enter.ensures.walks ds p node coming.comes coming.shown)
+
+pub returns-then-not-acts_between-clause-cost : goal.returns-then-not-acts_between-clause-cost
+returns-then-not-acts_between-clause-cost g t c = λ ds p own n node role coming.
+    let leaf : p.node.children ≡ nothing = ap (λ (x : Node). x.children) node ∙ no_children c.args.kind.node.now.children (sym c.is_leaf.ensures ∙ c.if-is_leaf.true) in
+    let even : acts_between p.node.kind ≡ false =
+    ap (λ (x : Node). acts_between x.kind) node ∙ ap acts_between (sym c.ty.ensures) ∙ sym c.acts_between.ensures ∙ c.if-not-acts_between.true in
+    asks_alone ds c.args.self.now p own n coming leaf even c.enter.new.self (c.in_ok-enter.ensures.walks ds p node coming.comes coming.shown) c.args.steps.now

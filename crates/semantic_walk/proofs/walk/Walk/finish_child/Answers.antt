@@ -17,36 +17,36 @@ use Rattle.semantic_walk.proofs.walk.Walk.finish_child.Goals as goal
 made_is : (g : given.Over) (c : goal.After-end_child g) → c.turn_cursor.new.self.made ≡ c.args.self.now.made
 made_is g c = ap (λ (w : Walker). w.made) c.turn_cursor.ensures.made ∙ ap (λ (w : Walker). w.made) c.come_back.ensures.made
 
-pub returns-then-acts_between-clause-ends : goal.returns-then-acts_between-clause-ends
-returns-then-acts_between-clause-ends g c = λ ds p own start kind turn holds.
+pub returns-then-turn-clause-ends : goal.returns-then-turn-clause-ends
+returns-then-turn-clause-ends g c = λ ds p own start kind turn holds.
     on_ok_weaker c.end_child.result
     (λ ended. ends_behind p own start c.args.parent c.args.role c.args.turn.now c.args.before.bits c.args.self.now c.come_back.new.self c.turn_cursor.new.self ds (forest_of c.args.rest.now) c.end_child.new.self turn
     c.come_back.ensures.made c.turn_cursor.ensures.made ended)
     (c.end_child.ensures.ends ds p own start kind turn
     (held_behind p own start c.args.parent c.args.role c.args.turn.now c.args.before.bits c.args.self.now c.come_back.new.self c.turn_cursor.new.self c.come_back.ensures.made c.turn_cursor.ensures.made holds))
 
-pub returns-then-acts_between-clause-cost : goal.returns-then-acts_between-clause-cost
-returns-then-acts_between-clause-cost g c = λ ds p own start kind turn holds.
+pub returns-then-turn-clause-cost : goal.returns-then-turn-clause-cost
+returns-then-turn-clause-cost g c = λ ds p own start kind turn holds.
     subst (λ (made : Standing). OnOk c.end_child.result (c.end_child.new.steps ≡ raised c.args.steps.now (asked_by_steps ds made (ending_after p c.args.role own (forest_of c.args.rest.now)))))
     (made_is g c)
     (c.end_child.ensures.cost ds p own start kind turn
     (held_behind p own start c.args.parent c.args.role c.args.turn.now c.args.before.bits c.args.self.now c.come_back.new.self c.turn_cursor.new.self c.come_back.ensures.made c.turn_cursor.ensures.made holds))
 
-pub returns-then-acts_between-clause-given_up : goal.returns-then-acts_between-clause-given_up
-returns-then-acts_between-clause-given_up g c = λ ds p own start kind turn holds.
+pub returns-then-turn-clause-given_up : goal.returns-then-turn-clause-given_up
+returns-then-turn-clause-given_up g c = λ ds p own start kind turn holds.
     subst (λ (made : Standing). OnErr c.end_child.result (c.end_child.new.steps ≤ raised c.args.steps.now (asked_by_steps ds made (ending_after p c.args.role own (forest_of c.args.rest.now)))))
     (made_is g c)
     (c.end_child.ensures.given_up ds p own start kind turn
     (held_behind p own start c.args.parent c.args.role c.args.turn.now c.args.before.bits c.args.self.now c.come_back.new.self c.turn_cursor.new.self c.come_back.ensures.made c.turn_cursor.ensures.made holds))
 
 -- where nothing acts round a child, the walk has but come back
-pub returns-else-acts_between-clause-ends : goal.returns-else-acts_between-clause-ends
-returns-else-acts_between-clause-ends g c = λ ds p own start kind turn holds.
+pub returns-else-turn-clause-ends : goal.returns-else-turn-clause-ends
+returns-else-turn-clause-ends g c = λ ds p own start kind turn holds.
     ends_alike ds c.args.self.now c.come_back.new.self c.args.turn.now p own start c.args.before.bits c.args.parent c.args.role (forest_of c.args.rest.now)
-    kind (sym c.acts_between.ensures ∙ c.if-acts_between.false) turn c.come_back.ensures.made
+    kind c.if-turn.false turn c.come_back.ensures.made
 
-pub returns-else-acts_between-clause-cost : goal.returns-else-acts_between-clause-cost
-returns-else-acts_between-clause-cost g c = λ ds p own start kind turn holds.
-    let even : acts_between p.node.kind ≡ false = ap acts_between kind ∙ sym c.acts_between.ensures ∙ c.if-acts_between.false in
+pub returns-else-turn-clause-cost : goal.returns-else-turn-clause-cost
+returns-else-turn-clause-cost g c = λ ds p own start kind turn holds.
+    let even : acts_between p.node.kind ≡ false = sym turn.acts ∙ c.if-turn.false in
     sym (raised_none c.args.steps.now)
     ∙ ap (λ (xs : List Step). raised c.args.steps.now (asked_by_steps ds c.args.self.now.made xs)) (sym (none_ends p even c.args.role own (forest_of c.args.rest.now)))

@@ -1,0 +1,148 @@
+-- Nodes without children where nothing happens: walked once they are entered, or passed over.
+use Rattle.std.proofs.Common.{◌≡◌, ℕ, List, [], ◌∷◌, ◌++◌, Bool, true, false, ◌&&◌, not, cond, Option, Some, None, is_some, option_map, length, refl, sym, ap, ◌∙◌}
+use Rattle.semantic_kinds.specs.Kinds.{same_kind}
+use Rattle.semantic_kinds.specs.declared.kind.AstType.TheVariants as kind
+use Rattle.semantic_kinds.specs.declared.role.Role.{Role}
+use Rattle.semantic_syntax.specs.Counts.{raised}
+use Rattle.semantic_tree.specs.Children.{forest_of}
+use Rattle.semantic_tree.specs.Forest.{Forest, nothing, tree}
+use Rattle.semantic_tree.specs.declared.node.Node.{Node}
+use Rattle.semantic_model.specs.Cursor.{on_entering, on_leaving, cursor_after}
+use Rattle.semantic_model.specs.Declaration.{Declaration}
+use Rattle.semantic_model.specs.Place.{Place, OpenScope}
+use Rattle.semantic_model.specs.Step.{Step, entering, leaving, steps_below, opening_last, ending_after, scope_at, next_at}
+use Rattle.walk_model.specs.Walks.{after_all}
+use Rattle.walk_model.specs.Waits.{start_at}
+use Rattle.walk_notes.specs.NoteLists.{noting, noted_inside, leaving as leaving_notes}
+use Rattle.walk_notes.proofs.Unnoted.{leaves_nothing}
+use Rattle.node_store.specs.Entered.{Entered}
+use Rattle.check_walk.specs.SoFar.{Telling}
+use Rattle.check_walk.specs.TellingAlong.{telling_along, telling_past}
+use Rattle.count_model.specs.Asks.{asked_by_steps}
+use Rattle.count_model.proofs.StepSums.{raised_none}
+use Rattle.semantic_walk.specs.AtPlace.{IsComing, entered, kept_at, told_within, walked_within, walked_over, asked_over}
+use Rattle.semantic_walk.specs.EvenKinds.{acts_between, is_quiet, is_leaf, stands_alike}
+use Rattle.semantic_walk.specs.Leaving.{IsLeaving}
+use Rattle.semantic_walk.specs.Listed.{all_listed}
+use Rattle.semantic_walk.specs.Turns.{is_passed}
+use Rattle.semantic_walk.specs.Walker.{Walker, noting_node, telling_of}
+use Rattle.semantic_walk.specs.declared.visit.Turn.{Turn}
+use Rattle.semantic_walk.proofs.Counting.{left_past, rests_end}
+use Rattle.semantic_walk.proofs.EnterSteps.{stands_in, enters_quietly}
+use Rattle.semantic_walk.proofs.EvenNodes.{quiet_entering, quiet_between, quiet_behind, quiet_cursor, none_last, none_ends, are_alike, comes_alike, ends_alike}
+use Rattle.semantic_walk.proofs.Leaves.{leaves}
+use Rattle.semantic_walk.proofs.Visiting.{Rests, rests_first, rests_past, walked, place_of, comes_to_child}
+
+pub no_children : (f : Forest) → is_leaf f ≡ true → f ≡ nothing
+no_children nothing h = refl
+no_children (tree r k span text marks below id after) h = absurd cc
+
+-- a node without children, where nothing acts between children: once it is entered, all below it is walked
+module _ (ds : List Declaration) (w : Walker) (p : Place) (own : Option OpenScope) (n : ℕ) (coming : IsComing ds w p own n) (leaf : p.node.children ≡ nothing) (even : acts_between p.node.kind ≡ false) (v : Walker)
+    (e : v ≡ record w { made = entered ds w p; path = w.path ++ p.node ∷ []; cursor = on_entering p.node.kind p.cursor; nodes = kept_at w p; notes = noting p.path p.node w.notes }) where
+  abbrev first_turn : Turn
+  first_turn = record { outer = v.current; is_ambient = v.is_ambient; own = cond (same_kind p.node.kind kind.Program) (Some v.current) None; header_start = length v.made.waiting; acts = acts_between p.node.kind }
+
+  rests_alone : (before : ℕ) → Rests ds w p own n before before v first_turn nothing
+  rests_alone before = rests_first ds w p own n v first_turn p.node.kind nothing before coming refl (sym leaf) e refl
+
+  none_opens : (scope : Option OpenScope) (next : ℕ) → v ≡ record v { made = after_all ds v.made (opening_last p scope next) }
+  none_opens scope next = λ i. record v { made = after_all ds v.made (sym (none_last p even scope next) i) }
+
+  pub walks_alone : v ≡ walked_within ds w p own n
+  walks_alone = let h : Rests ds w p own n 0 0 v first_turn nothing = rests_alone 0 in walked ds w p own n v v first_turn 0 0 coming h (none_opens h.scope h.next)
+
+  pub leaves_alone : IsLeaving v p
+  leaves_alone = let h : Rests ds w p own n 0 0 v first_turn nothing = rests_alone 0 in leaves ds w p own n v v first_turn 0 0 coming h (none_opens h.scope h.next)
+
+  pub asks_alone : (before : ℕ) → before ≡ raised before (asked_over ds w p own n)
+  asks_alone before = rests_end ds w p own n before before v first_turn (rests_alone before)
+
+-- a quiet leaf, where no early error is told and no node is kept
+module _ (ds : List Declaration) (w : Walker) (p : Place) (n : ℕ) (coming : IsComing ds w p None n) (quiet : is_quiet p.node.kind ≡ true) (leaf : p.node.children ≡ nothing) where
+  none_below : steps_below p None n (on_entering p.node.kind p.cursor) p.node.children ≡ []
+  none_below = ap (λ (f : Forest). steps_below p None n (on_entering p.node.kind p.cursor) f) leaf ∙ none_last p (quiet_between p.node.kind quiet) None n
+
+  -- it asks nothing
+  pub asks_none : asked_over ds w p None n ≡ 0
+  asks_none = ap (λ (xs : List Step). asked_by_steps ds (entered ds w p) xs) none_below
+
+  abbrev stepped : Walker
+  stepped = record (noting_node w p.node) { path = w.path ++ p.node ∷ []; cursor = on_entering p.node.kind w.cursor }
+
+  -- on entering it nothing is made or noted
+  only_steps : stepped ≡ record (stands_in ds w p coming.comes coming.shown) { notes = noting p.path p.node w.notes }
+  only_steps = enters_quietly ds w p coming.comes coming.shown p.node stepped refl (quiet_entering p.node.kind quiet) refl
+
+  none_made : after_all ds (entered ds w p) (steps_below p None n (on_entering p.node.kind p.cursor) p.node.children) ≡ w.made
+  none_made = ap (λ (xs : List Step). after_all ds (entered ds w p) xs) none_below ∙ sym (ap (λ (v : Walker). v.made) only_steps)
+
+  same_cursor : on_leaving p.node.kind (cursor_after p.node p.is_ambient (on_entering p.node.kind p.cursor) p.node.children) ≡ w.cursor
+  same_cursor =
+      ap (λ (f : Forest). on_leaving p.node.kind (cursor_after p.node p.is_ambient (on_entering p.node.kind p.cursor) f)) leaf
+      ∙ quiet_cursor p.node.kind quiet p.cursor
+      ∙ sym coming.comes.cursor
+
+  none_noted : leaving_notes p.node (noted_inside p.node p.node.children (noting p.path p.node w.notes)) ≡ w.notes
+  none_noted =
+      ap (λ (f : Forest). leaving_notes p.node (noted_inside p.node f (noting p.path p.node w.notes))) leaf
+      ∙ leaves_nothing p.node (noting p.path p.node w.notes) (quiet_behind p.node.kind quiet)
+      ∙ sym (ap (λ (v : Walker). v.notes) only_steps)
+
+  -- so a walk over it changes nothing
+  pub walks_nowhere : w.checks ≡ false → w.nodes ≡ None → walked_over ds w p None n ≡ w
+  walks_nowhere off none =
+      let steps : List Step = steps_below p None n (on_entering p.node.kind p.cursor) p.node.children in
+      let told : ◌≡◌ {A = Telling} (telling_past w.checks w.source ds (told_within ds w p None n) (leaving p)) (telling_past false w.source ds (record (telling_of w) { made = entered ds w p }) (leaving p)) =
+      λ i. telling_past (off i) w.source ds (telling_along (off i) w.source ds (record (telling_of w) { made = entered ds w p }) (none_below i)) (leaving p) in
+      let kept : option_map (all_listed (entering p ∷ steps)) w.nodes ≡ w.nodes = ap (option_map (all_listed (entering p ∷ steps))) none ∙ sym none in
+      λ i. record w {
+        made = none_made i;
+        cursor = same_cursor i;
+        nodes = kept i;
+        notes = none_noted i;
+        said = (told i).said;
+        counted = (told i).counted;
+      }
+
+-- what is known of a child that is passed over
+pub record Passed (w : Walker) (turn : Turn) (parent : Node) (r : Role) (child : Node) : Type 0 where
+  pub off : w.checks ≡ false
+  pub alike : stands_alike turn.acts parent r ≡ true
+  pub quiet : is_quiet child.kind ≡ true
+  pub leaf : child.children ≡ nothing
+  pub unkept : w.nodes ≡ None
+
+pub what_passes : (w : Walker) (turn : Turn) (parent : Node) (r : Role) (child : Node) → is_passed w turn parent r child ≡ true → Passed w turn parent r child
+what_passes w turn parent r child h = by w.checks (stands_alike turn.acts parent r) (is_quiet child.kind) (is_leaf child.children) w.nodes refl refl refl refl refl h
+  where
+    by : (a b c d : Bool) (o : Option Entered) → w.checks ≡ a → stands_alike turn.acts parent r ≡ b → is_quiet child.kind ≡ c → is_leaf child.children ≡ d → w.nodes ≡ o → (not a && b && c && d && not (is_some o)) ≡ true → Passed w turn parent r child
+    by false true true true None e f g k l h = record { off = e; alike = f; quiet = g; leaf = no_children child.children k; unkept = l }
+    by false true true true (Some x) e f g k l h = absurd cc
+    by false true true false o e f g k l h = absurd cc
+    by false true false d o e f g k l h = absurd cc
+    by false false c d o e f g k l h = absurd cc
+    by true b c d o e f g k l h = absurd cc
+
+-- a walk that stands between two children and passes the first over has gone over it
+pub rests_passed : (ds : List Declaration) (first : Walker) (p : Place) (own : Option OpenScope) (n : ℕ) (child : Role × Node) (rest : List (Role × Node)) (w : Walker) (turn : Turn) (before now : ℕ)
+    → Rests ds first p own n before now w turn (forest_of (child ∷ rest)) → is_passed w turn p.node child.0 child.1 ≡ true
+    → Rests ds first p own n before now w turn (forest_of rest)
+rests_passed ds first p own n child rest w turn before now h passed =
+    let known : Passed w turn p.node child.0 child.1 = what_passes w turn p.node child.0 child.1 passed in
+    let scope : Option OpenScope = scope_at p child.0 h.scope h.next in
+    let next : ℕ = next_at p child.0 h.scope h.next in
+    let place : Place = place_of p h.scope h.next h.cursor child in
+    let stands = comes_alike ds w turn p h.scope h.next h.cursor h.start (forest_of (child ∷ rest)) p.node child.0 child.1 refl known.alike h.between in
+    let comes : IsComing ds w place None next = comes_to_child ds p h.scope h.next h.cursor h.start child rest w w turn h.between h.kept h.ready h.limit stands.0 in
+    let over : w ≡ walked_over ds w place None next = sym (walks_nowhere ds w place next comes known.quiet known.leaf known.off known.unkept) in
+    let still : turn.acts ≡ false = (are_alike turn.acts p.node child.0 known.alike).0 in
+    let even : acts_between p.node.kind ≡ false = sym h.between.stands.acts ∙ still in
+    let back : w ≡ record w { current = turn.outer; is_ambient = turn.is_ambient } =
+    λ i. record w { current = (h.between.within.current ∙ sym h.between.stands.outer) i; is_ambient = (h.between.is_ambient ∙ sym h.between.stands.is_ambient) i } in
+    let ended = ends_alike ds w w turn p scope (start_at p child.0 h.scope h.start w.made) w.cursor p.node.kind child.0 (forest_of rest) refl still stands.1 back in
+    let child_asks : now ≡ raised now (asked_over ds w place None next) = sym (raised_none now) ∙ ap (raised now) (sym (asks_none ds w place next comes known.quiet known.leaf)) in
+    let end_asks : now ≡ raised now (asked_by_steps ds w.made (ending_after p child.0 scope (forest_of rest))) =
+    sym (raised_none now) ∙ ap (λ (xs : List Step). raised now (asked_by_steps ds w.made xs)) (sym (none_ends p even child.0 scope (forest_of rest))) in
+    let asks = left_past ds p h.scope h.next h.cursor h.start child rest w w w stands.0 over w now now now ended child_asks end_asks in
+    rests_past ds first p own n child rest w w w w turn turn before now now h stands.0 stands.1 over ended asks
