@@ -5,7 +5,7 @@ use Rattle.semantic_kinds.specs.declared.kind.AstType.{AstType}
 use Rattle.semantic_kinds.specs.declared.kind.AstType.TheVariants as kinds
 use Rattle.semantic_kinds.specs.declared.role.Role.TheVariants as roles
 use Rattle.semantic_tree.specs.declared.node.Node.{Node}
-use Rattle.semantic_tree.specs.Views.{is_kind, has_child, all_in}
+use Rattle.semantic_tree.specs.Views.{is, has_child, all_in}
 use Rattle.semantic_diagnostics.specs.declared.diagnostic.Diagnostic.{Diagnostic}
 use Rattle.semantic_diagnostics.specs.Types.{ts_export_assignment_cannot_be_used_with_other_exports}
 use Rattle.check_model.specs.Search.{row_if, rows_if}
@@ -25,7 +25,7 @@ exports statement = exports_by statement.kind statement
 
 -- what is said of an export assignment beside other exports
 abbrev pub assignment_row : Node → List Diagnostic
-assignment_row statement = row_if (is_kind kinds.TSExportAssignment statement) (ts_export_assignment_cannot_be_used_with_other_exports statement.span)
+assignment_row statement = row_if (is kinds.TSExportAssignment statement) (ts_export_assignment_cannot_be_used_with_other_exports statement.span)
 
 -- an export assignment is the only export of its list of statements (TypeScript 2309)
 abbrev pub export_assignment_rows : List Node → List Diagnostic

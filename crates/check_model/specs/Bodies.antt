@@ -4,7 +4,7 @@ use Rattle.std.specs.List.{find}
 use Rattle.semantic_kinds.specs.declared.kind.AstType.{AstType}
 use Rattle.semantic_tree.specs.declared.node.Node.{Node}
 use Rattle.semantic_tree.specs.KindGroups.{is_loop}
-use Rattle.semantic_tree.specs.Views.{is_kind, has_text}
+use Rattle.semantic_tree.specs.Views.{is, has_text}
 use Rattle.semantic_diagnostics.specs.declared.diagnostic.Diagnostic.{Diagnostic}
 use Rattle.semantic_diagnostics.specs.Statements.{function_declaration_strict, function_declaration_non_strict, with_statement}
 use Rattle.check_model.specs.Sight.{Sight}
@@ -14,7 +14,7 @@ use Rattle.semantic_kinds.specs.declared.kind.AstType.TheVariants as kinds
 
 -- a function that is declared
 abbrev pub is_declared_function : Node → Bool
-is_declared_function node = is_kind kinds.Function node && (has_text (codes "declaration") node || has_text (codes "ts-declare") node)
+is_declared_function node = is kinds.Function node && (has_text (codes "declaration") node || has_text (codes "ts-declare") node)
 
 -- a declared function is no body of a statement, except under `if` in sloppy code (ECMAScript 14.6, 14.7, Annex B.3.3)
 abbrev pub check_function_declaration : Node → Bool → Sight → List Diagnostic
@@ -31,7 +31,7 @@ has_single_body kind = is_loop kind
 
 -- outside its labels the statement is the body of a loop, a `with` or an `if`
 abbrev pub is_single_body : Sight → Bool
-is_single_body s = passes (λ node. has_single_body node.kind) (find (λ node. not (is_kind kinds.LabeledStatement node)) s.path)
+is_single_body s = passes (λ node. has_single_body node.kind) (find (λ node. not (is kinds.LabeledStatement node)) s.path)
 
 -- a declared function has a label only in sloppy code, and not as a body of a statement (ECMAScript 14.13.1, Annex B.3.1)
 abbrev pub check_function_declaration_in_labeled_statement : Node → Sight → List Diagnostic

@@ -5,7 +5,7 @@ use Rattle.std.specs.Option.{option_map, unwrap_or}
 use Rattle.semantic_syntax.specs.declared.spans.Span.{Span}
 use Rattle.semantic_syntax.specs.Sets.{meets}
 use Rattle.semantic_tree.specs.declared.node.Node.{Node}
-use Rattle.semantic_tree.specs.Views.{is_kind, has_text, has_child, all_in, child_in, whose}
+use Rattle.semantic_tree.specs.Views.{is, has_text, has_child, all_in, child_of, whose}
 use Rattle.semantic_tree.specs.KeyNames.{static_name}
 use Rattle.semantic_diagnostics.specs.declared.diagnostic.Diagnostic.{Diagnostic}
 use Rattle.semantic_diagnostics.specs.Names.{redeclaration, private_field_undeclared}
@@ -44,11 +44,11 @@ class_name_rows s =
 
 -- a constructor that has a body
 abbrev pub is_constructor_with_body : Node → Bool
-is_constructor_with_body member = is_kind kinds.MethodDefinition member && (has_text (codes "constructor") member && whose roles.Value (has_child roles.Body) member)
+is_constructor_with_body member = is kinds.MethodDefinition member && (has_text (codes "constructor") member && whose roles.Value (has_child roles.Body) member)
 
 -- where the key of a member stands
 abbrev pub key_span : Node → Span
-key_span member = unwrap_or (option_map (λ key. key.span) (child_in roles.Key member)) member.span
+key_span member = unwrap_or (option_map (λ key. key.span) (child_of roles.Key member)) member.span
 
 -- the key of a member, or all of it where the key has no static name
 abbrev pub member_span : Node → Span
@@ -71,4 +71,4 @@ check_class s = private_use_rows s ++ (class_name_rows s ++ constructor_rows s)
 abbrev pub check_class_redeclaration : Sight → List Diagnostic
 check_class_redeclaration s =
     rows_if (not (is_typescript s))
-    (rows_of_some (λ ident. rows_of_some (λ before. row_if (meets before.flags.bits symbol.Function.bits) (redeclaration ident.text before.span ident.span)) (one_before_last (entries_of s ident))) (child_in roles.Id s.node))
+    (rows_of_some (λ ident. rows_of_some (λ before. row_if (meets before.flags.bits symbol.Function.bits) (redeclaration ident.text before.span ident.span)) (one_before_last (entries_of s ident))) (child_of roles.Id s.node))

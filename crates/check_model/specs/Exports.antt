@@ -8,7 +8,7 @@ use Rattle.semantic_syntax.specs.Tables.{Name, Symbol}
 use Rattle.semantic_kinds.specs.declared.kind.AstType.TheVariants as kinds
 use Rattle.semantic_kinds.specs.declared.role.Role.TheVariants as roles
 use Rattle.semantic_tree.specs.declared.node.Node.{Node}
-use Rattle.semantic_tree.specs.Views.{is_kind, all_in, child_in}
+use Rattle.semantic_tree.specs.Views.{is, all_in, child_of}
 use Rattle.semantic_diagnostics.specs.declared.diagnostic.Diagnostic.{Diagnostic}
 use Rattle.semantic_diagnostics.specs.Names.{redeclaration, undefined_export}
 use Rattle.check_model.specs.Sight.{Sight, entries_in}
@@ -18,11 +18,11 @@ use Rattle.check_model.specs.Assignments.{export_assignment_rows}
 
 -- an exported name is not free
 abbrev pub local_rows : Sight → Node → List Diagnostic
-local_rows s local = row_if (is_kind kinds.IdentifierReference local && list_any (λ node. node == local.node_id) s.unresolved) (undefined_export local.text local.span)
+local_rows s local = row_if (is kinds.IdentifierReference local && list_any (λ node. node == local.node_id) s.unresolved) (undefined_export local.text local.span)
 
 -- the same of each name of an export
 abbrev pub export_rows : Sight → Node → List Diagnostic
-export_rows s statement = rows_if (is_kind kinds.ExportNamedDeclaration statement) (flat_map (λ specifier. rows_of_some (local_rows s) (child_in roles.Local specifier)) (all_in roles.Specifiers statement))
+export_rows s statement = rows_if (is kinds.ExportNamedDeclaration statement) (flat_map (λ specifier. rows_of_some (local_rows s) (child_of roles.Local specifier)) (all_in roles.Specifiers statement))
 
 -- a module in JavaScript exports what it declares (ECMAScript 16.2.1.1, ExportedBindings)
 abbrev pub check_unresolved_exports : Sight → List Diagnostic

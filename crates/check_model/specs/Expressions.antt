@@ -6,7 +6,7 @@ use Rattle.std.specs.Str.{bytes_eq}
 use Rattle.semantic_kinds.specs.declared.kind.AstType.{AstType}
 use Rattle.semantic_tree.specs.declared.node.Node.{Node}
 use Rattle.check_model.specs.Groups.{is_function}
-use Rattle.semantic_tree.specs.Views.{is_kind, is_marked, has_text, all_in, child_in}
+use Rattle.semantic_tree.specs.Views.{is, has, has_text, all_in, child_of}
 use Rattle.semantic_tree.specs.Unwrapped.{inner_expression}
 use Rattle.semantic_tree.specs.KeyNames.{static_name}
 use Rattle.semantic_diagnostics.specs.declared.diagnostic.Diagnostic.{Diagnostic}
@@ -24,8 +24,8 @@ use Rattle.semantic_kinds.specs.declared.mark.Mark.TheVariants as mark
 -- a property that is written out: a key, a colon and a value
 abbrev pub is_written_out : Node → Bool
 is_written_out property =
-    is_kind kinds.ObjectProperty property
-    && (has_text (codes "init") property && not (is_marked mark.Method property || (is_marked mark.Shorthand property || is_marked mark.Computed property)))
+    is kinds.ObjectProperty property
+    && (has_text (codes "init") property && not (has mark.Method property || (has mark.Shorthand property || has mark.Computed property)))
 
 -- the key is named `__proto__`
 abbrev pub is_proto : Node → Bool
@@ -37,7 +37,7 @@ named_proto key = if is_proto key then Some key else None
 
 -- the key of a property that sets the prototype
 abbrev pub proto_key : Node → Option Node
-proto_key property = if is_written_out property then option_and_then named_proto (child_in roles.Key property) else None
+proto_key property = if is_written_out property then option_and_then named_proto (child_of roles.Key property) else None
 
 -- what is said of two keys that set the prototype
 abbrev pub proto_rows : Node × Node → List Diagnostic
@@ -52,13 +52,13 @@ check_object_expression s = flat_map proto_rows (neighbours (filter_map proto_ke
 -- what a chain holds
 abbrev pub chained_rows : Node → List Diagnostic
 chained_rows member =
-    rows_if (is_kind kinds.PrivateFieldExpression member) (rows_of_some (λ field. delete_private_field field.span ∷ []) (child_in roles.Field member))
+    rows_if (is kinds.PrivateFieldExpression member) (rows_of_some (λ field. delete_private_field field.span ∷ []) (child_of roles.Field member))
 
 -- what is deleted, without parentheses and wrappers
 abbrev pub deleted_rows : Sight → AstType → Node → List Diagnostic
 deleted_rows s kinds.IdentifierReference operand = row_if (is_strict s) (delete_of_unqualified operand.span)
 deleted_rows s kinds.PrivateFieldExpression operand = delete_private_field operand.span ∷ []
-deleted_rows s kinds.ChainExpression operand = rows_of_some chained_rows (child_in roles.Expression operand)
+deleted_rows s kinds.ChainExpression operand = rows_of_some chained_rows (child_of roles.Expression operand)
 deleted_rows s _ operand = []
 
 -- the same, by the kind of what is deleted
@@ -68,13 +68,13 @@ operand_rows s operand = deleted_rows s operand.kind operand
 -- strict code deletes no name, and no code deletes a private member (ECMAScript 13.5.1.1)
 abbrev pub check_unary_expression : Sight → List Diagnostic
 check_unary_expression s =
-    rows_if (has_text (codes "delete") s.node) (rows_of_some (λ argument. operand_rows s (inner_expression argument)) (child_in roles.Argument s.node))
+    rows_if (has_text (codes "delete") s.node) (rows_of_some (λ argument. operand_rows s (inner_expression argument)) (child_of roles.Argument s.node))
 
 -- ---- await and yield
 
 -- the parent is a parameter, or the child is a rest and its parent a rest parameter
 abbrev pub enters_parameter : Node × Node → Bool
-enters_parameter link = is_kind kinds.FormalParameter link.1 || (is_kind kinds.BindingRestElement link.0 && is_kind kinds.FormalParameterRest link.1)
+enters_parameter link = is kinds.FormalParameter link.1 || (is kinds.BindingRestElement link.0 && is kinds.FormalParameterRest link.1)
 
 -- going outward, a parameter comes before any function
 abbrev pub is_in_parameter : Sight → Bool

@@ -3,7 +3,7 @@ use Rattle.std.specs.Prelude.{List, [], ◌∷◌, Bool, ◌&&◌, ◌||◌, not
 use Rattle.std.specs.List.{find}
 use Rattle.semantic_syntax.specs.Sets.{meets, union}
 use Rattle.semantic_tree.specs.declared.node.Node.{Node}
-use Rattle.semantic_tree.specs.Views.{is_marked, child_in}
+use Rattle.semantic_tree.specs.Views.{has, child_of}
 use Rattle.semantic_diagnostics.specs.declared.diagnostic.Diagnostic.{Diagnostic}
 use Rattle.semantic_diagnostics.specs.Names.{redeclaration}
 use Rattle.semantic_syntax.specs.declared.references.Redeclaration.{Redeclaration}
@@ -29,7 +29,7 @@ may_precede s before =
 -- a plain function in sloppy code, as the last declaration was
 abbrev pub is_sloppy_repeat : Sight → Redeclaration → Bool
 is_sloppy_repeat s before =
-    not (is_strict s) && (not (is_marked mark.Async s.node || is_marked mark.Generator s.node) && meets before.flags.bits symbol.Function.bits)
+    not (is_strict s) && (not (has mark.Async s.node || has mark.Generator s.node) && meets before.flags.bits symbol.Function.bits)
 
 -- the declaration of an async function or of a generator
 abbrev pub is_async_or_generator : Redeclaration → Bool
@@ -50,4 +50,4 @@ redeclared_rows s ident entries =
 abbrev pub check_function_redeclaration : Sight → List Diagnostic
 check_function_redeclaration s =
     rows_if (not (is_typescript s) && (is_declared_function s.node && not (is_function_decl_part_of_if_statement s)))
-    (rows_of_some (λ ident. redeclared_rows s ident (entries_of s ident)) (child_in roles.Id s.node))
+    (rows_of_some (λ ident. redeclared_rows s ident (entries_of s ident)) (child_of roles.Id s.node))

@@ -5,7 +5,7 @@ use Rattle.semantic_syntax.specs.declared.spans.Span.{Span}
 use Rattle.semantic_tree.specs.declared.node.Node.{Node}
 use Rattle.semantic_tree.specs.KindGroups.{is_loop}
 use Rattle.check_model.specs.Groups.{is_jump_boundary, under_labels}
-use Rattle.semantic_tree.specs.Views.{is_kind, has_text, child_in, whose}
+use Rattle.semantic_tree.specs.Views.{is, has_text, child_of, whose}
 use Rattle.semantic_diagnostics.specs.declared.diagnostic.Diagnostic.{Diagnostic}
 use Rattle.semantic_diagnostics.specs.Statements.{invalid_break, invalid_continue, invalid_label_jump_target, invalid_label_target, invalid_label_non_iteration, label_redeclaration}
 use Rattle.check_model.specs.Sight.{Sight}
@@ -19,7 +19,7 @@ is_boundary node = is_jump_boundary node.kind
 
 -- the search for a target ends here
 abbrev pub is_end : Node → Bool
-is_end node = is_boundary node || is_kind kinds.Program node
+is_end node = is_boundary node || is kinds.Program node
 
 -- the target of a `continue`
 abbrev pub is_loop_node : Node → Bool
@@ -27,11 +27,11 @@ is_loop_node node = is_loop node.kind
 
 -- the target of a `break`
 abbrev pub is_loop_or_switch : Node → Bool
-is_loop_or_switch node = is_loop node.kind || is_kind kinds.SwitchStatement node
+is_loop_or_switch node = is_loop node.kind || is kinds.SwitchStatement node
 
 -- the statement has a label of this text
 abbrev pub is_labelled_by : Node → Node → Bool
-is_labelled_by label node = is_kind kinds.LabeledStatement node && whose roles.Label (has_text label.text) node
+is_labelled_by label node = is kinds.LabeledStatement node && whose roles.Label (has_text label.text) node
 
 -- a jump without label needs a target around it
 abbrev pub unlabelled_rows : (Node → Bool) → Diagnostic → List Node → List Diagnostic
@@ -41,13 +41,13 @@ unlabelled_rows is_target refusal path = rows_of_some (λ met. row_if (not (is_t
 abbrev pub continue_rows : Node → Node → List Diagnostic
 continue_rows label target =
     if is_loop_node (under_labels target) then []
-    else rows_of_some (λ own. invalid_label_non_iteration (codes "continue") own.span label.span ∷ []) (child_in roles.Label target)
+    else rows_of_some (λ own. invalid_label_non_iteration (codes "continue") own.span label.span ∷ []) (child_of roles.Label target)
 
 -- a jump with a label needs a statement of that label around it, in the same function
 abbrev pub met_rows : (Node → List Diagnostic) → Node → Node → List Diagnostic
 met_rows target_rows label met =
     if is_boundary met then invalid_label_jump_target label.span ∷ []
-    else (if is_kind kinds.Program met then invalid_label_target label.span ∷ [] else target_rows met)
+    else (if is kinds.Program met then invalid_label_target label.span ∷ [] else target_rows met)
 
 -- what the search for the label meets first
 abbrev pub labelled_rows : (Node → List Diagnostic) → Node → List Node → List Diagnostic
@@ -60,7 +60,7 @@ break_rows (Some label) span path = labelled_rows (λ target. []) label path
 
 -- a `break` has a target in its function (ECMAScript 14.9.1, ContainsUndefinedBreakTarget)
 abbrev pub check_break_statement : Sight → List Diagnostic
-check_break_statement s = break_rows (child_in roles.Label s.node) s.node.span s.path
+check_break_statement s = break_rows (child_of roles.Label s.node) s.node.span s.path
 
 -- a `continue` without label, or with one
 abbrev pub continue_rows_by : Option Node → Span → List Node → List Diagnostic
@@ -69,7 +69,7 @@ continue_rows_by (Some label) span path = labelled_rows (continue_rows label) la
 
 -- a `continue` has a loop as its target in its function (ECMAScript 14.8.1, ContainsUndefinedContinueTarget)
 abbrev pub check_continue_statement : Sight → List Diagnostic
-check_continue_statement s = continue_rows_by (child_in roles.Label s.node) s.node.span s.path
+check_continue_statement s = continue_rows_by (child_of roles.Label s.node) s.node.span s.path
 
 -- the statement around the node in the same function that has the label too
 abbrev pub same_label_around : Node → List Node → Option Node
@@ -78,8 +78,8 @@ same_label_around label path = find_before is_boundary (is_labelled_by label) pa
 -- labels inside each other are different
 abbrev pub own_label_rows : List Node → Node → List Diagnostic
 own_label_rows path label =
-    rows_of_some (λ outer. rows_of_some (λ first. label_redeclaration label.text first.span label.span ∷ []) (child_in roles.Label outer)) (same_label_around label path)
+    rows_of_some (λ outer. rows_of_some (λ first. label_redeclaration label.text first.span label.span ∷ []) (child_of roles.Label outer)) (same_label_around label path)
 
 -- a label is new in its function, inside the labels around it (ECMAScript 14.13.1, ContainsDuplicateLabels)
 abbrev pub check_labeled_statement : Sight → List Diagnostic
-check_labeled_statement s = rows_of_some (own_label_rows s.path) (child_in roles.Label s.node)
+check_labeled_statement s = rows_of_some (own_label_rows s.path) (child_of roles.Label s.node)

@@ -4,7 +4,7 @@ use Rattle.std.specs.List.{find}
 use Rattle.std.specs.Str.{encode_utf8_all}
 use Rattle.semantic_syntax.specs.declared.spans.Span.{Span}
 use Rattle.semantic_tree.specs.declared.node.Node.{Node}
-use Rattle.semantic_tree.specs.Views.{is_marked, has_text, whose}
+use Rattle.semantic_tree.specs.Views.{has, has_text, whose}
 use Rattle.semantic_tree.specs.BoundNames.{is_simple_parameter_list}
 use Rattle.semantic_diagnostics.specs.declared.diagnostic.Diagnostic.{Diagnostic}
 use Rattle.semantic_diagnostics.specs.Names.{legacy_octal, leading_zero_decimal, non_octal_decimal_escape_sequence, illegal_use_strict}
@@ -30,8 +30,8 @@ has_leading_zero (first ∷ second ∷ rest) = first == 48 && is_digit second
 -- what is said of a number with a leading zero, by its base
 abbrev pub leading_zero_rows : Node → List Diagnostic
 leading_zero_rows node =
-    row_if (is_marked mark.Octal node) (legacy_octal node.span)
-    ++ row_if (is_marked mark.Decimal node || is_marked mark.Float node) (leading_zero_decimal node.span)
+    row_if (has mark.Octal node) (legacy_octal node.span)
+    ++ row_if (has mark.Decimal node || has mark.Float node) (leading_zero_decimal node.span)
 
 -- strict code has no numbers with leading zeros (ECMAScript 12.9.3.1)
 abbrev pub check_number_literal : Sight → List Diagnostic

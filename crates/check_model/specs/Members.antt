@@ -4,7 +4,7 @@ use Rattle.std.specs.Prelude.{flat_map}
 use Rattle.std.specs.Option.{option_and_then}
 use Rattle.std.specs.Str.{bytes_eq}
 use Rattle.semantic_tree.specs.declared.node.Node.{Node}
-use Rattle.semantic_tree.specs.Views.{is_kind, is_marked, has_text, child_in, whose}
+use Rattle.semantic_tree.specs.Views.{is, has, has_text, child_of, whose}
 use Rattle.semantic_tree.specs.KeyNames.{static_name}
 use Rattle.semantic_diagnostics.specs.declared.diagnostic.Diagnostic.{Diagnostic}
 use Rattle.semantic_diagnostics.specs.Types.{abstract_elem_in_concrete_class, constructor_implementation_missing, function_implementation_missing}
@@ -19,18 +19,18 @@ use Rattle.semantic_kinds.specs.declared.mark.Mark.TheVariants as mark
 
 -- a property or an accessor, and no method
 abbrev pub is_property : Node → Bool
-is_property member = is_kind kinds.PropertyDefinition member || is_kind kinds.AccessorProperty member
+is_property member = is kinds.PropertyDefinition member || is kinds.AccessorProperty member
 
 -- an abstract member stands in an abstract class (TypeScript 1244, 1253)
 abbrev pub abstract_rows : Node → List Diagnostic
 abstract_rows member =
-    rows_if (is_marked mark.Abstract member) (rows_of_some (λ key. abstract_elem_in_concrete_class (is_property member) key.span ∷ []) (child_in roles.Key member))
+    rows_if (has mark.Abstract member) (rows_of_some (λ key. abstract_elem_in_concrete_class (is_property member) key.span ∷ []) (child_of roles.Key member))
 
 -- ---- methods without body
 
 -- the static name of a member
 abbrev pub member_name : Node → Option (List ℕ)
-member_name member = option_and_then static_name (child_in roles.Key member)
+member_name member = option_and_then static_name (child_of roles.Key member)
 
 -- two static names are equal, or absent both
 abbrev pub same_name : Option (List ℕ) → Option (List ℕ) → Bool
@@ -41,12 +41,12 @@ same_name _ _ = false
 -- a method that only declares
 abbrev pub is_bodiless : Node → Bool
 is_bodiless member =
-    is_kind kinds.MethodDefinition member
-    && (not (is_marked mark.Abstract member || is_marked mark.Optional member) && whose roles.Value (has_text (codes "ts-empty-body")) member)
+    is kinds.MethodDefinition member
+    && (not (has mark.Abstract member || has mark.Optional member) && whose roles.Value (has_text (codes "ts-empty-body")) member)
 
 -- an overload: a method without body, and a method of the same name after it
 abbrev pub is_overload : Node → Node → Bool
-is_overload member after = is_bodiless member && (is_kind kinds.MethodDefinition after && same_name (member_name member) (member_name after))
+is_overload member after = is_bodiless member && (is kinds.MethodDefinition after && same_name (member_name member) (member_name after))
 
 -- what is said of a method without body, or of a constructor
 abbrev pub missing_implementation : Node → Node → Diagnostic
@@ -56,10 +56,10 @@ missing_implementation member key = if has_text (codes "constructor") member the
 abbrev pub implementation_rows : Option Node → Node → Option Node → List Diagnostic
 implementation_rows before member after =
     rows_if (is_bodiless member && (not (passes (is_overload member) after) && (is_some (member_name member) || passes (λ overload. is_overload overload member) before)))
-    (rows_of_some (λ key. missing_implementation member key ∷ []) (child_in roles.Key member))
+    (rows_of_some (λ key. missing_implementation member key ∷ []) (child_of roles.Key member))
 
 -- a class that is not abstract has no abstract members, and code that is not ambient has a body for each method
 abbrev pub check_class : Sight → List Diagnostic
 check_class s =
-    rows_if (not (is_marked mark.Abstract s.node)) (flat_map abstract_rows (members s.node))
+    rows_if (not (has mark.Abstract s.node)) (flat_map abstract_rows (members s.node))
     ++ rows_if (not s.is_ambient) (each_between implementation_rows None (members s.node))

@@ -4,7 +4,7 @@ use Rattle.std.specs.Str.{bytes_eq}
 use Rattle.semantic_kinds.specs.declared.role.Role.TheVariants as roles
 use Rattle.semantic_kinds.specs.declared.mark.Mark.TheVariants as mark
 use Rattle.semantic_tree.specs.declared.node.Node.{Node}
-use Rattle.semantic_tree.specs.Views.{is_marked, has_text, all_in, child_in}
+use Rattle.semantic_tree.specs.Views.{has, has_text, all_in, child_of}
 use Rattle.semantic_tree.specs.BoundNames.{bound_names}
 use Rattle.semantic_diagnostics.specs.declared.diagnostic.Diagnostic.{Diagnostic}
 use Rattle.semantic_diagnostics.specs.Names.{redeclaration}
@@ -19,7 +19,7 @@ is_bodiless_value value = has_text (codes "ts-empty-body") value
 -- a parameter that is a property of the class too
 abbrev pub is_parameter_property : Node → Bool
 is_parameter_property item =
-    is_marked mark.Public item || (is_marked mark.Private item || (is_marked mark.Protected item || (is_marked mark.Readonly item || is_marked mark.Override item)))
+    has mark.Public item || (has mark.Private item || (has mark.Protected item || (has mark.Readonly item || has mark.Override item)))
 
 -- a parameter is no property of the class (TypeScript 2369)
 abbrev pub parameter_rows : Node → List Diagnostic
@@ -37,11 +37,11 @@ is_accessor member = has_text (codes "get") member || has_text (codes "set") mem
 abbrev pub bodiless_rows : Sight → Node → List Diagnostic
 bodiless_rows s value =
     rows_if (has_text (codes "constructor") s.node) (flat_map parameter_rows (items_of value))
-    ++ rows_if (is_accessor s.node && not (is_marked mark.Abstract s.node || s.is_ambient)) (rows_of_some (λ key. accessor_without_body key.span ∷ []) (child_in roles.Key s.node))
+    ++ rows_if (is_accessor s.node && not (has mark.Abstract s.node || s.is_ambient)) (rows_of_some (λ key. accessor_without_body key.span ∷ []) (child_of roles.Key s.node))
 
 -- a constructor without body has no parameter properties, and an accessor has a body (TypeScript 2369, 1005)
 abbrev pub check_method_definition : Sight → List Diagnostic
-check_method_definition s = rows_of_some (λ value. rows_if (is_bodiless_value value) (bodiless_rows s value)) (child_in roles.Value s.node)
+check_method_definition s = rows_of_some (λ value. rows_if (is_bodiless_value value) (bodiless_rows s value)) (child_of roles.Value s.node)
 
 -- ---- names of a signature
 

@@ -6,7 +6,7 @@ use Rattle.semantic_syntax.specs.declared.spans.Span.{Span}
 use Rattle.semantic_kinds.specs.declared.kind.AstType.{AstType}
 use Rattle.semantic_tree.specs.declared.node.Node.{Node}
 use Rattle.semantic_kinds.specs.Classes.{is_member}
-use Rattle.semantic_tree.specs.Views.{is_kind, is_child_in, has_text, whose}
+use Rattle.semantic_tree.specs.Views.{is, is_child_in, has_text, whose}
 use Rattle.semantic_diagnostics.specs.declared.diagnostic.Diagnostic.{Diagnostic}
 use Rattle.semantic_diagnostics.specs.declared.contexts.ReservedKeywordContext.{ReservedKeywordContext}
 use Rattle.semantic_diagnostics.specs.declared.contexts.UnexpectedIdentifierAssignContext.{UnexpectedIdentifierAssignContext}
@@ -69,7 +69,7 @@ is_pattern_part _ = false
 abbrev pub is_second_under : AstType → List Node → Bool
 is_second_under kind [] = false
 is_second_under kind (parent ∷ []) = false
-is_second_under kind (parent ∷ above ∷ rest) = is_kind kind above
+is_second_under kind (parent ∷ above ∷ rest) = is kind above
 
 -- the name is that of a parameter, the rest one included, or of a declaration without pattern
 abbrev pub is_plain_binding : Sight → Bool
@@ -85,7 +85,7 @@ eval_binding_rows s =
 
 -- the innermost variable declaration around the node in its function
 abbrev pub declaration_around : Sight → Option Node
-declaration_around s = find_before (is_kind kinds.Function) (is_kind kinds.VariableDeclaration) s.path
+declaration_around s = find_before (is kinds.Function) (is kinds.VariableDeclaration) s.path
 
 -- a lexical declaration doesn't bind `let` (ECMAScript 14.3.1.1)
 abbrev pub let_rows : Sight → List Diagnostic
@@ -110,7 +110,7 @@ is_target _ = false
 -- an assignment to the name itself
 abbrev pub assigns_to : List ℕ → Node → Bool
 assigns_to name node =
-    is_kind kinds.AssignmentExpression node && whose roles.Left (λ left. is_kind kinds.IdentifierReference left && has_text name left) node
+    is kinds.AssignmentExpression node && whose roles.Left (λ left. is kinds.IdentifierReference left && has_text name left) node
 
 -- what stands around a name writes to it: a target, an update, or an assignment to the name
 abbrev pub writes_to : List ℕ → Node → Bool
@@ -126,15 +126,15 @@ is_bad_write s = is_eval_or_arguments s.node.text && is_strict s && is_written s
 
 -- the child is the value of a property of a class
 abbrev pub is_field_value : Node × Node → Bool
-is_field_value link = is_kind kinds.PropertyDefinition link.1 && is_child_in roles.Value link.1 link.0
+is_field_value link = is kinds.PropertyDefinition link.1 && is_child_in roles.Value link.1 link.0
 
 -- the parent is a static block
 abbrev pub is_static_block : Node × Node → Bool
-is_static_block link = is_kind kinds.StaticBlock link.1
+is_static_block link = is kinds.StaticBlock link.1
 
 -- `arguments` belongs to what is found first going outward: a function, the value of a field, or a static block
 abbrev pub owner_of_arguments : Sight → Option (Node × Node)
-owner_of_arguments s = find (λ link. is_kind kinds.Function link.1 || (is_field_value link || is_static_block link)) (links s)
+owner_of_arguments s = find (λ link. is kinds.Function link.1 || (is_field_value link || is_static_block link)) (links s)
 
 -- fields and static blocks have no `arguments` (ECMAScript 15.7.1, ContainsArguments)
 abbrev pub arguments_rows : Sight → List Diagnostic

@@ -6,7 +6,7 @@ use Rattle.semantic_syntax.specs.declared.spans.Span.{Span}
 use Rattle.semantic_tree.specs.declared.node.Node.{Node}
 use Rattle.check_model.specs.Groups.{is_module_kind, under_namespaces}
 use Rattle.semantic_tree.specs.KindGroups.{is_module_declaration}
-use Rattle.semantic_tree.specs.Views.{is_kind, is_marked, child_in}
+use Rattle.semantic_tree.specs.Views.{is, has, child_of}
 use Rattle.semantic_diagnostics.specs.declared.diagnostic.Diagnostic.{Diagnostic}
 use Rattle.semantic_diagnostics.specs.Types.{not_allowed_namespace_declaration, not_allowed_ambient_module_declaration, nested_ambient_module_declaration, global_scope_augmentation_should_have_declare_modifier}
 use Rattle.check_model.specs.Sight.{Sight}
@@ -25,7 +25,7 @@ places s = filter (λ node. not (is_module_declaration node.kind)) s.path
 
 -- the top of a program, or of a namespace or module
 abbrev pub is_top : Node → Bool
-is_top node = is_kind kinds.Program node || (is_kind kinds.TSModuleBlock node || is_module_kind node.kind)
+is_top node = is kinds.Program node || (is kinds.TSModuleBlock node || is_module_kind node.kind)
 
 -- the nearest place is the top of a program, a namespace or a module
 abbrev pub place_rows : Sight → List Diagnostic
@@ -55,23 +55,23 @@ global_span s = global_span_at s.node.span (first (starts_from 6 (codes "global"
 abbrev pub check_ts_global_declaration : Sight → List Diagnostic
 check_ts_global_declaration s =
     place_rows s
-    ++ row_if (not (is_marked mark.Declare s.node || s.is_ambient)) (global_scope_augmentation_should_have_declare_modifier (global_span s))
+    ++ row_if (not (has mark.Declare s.node || s.is_ambient)) (global_scope_augmentation_should_have_declare_modifier (global_span s))
 
 -- ---- external modules
 
 -- the top of a program, or of an external module at the top of a script
 abbrev pub is_module_place : Bool → List Node → Bool
 is_module_place in_script [] = true
-is_module_place in_script (program ∷ []) = is_kind kinds.Program program
-is_module_place in_script (block ∷ module_node ∷ []) = is_kind kinds.Program block
+is_module_place in_script (program ∷ []) = is kinds.Program program
+is_module_place in_script (block ∷ module_node ∷ []) = is kinds.Program block
 is_module_place in_script (block ∷ module_node ∷ program ∷ above) =
-    is_kind kinds.Program block || (in_script && (is_kind kinds.TSModuleBlock block && (is_kind kinds.TSExternalModuleDeclaration module_node && is_kind kinds.Program program)))
+    is kinds.Program block || (in_script && (is kinds.TSModuleBlock block && (is kinds.TSExternalModuleDeclaration module_node && is kinds.Program program)))
 
 -- the nearest place is a namespace or module, or its block
 abbrev pub is_in_module_kind : List Node → Bool
 is_in_module_kind [] = false
 is_in_module_kind (place ∷ []) = is_module_kind place.kind
-is_in_module_kind (place ∷ above ∷ rest) = is_module_kind place.kind || (is_kind kinds.TSModuleBlock place && is_module_kind above.kind)
+is_in_module_kind (place ∷ above ∷ rest) = is_module_kind place.kind || (is kinds.TSModuleBlock place && is_module_kind above.kind)
 
 -- what is said of an external module elsewhere
 abbrev pub misplaced_module : Sight → Diagnostic
@@ -79,4 +79,4 @@ misplaced_module s = if is_in_module_kind (places s) then nested_ambient_module_
 
 -- an external module stands at the top of a program (TypeScript 1234, 2435)
 abbrev pub check_ts_external_module_declaration : Sight → List Diagnostic
-check_ts_external_module_declaration s = row_if (not (is_module_place (is_script s) (places s))) (misplaced_module s) ++ rows_of_some block_rows (child_in roles.Body s.node)
+check_ts_external_module_declaration s = row_if (not (is_module_place (is_script s) (places s))) (misplaced_module s) ++ rows_of_some block_rows (child_of roles.Body s.node)

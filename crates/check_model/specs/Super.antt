@@ -4,7 +4,7 @@ use Rattle.std.specs.List.{find, take_while}
 use Rattle.std.specs.Option.{option_and_then, option_map, unwrap_or}
 use Rattle.semantic_kinds.specs.declared.kind.AstType.{AstType}
 use Rattle.semantic_tree.specs.declared.node.Node.{Node}
-use Rattle.semantic_tree.specs.Views.{is_kind, is_marked, has_text, has_child, is_child_in}
+use Rattle.semantic_tree.specs.Views.{is, has, has_text, has_child, is_child_in}
 use Rattle.semantic_diagnostics.specs.declared.diagnostic.Diagnostic.{Diagnostic}
 use Rattle.semantic_diagnostics.specs.Functions.{unexpected_super_call, unexpected_super_reference, super_without_derived_class}
 use Rattle.check_model.specs.Sight.{Sight, SeenScope, SeenClass}
@@ -23,7 +23,7 @@ pub data Verdict : Type 0 where
 
 -- a call or a `new`
 abbrev pub is_call_node : Node → Bool
-is_call_node node = is_kind kinds.CallExpression node || is_kind kinds.NewExpression node
+is_call_node node = is kinds.CallExpression node || is kinds.NewExpression node
 
 -- the node, if it is a call or a `new`
 abbrev pub if_call : Node → Option Node
@@ -65,11 +65,11 @@ leaves_value s from class =
 -- the value of a method, a getter or a setter of an object
 abbrev pub is_object_method : Node → Bool
 is_object_method property =
-    is_kind kinds.ObjectProperty property && (is_marked mark.Method property || (has_text (codes "get") property || has_text (codes "set") property))
+    is kinds.ObjectProperty property && (has mark.Method property || (has_text (codes "get") property || has_text (codes "set") property))
 
 -- a method of a class
 abbrev pub is_method : Node → Bool
-is_method member = is_kind kinds.MethodDefinition member
+is_method member = is kinds.MethodDefinition member
 
 -- what a function decides that is reached from its parent
 abbrev pub function_verdict : Sight → Node × Node → Verdict

@@ -5,7 +5,7 @@ use Rattle.std.specs.Option.{option_and_then}
 use Rattle.semantic_syntax.specs.declared.spans.Span.{Span}
 use Rattle.semantic_kinds.specs.declared.kind.AstType.{AstType}
 use Rattle.semantic_tree.specs.declared.node.Node.{Node}
-use Rattle.semantic_tree.specs.Views.{is_kind, is_marked, has_text, child_in, whose, all_in, has_child}
+use Rattle.semantic_tree.specs.Views.{is, has, has_text, child_of, whose, all_in, has_child}
 use Rattle.semantic_tree.specs.Unwrapped.{without_parentheses}
 use Rattle.semantic_kinds.specs.Classes.{is_member}
 use Rattle.semantic_diagnostics.specs.declared.diagnostic.Diagnostic.{Diagnostic}
@@ -27,7 +27,7 @@ unmarked false span = record { start = span.start; end = span.end - 1 }
 
 -- the mark stands in front
 abbrev pub is_at_start : Node → Bool
-is_at_start node = not (is_marked mark.Postfix node)
+is_at_start node = not (has mark.Postfix node)
 
 -- the source text without the mark
 abbrev pub unmarked_text : Sight → Node → List ℕ
@@ -41,7 +41,7 @@ jsdoc_rows s _ node = []
 
 -- an annotation is no `?` or `!` type of JSDoc (TypeScript 17019, 17020)
 abbrev pub check_ts_type_annotation : Sight → List Diagnostic
-check_ts_type_annotation s = rows_of_some (λ node. jsdoc_rows s node.kind node) (child_in roles.Element s.node)
+check_ts_type_annotation s = rows_of_some (λ node. jsdoc_rows s node.kind node) (child_of roles.Element s.node)
 
 -- ---- type predicates
 
@@ -49,8 +49,8 @@ check_ts_type_annotation s = rows_of_some (λ node. jsdoc_rows s node.kind node)
 abbrev pub is_plain_value : Option Node → Bool
 is_plain_value None = true
 is_plain_value (Some parent) =
-    if is_kind kinds.MethodDefinition parent then has_text (codes "method") parent
-    else (if is_kind kinds.ObjectProperty parent then has_text (codes "init") parent else true)
+    if is kinds.MethodDefinition parent then has_text (codes "method") parent
+    else (if is kinds.ObjectProperty parent then has_text (codes "init") parent else true)
 
 -- what is annotated may return a type predicate
 abbrev pub may_return_predicate : AstType → Node → List Node → Bool
@@ -63,7 +63,7 @@ may_return_predicate _ node above = false
 
 -- the path is that of a returned type
 abbrev pub is_predicate_path : List Node → Bool
-is_predicate_path (annotation ∷ node ∷ above) = is_kind kinds.TSTypeAnnotation annotation && may_return_predicate node.kind node above
+is_predicate_path (annotation ∷ node ∷ above) = is kinds.TSTypeAnnotation annotation && may_return_predicate node.kind node above
 is_predicate_path _ = false
 
 -- a type predicate stands where a function's or a method's type is returned (TypeScript 1228)
@@ -78,7 +78,7 @@ holds outer inner = nat_le outer.start inner.start && nat_le inner.end outer.end
 
 -- a conditional type that extends something around the span
 abbrev pub extends_over : Span → Node → Bool
-extends_over span node = is_kind kinds.TSConditionalType node && whose roles.Extends (λ extended. holds extended.span span) node
+extends_over span node = is kinds.TSConditionalType node && whose roles.Extends (λ extended. holds extended.span span) node
 
 -- `infer` stands in what a conditional type extends (TypeScript 1338)
 abbrev pub check_ts_infer_type : Sight → List Diagnostic
@@ -100,7 +100,7 @@ counts_on initializer = is_countable (without_parentheses initializer).kind
 
 -- the last initializer before a member
 abbrev pub last_initializer : List Node → Option Node
-last_initializer earlier = option_and_then (child_in roles.Initializer) (find_last (has_child roles.Initializer) earlier)
+last_initializer earlier = option_and_then (child_of roles.Initializer) (find_last (has_child roles.Initializer) earlier)
 
 -- a member has an initializer, or follows one after which TypeScript can count on
 abbrev pub member_rows : List Node → Node → List Diagnostic
@@ -113,4 +113,4 @@ enum_rows body = each_after member_rows [] (all_in roles.Members body)
 
 -- a member without initializer follows one after which TypeScript can count on (TypeScript 1061)
 abbrev pub check_ts_enum_declaration : Sight → List Diagnostic
-check_ts_enum_declaration s = rows_of_some enum_rows (child_in roles.Body s.node)
+check_ts_enum_declaration s = rows_of_some enum_rows (child_of roles.Body s.node)

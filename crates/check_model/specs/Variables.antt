@@ -3,7 +3,7 @@ use Rattle.std.specs.Prelude.{ℕ, List, ◌++◌, Bool, true, false, ◌&&◌, 
 use Rattle.std.specs.Prelude.{flat_map}
 use Rattle.semantic_syntax.specs.Sets.{meets}
 use Rattle.semantic_tree.specs.declared.node.Node.{Node}
-use Rattle.semantic_tree.specs.Views.{is_kind, is_marked, has_text, has_child, all_in, whose}
+use Rattle.semantic_tree.specs.Views.{is, has, has_text, has_child, all_in, whose}
 use Rattle.semantic_tree.specs.BoundNames.{bound_names}
 use Rattle.semantic_diagnostics.specs.declared.diagnostic.Diagnostic.{Diagnostic}
 use Rattle.semantic_diagnostics.specs.Names.{redeclaration, class_static_block_for_await, class_static_block_await_using}
@@ -19,7 +19,7 @@ use Rattle.semantic_kinds.specs.declared.mark.Mark.TheVariants as mark
 
 -- a static block doesn't await in a loop (ECMAScript 15.7.1, ContainsAwait)
 abbrev pub check_for_of_statement : Sight → List Diagnostic
-check_for_of_statement s = row_if (is_marked mark.Await s.node && is_in_static_block s) (class_static_block_for_await s.node.span)
+check_for_of_statement s = row_if (has mark.Await s.node && is_in_static_block s) (class_static_block_for_await s.node.span)
 
 -- the name of the loop
 abbrev pub loop_name : Bool → List ℕ
@@ -30,7 +30,7 @@ loop_name false = codes "for-of"
 abbrev pub is_bad_initializer : Sight → Node → Bool → Node → Bool
 is_bad_initializer s left for_in declarator =
     has_child roles.Init declarator
-    && ((is_strict s && has_text (codes "var") left) || (not for_in || not (whose roles.Id (is_kind kinds.BindingIdentifier) declarator)))
+    && ((is_strict s && has_text (codes "var") left) || (not for_in || not (whose roles.Id (is kinds.BindingIdentifier) declarator)))
 
 -- what is said of the declarators of a loop's head
 abbrev pub head_rows : Sight → Node → Bool → List Node → List Diagnostic
@@ -39,7 +39,7 @@ head_rows s left for_in declarators =
 
 -- the variable of a loop over something has no initializer (ECMAScript 14.7.5, Annex B.3.5)
 abbrev pub check_for_statement_left : Node → Bool → Sight → List Diagnostic
-check_for_statement_left left for_in s = rows_if (is_kind kinds.VariableDeclaration left) (head_rows s left for_in (all_in roles.Declarators left))
+check_for_statement_left left for_in s = rows_if (is kinds.VariableDeclaration left) (head_rows s left for_in (all_in roles.Declarators left))
 
 -- `using` or `await using`
 abbrev pub is_using : Node → Bool

@@ -6,7 +6,7 @@ use Rattle.semantic_syntax.specs.declared.scope_flags.TheConstants.ScopeFlags as
 use Rattle.semantic_kinds.specs.declared.kind.AstType.{AstType}
 use Rattle.semantic_kinds.specs.declared.kind.AstType.TheVariants as kind
 use Rattle.semantic_model.proofs.Clauses.{kind_is}
-use Rattle.semantic_model.specs.Nodes.{is}
+use Rattle.semantic_tree.specs.Views.{is}
 use Rattle.semantic_model.specs.Element.{Element}
 use Rattle.semantic_model.specs.Class.{PrivateUse}
 use Rattle.semantic_model.specs.Place.{Place, OpenScope, innermost}

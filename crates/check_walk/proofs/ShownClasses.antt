@@ -13,7 +13,7 @@ use Rattle.semantic_kinds.specs.declared.role.Role.{Role}
 use Rattle.semantic_kinds.specs.declared.role.Role.TheVariants as role
 use Rattle.semantic_tree.specs.Forest.{Forest, nothing, tree}
 use Rattle.semantic_tree.specs.declared.node.Node.{Node}
-use Rattle.semantic_model.specs.Nodes.{is, children_of}
+use Rattle.semantic_tree.specs.Views.{is, children_of}
 use Rattle.semantic_model.specs.Place.{Place}
 use Rattle.semantic_model.specs.Element.{Element, elements_of}
 use Rattle.semantic_model.specs.Class.{Class, PrivateUse, uses_under, uses_below, classes_below}

@@ -1,7 +1,7 @@
 -- When what is handed to a check shows a walk at a place.
 use Rattle.std.specs.Prelude.{◌≡◌, ℕ, List, true}
 use Rattle.semantic_kinds.specs.declared.kind.AstType.TheVariants as kind
-use Rattle.semantic_model.specs.Nodes.{is}
+use Rattle.semantic_tree.specs.Views.{is}
 use Rattle.semantic_model.specs.Place.{Place, innermost}
 use Rattle.semantic_model.specs.Ambient.{ambient_inside}
 use Rattle.walk_model.specs.Standing.{Standing}

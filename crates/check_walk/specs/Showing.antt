@@ -4,7 +4,7 @@ use Rattle.std.specs.List.{AllByRecursion}
 use Rattle.semantic_kinds.specs.declared.kind.AstType.TheVariants as kind
 use Rattle.semantic_kinds.specs.declared.role.Role.TheVariants as role
 use Rattle.semantic_tree.specs.Forest.{Forest, nothing, tree}
-use Rattle.semantic_model.specs.Nodes.{is, children_of}
+use Rattle.semantic_tree.specs.Views.{is, children_of}
 use Rattle.semantic_model.specs.Place.{Place}
 use Rattle.class_table.specs.Lists.{ClassLists, IsInside}
 use Rattle.class_table.specs.Told.{FitCurrent}

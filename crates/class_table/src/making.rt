@@ -1,7 +1,7 @@
 //! The elements that the members of a class make.
 ghost use Rattle.std.specs.Prelude.{◌≡◌, true, map, option_map, IfOk};
 ghost use Rattle.semantic_kinds.specs.Classes.{is_ascii_text};
-ghost use Rattle.semantic_model.specs.Nodes.{reads, holds, child_of};
+ghost use Rattle.semantic_tree.specs.Views.{has_text, holds, child_of};
 ghost use Rattle.semantic_model.specs.Element.{is_implemented, method_kind, element_with, element_of_method, element_of, elements_of};
 ghost use Rattle.class_table.specs.Seen.{element_seen};
 
@@ -14,7 +14,7 @@ use std::alloc::{AllocError, Global};
 /// Whether the node has the text, which is one of the words of the grammar.
 fn reads(node: AstKind<'_>, word: &str) -> bool
     requires { is_ascii_text word.now ≡ true }
-    ensures { result ≡ reads word.now node.entry.node.now }
+    ensures { result ≡ has_text word.now node.entry.node.now }
 {
     is_word(node.text().as_str(), word)
 }

@@ -11,7 +11,7 @@ use Rattle.semantic_syntax.specs.Reading.{bindings_of, bound_in, no_symbol, refe
 use Rattle.semantic_syntax.specs.Told.{source_of}
 use Rattle.scoping.specs.Writing.{with_symbol, with_uses, with_home}
 use Rattle.scoping.specs.Writing as writing
-use Rattle.semantic_model.specs.Nodes.{is}
+use Rattle.semantic_tree.specs.Views.{is}
 use Rattle.semantic_model.specs.Place.{Place, OpenScope, at, innermost}
 use Rattle.semantic_model.specs.Cursor.{way_of}
 use Rattle.semantic_model.specs.Declaration.{How, plain, hoisted, moved, caught, Declaration, stands_in}

@@ -8,7 +8,7 @@ use Rattle.semantic_syntax.specs.Tables.{Scope}
 use Rattle.semantic_syntax.specs.Told.{source_of}
 use Rattle.semantic_tree.specs.Tree.{Tree}
 use Rattle.semantic_tree.specs.Faults.{first_fault}
-use Rattle.semantic_model.specs.Nodes.{is}
+use Rattle.semantic_tree.specs.Views.{is}
 use Rattle.semantic_model.specs.Place.{OpenScope, innermost}
 use Rattle.semantic_model.specs.Reference.{Occurrence, reference_at, references}
 use Rattle.semantic_model.specs.Declaration.{Declaration}

@@ -3,7 +3,7 @@ ghost use Rattle.std.specs.Prelude.{◌≡◌, ◌&&◌, ◌||◌, ◌∷◌, []
 ghost use Rattle.semantic_kinds.specs.declared.mark.Mark.TheVariants as mark;
 ghost use Rattle.semantic_syntax.specs.Sets.{meets, union};
 ghost use Rattle.semantic_syntax.specs.declared.symbol_flags.TheConstants.SymbolFlags as symbol;
-ghost use Rattle.semantic_tree.specs.Views.{is_marked};
+ghost use Rattle.semantic_tree.specs.Views.{has};
 ghost use Rattle.semantic_diagnostics.specs.Names as tell;
 ghost use Rattle.check_model.specs.Bodies as bodies;
 ghost use Rattle.check_model.specs.Entries.{before_last};
@@ -53,7 +53,7 @@ fn may_precede(before: &Redeclaration, ctx: &CheckContext<'_, '_>) -> bool
 
 /// Whether the function is neither async nor a generator.
 fn is_plain(kind: AstKind<'_>) -> bool
-    ensures { result ≡ not (is_marked mark.Async kind.entry.node.now || is_marked mark.Generator kind.entry.node.now) }
+    ensures { result ≡ not (has mark.Async kind.entry.node.now || has mark.Generator kind.entry.node.now) }
 {
     !(kind.has_mark(Mark::Async) || kind.has_mark(Mark::Generator))
 }

@@ -2,7 +2,7 @@
 ghost use Rattle.std.specs.Prelude.{◌≡◌, ◌∷◌, []};
 ghost use Rattle.semantic_diagnostics.specs.Functions as tell;
 ghost use Rattle.semantic_kinds.specs.declared.role.Role.TheVariants as roles;
-ghost use Rattle.semantic_tree.specs.Views.{child_in};
+ghost use Rattle.semantic_tree.specs.Views.{child_of};
 ghost use Rattle.check_model.specs.Expressions as rows;
 ghost use Rattle.check_model.specs.Search.{row_if, rows_of_some};
 ghost use Rattle.check_model.specs.Surroundings.{is_strict};
@@ -45,7 +45,7 @@ fn tell_private(alloc: Global, member: AstKind<'_>, out: &mut Diagnostics) -> Re
 /// Tells of the name of a private member.
 #[tactic(auto, using(check_context::proofs::Telling::telling))]
 fn tell_field(alloc: Global, member: AstKind<'_>, out: &mut Diagnostics) -> Result<(), AllocError>
-    ensures { Tells result (rows_of_some (λ field. tell.delete_private_field field.span ∷ []) (child_in roles.Field member.entry.node.now)) out.old out.new }
+    ensures { Tells result (rows_of_some (λ field. tell.delete_private_field field.span ∷ []) (child_of roles.Field member.entry.node.now)) out.old out.new }
 {
     match member.child(Role::Field) {
         Some(field) => tell_private(alloc, field, out),
@@ -68,7 +68,7 @@ fn tell_member(alloc: Global, member: AstKind<'_>, out: &mut Diagnostics) -> Res
 /// Tells of a private member that an optional chain ends with.
 #[tactic(auto, using(check_context::proofs::Telling::telling))]
 fn tell_chain(alloc: Global, chain: AstKind<'_>, out: &mut Diagnostics) -> Result<(), AllocError>
-    ensures { Tells result (rows_of_some rows.chained_rows (child_in roles.Expression chain.entry.node.now)) out.old out.new }
+    ensures { Tells result (rows_of_some rows.chained_rows (child_of roles.Expression chain.entry.node.now)) out.old out.new }
 {
     match chain.child(Role::Expression) {
         Some(member) => tell_member(alloc, member, out),

@@ -5,7 +5,7 @@ use Rattle.semantic_kinds.specs.declared.kind.AstType.TheVariants as kind
 use Rattle.semantic_kinds.specs.declared.role.Role.TheVariants as role
 use Rattle.semantic_tree.specs.declared.node.Node.{Node}
 use Rattle.semantic_syntax.specs.Tables.{Name}
-use Rattle.semantic_model.specs.Nodes.{child_of}
+use Rattle.semantic_tree.specs.Views.{child_of}
 use Rattle.link_model.specs.Module.{Analysed, Below, nodes_of, text_or_empty, source_text}
 
 -- what is asked of a module: the export of a name, or all

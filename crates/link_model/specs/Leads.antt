@@ -3,7 +3,7 @@ use Rattle.std.specs.Prelude.{ℕ, List, [], ◌∷◌, Bool, true, false, Optio
 use Rattle.semantic_kinds.specs.declared.kind.AstType.TheVariants as kind
 use Rattle.semantic_tree.specs.declared.node.Node.{Node}
 use Rattle.semantic_syntax.specs.Tables.{Name}
-use Rattle.semantic_model.specs.Nodes.{is as is_kind}
+use Rattle.semantic_tree.specs.Views.{is as is_kind}
 use Rattle.semantic_model.specs.TablesOf.{is_symbol}
 use Rattle.program_names.specs.Analysis.{Analysis, symbol_at, tied_at}
 use Rattle.link_model.specs.Module.{Analysed, module_names, named, source_text}

@@ -5,7 +5,7 @@ use Rattle.semantic_tree.specs.Tree.{Tree}
 use Rattle.semantic_tree.specs.Forest.{Forest, nothing, tree}
 use Rattle.semantic_tree.specs.declared.node.Node.{Node}
 use Rattle.semantic_syntax.specs.Tables.{Name}
-use Rattle.semantic_model.specs.Nodes.{child_of}
+use Rattle.semantic_tree.specs.Views.{child_of}
 use Rattle.module_set.specs.declared.modules.Module.{Module}
 use Rattle.program_names.specs.Analysis.{Analysis, analysis_of}
 

@@ -9,7 +9,7 @@ use Rattle.std.proofs.lemmas.Option.{slice_get_within, slice_get-get_or}
 use Rattle.reachability.specs.Rows.{Among}
 use Rattle.pair_numbers.specs.Numbering.{Pair}
 use Rattle.semantic_kinds.specs.declared.kind.AstType.TheVariants as kind
-use Rattle.semantic_model.specs.Nodes.{is as is_kind}
+use Rattle.semantic_tree.specs.Views.{is as is_kind}
 use Rattle.semantic_syntax.specs.Tables.{Name}
 use Rattle.semantic_tree.specs.declared.node.Node.{Node}
 use Rattle.link_model.specs.Exports.{Exported, listed, passed_on, collected, declared, by_default, Export, export_of, exports, stars}

@@ -1,7 +1,7 @@
 //! Early errors of classes.
 ghost use Rattle.std.specs.Prelude.{◌≡◌, None, flat_map, not};
 ghost use Rattle.semantic_kinds.specs.declared.mark.Mark.TheVariants as mark;
-ghost use Rattle.semantic_tree.specs.Views.{is_marked};
+ghost use Rattle.semantic_tree.specs.Views.{has};
 ghost use Rattle.check_model.specs.Classes.{members};
 ghost use Rattle.check_model.specs.Members as rows;
 ghost use Rattle.check_model.specs.Search.{each_between, rows_if};
@@ -18,7 +18,7 @@ use std::alloc::{AllocError, Global};
 /// Tells of abstract members of a class that is not abstract.
 #[tactic(auto, using(check_context::proofs::Telling::telling))]
 fn tell_concrete(alloc: Global, kind: AstKind<'_>, out: &mut Diagnostics) -> Result<(), AllocError>
-    ensures { let node = kind.entry.node.now in Tells result (rows_if (not (is_marked mark.Abstract node)) (flat_map rows.abstract_rows (members node))) out.old out.new }
+    ensures { let node = kind.entry.node.now in Tells result (rows_if (not (has mark.Abstract node)) (flat_map rows.abstract_rows (members node))) out.old out.new }
 {
     if kind.has_mark(Mark::Abstract) {
         Ok(())

@@ -2,7 +2,7 @@
 ghost use Rattle.std.specs.Prelude.{◌≡◌, ◌∷◌, ◌&&◌, ◌||◌, [], not, codes, flat_map};
 ghost use Rattle.semantic_kinds.specs.declared.mark.Mark.TheVariants as mark;
 ghost use Rattle.semantic_kinds.specs.declared.role.Role.TheVariants as roles;
-ghost use Rattle.semantic_tree.specs.Views.{child_in, has_text, is_marked};
+ghost use Rattle.semantic_tree.specs.Views.{child_of, has_text, has};
 ghost use Rattle.semantic_diagnostics.specs.Types as tell;
 ghost use Rattle.check_model.specs.Methods as rows;
 ghost use Rattle.check_model.specs.Search.{rows_if, rows_of_some};
@@ -82,7 +82,7 @@ fn is_accessor(kind: AstKind<'_>) -> bool
 
 /// Whether a method is a getter or a setter that is neither abstract nor ambient.
 fn is_plain_accessor(kind: AstKind<'_>, ctx: &CheckContext<'_, '_>) -> bool
-    ensures { let s = sight kind.entry.node.now ctx.now in result ≡ (rows.is_accessor s.node && not (is_marked mark.Abstract s.node || s.is_ambient)) }
+    ensures { let s = sight kind.entry.node.now ctx.now in result ≡ (rows.is_accessor s.node && not (has mark.Abstract s.node || s.is_ambient)) }
 {
     is_accessor(kind) && !(kind.has_mark(Mark::Abstract) || ctx.in_ambient)
 }
@@ -95,7 +95,7 @@ fn tell_accessor(
     ctx: &CheckContext<'_, '_>,
     out: &mut Diagnostics,
 ) -> Result<(), AllocError>
-    ensures { let s = sight kind.entry.node.now ctx.now in Tells result (rows_if (rows.is_accessor s.node && not (is_marked mark.Abstract s.node || s.is_ambient)) (rows_of_some (λ key. tell.accessor_without_body key.span ∷ []) (child_in roles.Key s.node))) out.old out.new }
+    ensures { let s = sight kind.entry.node.now ctx.now in Tells result (rows_if (rows.is_accessor s.node && not (has mark.Abstract s.node || s.is_ambient)) (rows_of_some (λ key. tell.accessor_without_body key.span ∷ []) (child_of roles.Key s.node))) out.old out.new }
 {
     if !is_plain_accessor(kind, ctx) {
         return Ok(());

@@ -4,7 +4,7 @@ ghost use Rattle.std.specs.List.{IsDistinct, list_any};
 ghost use Rattle.std.specs.Map.{keys_of};
 ghost use Rattle.semantic_kinds.specs.declared.kind.AstType.TheVariants as kinds;
 ghost use Rattle.semantic_kinds.specs.declared.role.Role.TheVariants as roles;
-ghost use Rattle.semantic_tree.specs.Views.{all_in, child_in, is_kind};
+ghost use Rattle.semantic_tree.specs.Views.{all_in, child_of, is};
 ghost use Rattle.check_model.specs.Exports as rows;
 ghost use Rattle.check_model.specs.Search.{rows_of_some};
 ghost use Rattle.check_context.specs.Handed.{around, sight, IsContext};
@@ -19,7 +19,7 @@ use std::alloc::{AllocError, Global};
 /// Whether an exported name is declared nowhere (ECMAScript 16.2.1.1, ExportedBindings).
 fn is_undefined(local: AstKind<'_>, ctx: &CheckContext<'_, '_>) -> bool
     requires { IsDistinct nat_eq (keys_of ctx.now.tables.now.references) }
-    ensures { let node = local.entry.node.now in result ≡ (is_kind kinds.IdentifierReference node && list_any (λ other. other == node.node_id) (around ctx.now).unresolved) }
+    ensures { let node = local.entry.node.now in result ≡ (is kinds.IdentifierReference node && list_any (λ other. other == node.node_id) (around ctx.now).unresolved) }
 {
     local.ty() == AstType::IdentifierReference && ctx.is_free(local)
 }
@@ -51,7 +51,7 @@ fn tell_specifier(
     out: &mut Diagnostics,
 ) -> Result<(), AllocError>
     requires { IsDistinct nat_eq (keys_of ctx.now.tables.now.references) }
-    ensures { Tells result (rows_of_some (rows.local_rows (around ctx.now)) (child_in roles.Local specifier.entry.node.now)) out.old out.new }
+    ensures { Tells result (rows_of_some (rows.local_rows (around ctx.now)) (child_of roles.Local specifier.entry.node.now)) out.old out.new }
 {
     match specifier.child(Role::Local) {
         Some(local) => tell_local(alloc, local, ctx, out),
@@ -68,7 +68,7 @@ fn tell_specifiers(
     out: &mut Diagnostics,
 ) -> Result<(), AllocError>
     requires { IsDistinct nat_eq (keys_of ctx.now.tables.now.references) }
-    ensures { Tells result (flat_map (λ specifier. rows_of_some (rows.local_rows (around ctx.now)) (child_in roles.Local specifier)) (all_in roles.Specifiers statement.entry.node.now)) out.old out.new }
+    ensures { Tells result (flat_map (λ specifier. rows_of_some (rows.local_rows (around ctx.now)) (child_of roles.Local specifier)) (all_in roles.Specifiers statement.entry.node.now)) out.old out.new }
 {
     for specifier in statement.children(Role::Specifiers) {
         tell_specifier(alloc, specifier, ctx, out)?;

@@ -5,7 +5,7 @@ use Rattle.semantic_kinds.specs.declared.kind.AstType.{AstType}
 use Rattle.semantic_kinds.specs.declared.kind.AstType.TheVariants as kind
 use Rattle.semantic_kinds.specs.declared.role.Role.TheVariants as role
 use Rattle.semantic_tree.specs.declared.node.Node.{Node}
-use Rattle.semantic_model.specs.Nodes.{child_of}
+use Rattle.semantic_tree.specs.Views.{child_of}
 use Rattle.link_model.specs.Exports as model
 use Rattle.link_model.specs.Imports.{Import, wanted_by}
 use Rattle.link_model.specs.Imports as asked

@@ -3,7 +3,7 @@ ghost use Rattle.std.specs.Prelude.{◌≡◌, option_map};
 ghost use Rattle.std.specs.Str.{chars};
 ghost use Rattle.semantic_kinds.specs.declared.role.Role.TheVariants as role;
 ghost use Rattle.semantic_tree.specs.ChildIter.{shown};
-ghost use Rattle.semantic_model.specs.Nodes.{child_of};
+ghost use Rattle.semantic_tree.specs.Views.{child_of};
 ghost use Rattle.link_model.specs.Exports.{default_name};
 ghost use Rattle.module_entries.specs.Views.{shown_way, shown_export};
 

@@ -3,7 +3,7 @@ use Rattle.std.proofs.Common.{◌≡◌, ℕ, List, [], ◌∷◌, Bool, true, f
 use Rattle.semantic_kinds.specs.declared.kind.AstType.TheVariants as kind
 use Rattle.semantic_syntax.specs.Tables.{Name}
 use Rattle.semantic_tree.specs.declared.node.Node.{Node}
-use Rattle.semantic_model.specs.Nodes.{is as is_kind}
+use Rattle.semantic_tree.specs.Views.{is as is_kind}
 use Rattle.link_model.specs.Exports.{by_default}
 use Rattle.link_model.specs.Imports.{Import}
 use Rattle.link_model.specs.Leads.{Ties, import_of, import_or_symbol, symbol_ends, local_ends, declared_ends, exported_ends}

@@ -3,7 +3,7 @@ ghost use Rattle.std.specs.Prelude.{◌≡◌, ◌==◌, ◌||◌, not, length};
 ghost use Rattle.std.specs.Str.{encode_utf8_all};
 ghost use Rattle.semantic_kinds.specs.declared.mark.Mark.TheVariants as mark;
 ghost use Rattle.semantic_kinds.specs.declared.role.Role.TheVariants as roles;
-ghost use Rattle.semantic_tree.specs.Views.{is_marked, whose};
+ghost use Rattle.semantic_tree.specs.Views.{has, whose};
 ghost use Rattle.semantic_tree.specs.BoundNames.{is_simple_parameter_list};
 ghost use Rattle.semantic_diagnostics.specs.Names as tell;
 ghost use Rattle.check_model.specs.Literals as rows;
@@ -45,7 +45,7 @@ fn has_leading_zero(spelling: &[u8]) -> bool
 /// Tells of a number with a leading zero in the octal base (ECMAScript 12.9.3, LegacyOctalIntegerLiteral).
 #[tactic(auto, using(check_context::proofs::Telling::telling))]
 fn tell_octal(alloc: Global, kind: AstKind<'_>, out: &mut Diagnostics) -> Result<(), AllocError>
-    ensures { Tells result (row_if (is_marked mark.Octal kind.entry.node.now) (tell.legacy_octal kind.entry.node.now.span)) out.old out.new }
+    ensures { Tells result (row_if (has mark.Octal kind.entry.node.now) (tell.legacy_octal kind.entry.node.now.span)) out.old out.new }
 {
     if kind.has_mark(Mark::Octal) {
         out.push(legacy_octal(alloc, kind.span())?)
@@ -57,7 +57,7 @@ fn tell_octal(alloc: Global, kind: AstKind<'_>, out: &mut Diagnostics) -> Result
 /// Tells of a number with a leading zero in base ten (ECMAScript 12.9.3, NonOctalDecimalIntegerLiteral).
 #[tactic(auto, using(check_context::proofs::Telling::telling))]
 fn tell_decimal(alloc: Global, kind: AstKind<'_>, out: &mut Diagnostics) -> Result<(), AllocError>
-    ensures { Tells result (row_if (is_marked mark.Decimal kind.entry.node.now || is_marked mark.Float kind.entry.node.now) (tell.leading_zero_decimal kind.entry.node.now.span)) out.old out.new }
+    ensures { Tells result (row_if (has mark.Decimal kind.entry.node.now || has mark.Float kind.entry.node.now) (tell.leading_zero_decimal kind.entry.node.now.span)) out.old out.new }
 {
     if kind.has_mark(Mark::Decimal) || kind.has_mark(Mark::Float) {
         out.push(leading_zero_decimal(alloc, kind.span())?)

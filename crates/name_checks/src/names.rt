@@ -3,7 +3,7 @@ ghost use Rattle.std.specs.Prelude.{◌≡◌, ◌∷◌, ◌++◌, [], option_m
 ghost use Rattle.std.specs.Str.{chars};
 ghost use Rattle.semantic_kinds.specs.declared.kind.AstType.TheVariants as kinds;
 ghost use Rattle.semantic_tree.specs.ChildIter.{shown};
-ghost use Rattle.semantic_tree.specs.Views.{is_kind};
+ghost use Rattle.semantic_tree.specs.Views.{is};
 ghost use Rattle.semantic_diagnostics.specs.Names as tell;
 ghost use Rattle.node_store.specs.PathLeft.{path_left};
 ghost use Rattle.check_model.specs.Names as rows;
@@ -203,7 +203,7 @@ fn tell_eval_binding(
 
 /// The innermost variable declaration on a path, before any function.
 fn declaration_around<'a>(above: AncestorKinds<'_, 'a>) -> Option<AstKind<'a>>
-    ensures { option_map shown result ≡ find_before (is_kind kinds.Function) (is_kind kinds.VariableDeclaration) (path_left above.entry) }
+    ensures { option_map shown result ≡ find_before (is kinds.Function) (is kinds.VariableDeclaration) (path_left above.entry) }
 {
     let mut left = above;
     while let Some(kind) = left.next() {

@@ -5,7 +5,7 @@ ghost use Rattle.semantic_kinds.specs.Classes.{is_member};
 ghost use Rattle.semantic_kinds.specs.declared.kind.AstType.TheVariants as kinds;
 ghost use Rattle.semantic_tree.specs.ChildIter.{shown};
 ghost use Rattle.semantic_kinds.specs.declared.role.Role.TheVariants as roles;
-ghost use Rattle.semantic_tree.specs.Views.{has_text, is_kind, whose};
+ghost use Rattle.semantic_tree.specs.Views.{has_text, is, whose};
 ghost use Rattle.semantic_tree.specs.declared.node.Node.{Node};
 ghost use Rattle.semantic_diagnostics.specs.Ascii.{is_ascii};
 ghost use Rattle.semantic_diagnostics.specs.Names as tell;
@@ -41,7 +41,7 @@ fn is_target(kind: AstType) -> bool
 
 /// Whether the left of a node is a reference of the name.
 fn has_left(name: AstKind<'_>, node: AstKind<'_>) -> bool
-    ensures { result ≡ whose roles.Left (λ left. is_kind kinds.IdentifierReference left && has_text name.entry.node.now.text left) node.entry.node.now }
+    ensures { result ≡ whose roles.Left (λ left. is kinds.IdentifierReference left && has_text name.entry.node.now.text left) node.entry.node.now }
 {
     match node.child(Role::Left) {
         Some(left) => left.ty() == AstType::IdentifierReference && is_same(left, name),
@@ -105,7 +105,7 @@ fn is_field_value(child: AstKind<'_>, parent: AstKind<'_>) -> bool
 /// Whether `arguments` belongs to the parent, as far as it is reached from the child (ECMAScript 15.7.1,
 /// ContainsArguments).
 fn owns_arguments(child: AstKind<'_>, parent: AstKind<'_>) -> bool
-    ensures { let link : Node × Node = (child.entry.node.now, parent.entry.node.now) in result ≡ (is_kind kinds.Function link.1 || (rows.is_field_value link || rows.is_static_block link)) }
+    ensures { let link : Node × Node = (child.entry.node.now, parent.entry.node.now) in result ≡ (is kinds.Function link.1 || (rows.is_field_value link || rows.is_static_block link)) }
 {
     parent.ty() == AstType::Function
         || is_field_value(child, parent)
@@ -114,7 +114,7 @@ fn owns_arguments(child: AstKind<'_>, parent: AstKind<'_>) -> bool
 
 /// The innermost owner of `arguments` on a way outward, with the child that it is reached from.
 fn owner_on<'a>(links: Links<'_, 'a>) -> Option<(AstKind<'a>, AstKind<'a>)>
-    ensures { option_map link_shown result ≡ find (λ link. is_kind kinds.Function link.1 || (rows.is_field_value link || rows.is_static_block link)) (links_left links.entry) }
+    ensures { option_map link_shown result ≡ find (λ link. is kinds.Function link.1 || (rows.is_field_value link || rows.is_static_block link)) (links_left links.entry) }
 {
     let mut left = links;
     while let Some((child, parent)) = left.next() {

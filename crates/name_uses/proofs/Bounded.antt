@@ -12,7 +12,7 @@ use Rattle.semantic_tree.specs.Tree.{Tree}
 use Rattle.semantic_tree.specs.Faults.{first_fault}
 use Rattle.semantic_tree.specs.declared.node.Node.{Node}
 use Rattle.semantic_kinds.specs.declared.kind.AstType.TheVariants as kind
-use Rattle.semantic_model.specs.Nodes.{is}
+use Rattle.semantic_tree.specs.Views.{is}
 use Rattle.semantic_model.specs.Entries.{Among, times, or_empty}
 use Rattle.semantic_model.specs.Event.{events}
 use Rattle.semantic_model.specs.Fits.{StandOnce, stand_of, stand_in_tree}

@@ -10,7 +10,7 @@ use Rattle.semantic_tree.specs.declared.view.AstKind.{AstKind}
 use Rattle.semantic_tree.specs.Shaped.{IsShaped}
 use Rattle.semantic_tree.specs.Tree.{Tree}
 use Rattle.scoping.specs.NodeEntries.{NodeEntries}
-use Rattle.semantic_model.specs.Nodes.{is}
+use Rattle.semantic_tree.specs.Views.{is}
 use Rattle.semantic_model.specs.Step.{Step, steps}
 use Rattle.program_names.specs.Analysis.{Analysis, analysis_of}
 use Rattle.name_uses.specs.Uses.{own_name, owners}

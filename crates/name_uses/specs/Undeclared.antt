@@ -11,7 +11,7 @@ use Rattle.semantic_syntax.specs.Reading.{scope_flags, chain}
 use Rattle.semantic_tree.specs.Tree.{Tree}
 use Rattle.semantic_syntax.specs.Lookup.{is_arguments}
 use Rattle.semantic_model.specs.Reference.{references}
-use Rattle.semantic_model.specs.Nodes.{is}
+use Rattle.semantic_tree.specs.Views.{is}
 use Rattle.semantic_model.specs.Step.{Step, entering, steps}
 use Rattle.semantic_model.specs.TablesOf.{tables_by}
 

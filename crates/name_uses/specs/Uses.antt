@@ -6,13 +6,13 @@ use Rattle.semantic_kinds.specs.declared.role.Role.TheVariants as role
 use Rattle.semantic_syntax.specs.declared.references.Reference.{Reference}
 use Rattle.semantic_syntax.specs.declared.reference_flags.TheConstants.ReferenceFlags as way
 use Rattle.semantic_tree.specs.declared.node.Node.{Node}
-use Rattle.semantic_model.specs.Nodes.{is, reads, child_of}
+use Rattle.semantic_tree.specs.Views.{is, has_text, child_of}
 use Rattle.semantic_model.specs.Step.{Step, entering}
 use Rattle.program_names.specs.Analysis.{Analysis, symbol_at}
 
 -- a function or class declaration
 abbrev pub is_declaration : Node → Bool
-is_declaration node = holds_kind (kind.Function ∷ kind.Class ∷ []) node.kind && reads (codes "declaration") node
+is_declaration node = holds_kind (kind.Function ∷ kind.Class ∷ []) node.kind && has_text (codes "declaration") node
 
 -- the name of such a declaration
 abbrev pub own_name : Node → Option Node

@@ -16,7 +16,7 @@ use Rattle.scoping.specs.Names.{name_at, IsUnknown, IsNumberOf, IsInterned}
 use Rattle.semantic_tree.specs.Children.{forest_of}
 use Rattle.semantic_tree.specs.declared.node.Node.{Node}
 use Rattle.semantic_tree.proofs.Fits.{drop_here}
-use Rattle.semantic_model.specs.Nodes.{is_role_of}
+use Rattle.semantic_tree.specs.Views.{is_role_of}
 use Rattle.semantic_model.specs.Names.{binding_roles, bound_below, bound_names}
 use Rattle.walk_model.specs.WrittenNames.{Openers, Written, is_written, openers_at, names_in, written_below, written_in}
 use Rattle.namesakes.specs.WrittenNames.{Adds, written_of}

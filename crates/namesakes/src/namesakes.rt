@@ -8,7 +8,7 @@ ghost use Rattle.semantic_syntax.specs.Tables.{Name};
 ghost use Rattle.semantic_model.specs.Names.{bound_names};
 ghost use Rattle.semantic_kinds.specs.declared.kind.AstType.TheVariants.{BindingIdentifier as binding_identifier};
 ghost use Rattle.semantic_kinds.specs.declared.role.Role.TheVariants.{Pattern as pattern_role};
-ghost use Rattle.semantic_model.specs.Nodes.{is, child_of, holds};
+ghost use Rattle.semantic_tree.specs.Views.{is, child_of, holds};
 ghost use Rattle.walk_model.specs.WrittenNames.{is_written, openers_at, is_known_inside, opener_of_names, is_lexical, is_sloppy, counts_as, names_in, written_by, written_in, names_written};
 ghost use Rattle.namesakes.specs.WrittenNames.{Adds, openers_of};
 

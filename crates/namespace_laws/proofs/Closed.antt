@@ -11,7 +11,7 @@ use Rattle.semantic_tree.specs.Nodes.{trees, nodes_in, first_of}
 use Rattle.semantic_tree.specs.declared.node.Node.{Node}
 use Rattle.semantic_kinds.specs.Classes.{holds_kind}
 use Rattle.semantic_model.specs.Entries.{Among}
-use Rattle.semantic_model.specs.Nodes.{is, child_of, children_of}
+use Rattle.semantic_tree.specs.Views.{is, child_of, children_of}
 use Rattle.semantic_model.specs.Namespace.{instantiated, non_instantiated, Item, Reached, counts_as, leads_to, is_module, is_import_equals, is_list, statements, body_items, declaration_in, exported, declares, first_declaring, target_of, item_reached, local_reached, specifier_reached, specifiers_reached, declaration_reached, reached_from, reach}
 use Rattle.namespace_laws.specs.Statements.{lists_inside, items_below, items_from}
 use Rattle.namespace_laws.specs.Descents.{heads}

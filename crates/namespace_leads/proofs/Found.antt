@@ -6,7 +6,7 @@ use Rattle.std.specs.Str.{bytes_eq}
 use Rattle.std.proofs.lemmas.Slice.Eq.{bytes_eq-Decides}
 use Rattle.semantic_syntax.specs.Tables.{Name}
 use Rattle.semantic_tree.specs.declared.node.Node.{Node}
-use Rattle.semantic_model.specs.Nodes.{reads}
+use Rattle.semantic_tree.specs.Views.{has_text}
 use Rattle.semantic_model.specs.Names.{bound_names}
 use Rattle.semantic_model.specs.Namespace.{exported, declares, first_declaring}
 use Rattle.namespace_leads.specs.FirstNames.{Named, with_first, with_names, with_statements}
@@ -57,7 +57,7 @@ same-test a b = go (bytes_eq a b) refl (bytes_eq b a) refl
     go false p true q = let other : bytes_eq a b ≡ true = (bytes_eq-Decides a b).1 (sym ((bytes_eq-Decides b a).0 q)) in let both : true ≡ false = sym other ∙ p in cc
     go false p false q = refl
 
-found_names : (name : Name) (es : List Named) (statement : Node) (ns : List Node) → lookup (bytes_eq name) (with_names es statement ns) ≡ first_or (lookup (bytes_eq name) es) (cond (list_any (reads name) ns) (Some statement) None)
+found_names : (name : Name) (es : List Named) (statement : Node) (ns : List Node) → lookup (bytes_eq name) (with_names es statement ns) ≡ first_or (lookup (bytes_eq name) es) (cond (list_any (has_text name) ns) (Some statement) None)
 found_names name es statement [] = none (lookup (bytes_eq name) es)
   where
     none : (o : Option Node) → o ≡ first_or o None
@@ -65,9 +65,9 @@ found_names name es statement [] = none (lookup (bytes_eq name) es)
     none (Some y) = refl
 found_names name es statement (n ∷ ns) =
     found_names name (with_first es (n.text, statement)) statement ns
-    ∙ ap (λ o. first_or o (cond (list_any (reads name) ns) (Some statement) None)) (found_first name es (n.text, statement))
-    ∙ first_assoc (lookup (bytes_eq name) es) (cond (bytes_eq name n.text) (Some statement) None) (cond (list_any (reads name) ns) (Some statement) None)
-    ∙ ap (λ o. first_or (lookup (bytes_eq name) es) o) (ap (λ b. first_or (cond b (Some statement) None) (cond (list_any (reads name) ns) (Some statement) None)) (same-test name n.text) ∙ either (bytes_eq n.text name) (list_any (reads name) ns))
+    ∙ ap (λ o. first_or o (cond (list_any (has_text name) ns) (Some statement) None)) (found_first name es (n.text, statement))
+    ∙ first_assoc (lookup (bytes_eq name) es) (cond (bytes_eq name n.text) (Some statement) None) (cond (list_any (has_text name) ns) (Some statement) None)
+    ∙ ap (λ o. first_or (lookup (bytes_eq name) es) o) (ap (λ b. first_or (cond b (Some statement) None) (cond (list_any (has_text name) ns) (Some statement) None)) (same-test name n.text) ∙ either (bytes_eq n.text name) (list_any (has_text name) ns))
   where
     either : (b c : Bool) → first_or (cond b (Some statement) None) (cond c (Some statement) None) ≡ cond (b || c) (Some statement) None
     either true c = refl

@@ -5,7 +5,7 @@ ghost use Rattle.semantic_tree.specs.Children.{node_count};
 ghost use Rattle.semantic_tree.specs.Tree.{IsNumbered};
 ghost use Rattle.semantic_model.specs.Entries.{Among};
 ghost use Rattle.semantic_kinds.specs.declared.kind.AstType.TheVariants.{TSNamespaceDeclaration as namespace_declaration};
-ghost use Rattle.semantic_model.specs.Nodes.{is};
+ghost use Rattle.semantic_tree.specs.Views.{is};
 ghost use Rattle.semantic_model.specs.Place.{Place};
 ghost use Rattle.semantic_model.specs.Step.{entering, steps};
 ghost use Rattle.semantic_model.specs.Namespace.{Item, instance_state, nodes_around};

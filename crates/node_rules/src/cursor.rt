@@ -5,9 +5,9 @@
 ghost use Rattle.std.specs.Prelude.{◌≡◌, ◌&&◌, [], ◌∷◌, cond, codes};
 ghost use Rattle.semantic_kinds.specs.Classes.{holds_kind};
 ghost use Rattle.semantic_kinds.specs.declared.kind.AstType.TheVariants.{IdentifierName as identifier_name, PrivateIdentifier as private_identifier};
-ghost use Rattle.semantic_model.specs.Nodes.{reads as reads_word};
-ghost use Rattle.semantic_model.specs.Inner.{inner_expression, is_member_or_chain as is_member_or_chain_node};
-ghost use Rattle.semantic_model.specs.Cursor.{way_of as way_bits, is_write_place as is_write_place_role, read_or_type as read_or_type_bits, exported as exported_bits, equated as equated_bits, qualified as qualified_bits, typed_key as typed_key_bits, at_child as bits_at_child, cursor_before, cursor_behind, on_entering as bits_on_entering, on_leaving as bits_on_leaving};
+ghost use Rattle.semantic_tree.specs.Views.{has_text};
+ghost use Rattle.semantic_tree.specs.Unwrapped.{inner_expression};
+ghost use Rattle.semantic_model.specs.Cursor.{is_member_or_chain as is_member_or_chain_node, way_of as way_bits, is_write_place as is_write_place_role, read_or_type as read_or_type_bits, exported as exported_bits, equated as equated_bits, qualified as qualified_bits, typed_key as typed_key_bits, at_child as bits_at_child, cursor_before, cursor_behind, on_entering as bits_on_entering, on_leaving as bits_on_leaving};
 
 use crate::questions::reads;
 use semantic_kinds::class::{is_member, is_simple_target};
@@ -119,9 +119,8 @@ fn when(is: bool, flags: ReferenceFlags, cursor: ReferenceFlags) -> ReferenceFla
 }
 
 /// Whether the operand of the unary operator is deleted from an object.
-#[tactic(auto, using(crate::proofs::Unwrapping::unwrapping))]
 fn is_deleted_member(parent: AstKind<'_>, argument: AstKind<'_>) -> bool
-    ensures { result ≡ (reads_word (codes "delete") parent.entry.node.now && is_member_or_chain_node (inner_expression argument.entry.node.now)) }
+    ensures { result ≡ (has_text (codes "delete") parent.entry.node.now && is_member_or_chain_node (inner_expression argument.entry.node.now)) }
 {
     reads(parent, "delete") && is_member_or_chain(argument.get_inner_expression())
 }

@@ -3,17 +3,16 @@
 ghost use Rattle.std.specs.Prelude.{◌≡◌, ◌&&◌, codes};
 ghost use Rattle.semantic_kinds.specs.declared.kind.AstType.TheVariants.{IdentifierReference as identifier_reference};
 ghost use Rattle.semantic_kinds.specs.declared.role.Role.TheVariants.{Callee as callee_role};
-ghost use Rattle.semantic_model.specs.Inner.{inner_expression};
-ghost use Rattle.semantic_model.specs.Nodes.{is, holds, child_of, reads as reads_word};
+ghost use Rattle.semantic_tree.specs.Unwrapped.{inner_expression};
+ghost use Rattle.semantic_tree.specs.Views.{is, holds, child_of, has_text};
 ghost use Rattle.semantic_model.specs.TablesOf.{is_direct_eval};
 
 use crate::questions::reads;
 use semantic_tree::{AstKind, AstType, Mark, Role};
 
 /// Whether the expression is the name `eval`, maybe in parentheses or under a type.
-#[tactic(auto, using(crate::proofs::Unwrapping::unwrapping))]
 fn is_eval_name(callee: AstKind<'_>) -> bool
-    ensures { result ≡ (is identifier_reference (inner_expression callee.entry.node.now) && reads_word (codes "eval") (inner_expression callee.entry.node.now)) }
+    ensures { result ≡ (is identifier_reference (inner_expression callee.entry.node.now) && has_text (codes "eval") (inner_expression callee.entry.node.now)) }
 {
     let inner = callee.get_inner_expression();
     inner.ty() == AstType::IdentifierReference && reads(inner, "eval")
@@ -21,7 +20,7 @@ fn is_eval_name(callee: AstKind<'_>) -> bool
 
 /// Whether the callee of a node is the name `eval`.
 fn calls_eval(kind: AstKind<'_>) -> bool
-    ensures { result ≡ holds (λ callee. is identifier_reference (inner_expression callee) && reads_word (codes "eval") (inner_expression callee)) (child_of callee_role kind.entry.node.now) }
+    ensures { result ≡ holds (λ callee. is identifier_reference (inner_expression callee) && has_text (codes "eval") (inner_expression callee)) (child_of callee_role kind.entry.node.now) }
 {
     match kind.child(Role::Callee) {
         Some(callee) => is_eval_name(callee),

@@ -7,8 +7,8 @@ ghost use Rattle.semantic_kinds.specs.declared.kind.AstType.TheVariants.{Variabl
 ghost use Rattle.semantic_kinds.specs.declared.mark.Mark.TheVariants.{TypeOnly as type_only};
 ghost use Rattle.semantic_syntax.specs.declared.symbol_flags.TheConstants.SymbolFlags as symbol;
 ghost use Rattle.semantic_syntax.specs.Sets.{union};
-ghost use Rattle.semantic_model.specs.Names.{is_simple_list};
-ghost use Rattle.semantic_model.specs.Nodes.{is, has, is_with_text};
+ghost use Rattle.semantic_tree.specs.BoundNames.{is_simple_parameter_list};
+ghost use Rattle.semantic_tree.specs.Views.{is, has, is_with_text};
 ghost use Rattle.semantic_model.specs.Place.{Place, no_scope, parent_holds};
 ghost use Rattle.semantic_model.specs.Binder as binder;
 ghost use Rattle.node_rules.specs.Seen.{IsRow, seen, under, path_of};
@@ -213,18 +213,10 @@ fn is_unique_list(list: AstKind<'_>) -> bool
     list.ty() == AstType::FormalParameters && (reads(list, "arrow") || reads(list, "unique"))
 }
 
-/// Whether the list of parameters is simple (ECMAScript 15.1.3, IsSimpleParameterList): plain names alone.
-#[tactic(auto, using(crate::proofs::Simple::simple))]
-pub fn is_simple_list(list: AstKind<'_>) -> bool
-    ensures { result ≡ is_simple_list list.entry.node.now }
-{
-    list.is_simple_parameter_list()
-}
-
 /// What a parameter of the list, which is simple or not, conflicts with. Two may not have one name in an arrow's or a
 /// method's list, in strict code, and in a list that isn't simple (ECMAScript 15.1.1).
 fn parameter_excluded(list: AstKind<'_>, is_simple: bool, flags: ScopeFlags) -> SymbolFlags
-    ensures { is_simple ≡ is_simple_list list.entry.node.now → result.bits ≡ binder.parameter_excluded list.entry.node.now (record no_scope { flags = flags.bits } ∷ []) }
+    ensures { is_simple ≡ is_simple_parameter_list list.entry.node.now → result.bits ≡ binder.parameter_excluded list.entry.node.now (record no_scope { flags = flags.bits } ∷ []) }
 {
     if is_unique_list(list) || flags.is_strict_mode() || !is_simple {
         SymbolFlags::FunctionScopedVariableExcludes.union(SymbolFlags::FunctionScopedVariable)
@@ -235,7 +227,7 @@ fn parameter_excluded(list: AstKind<'_>, is_simple: bool, flags: ScopeFlags) -> 
 
 /// A parameter of the list, which is simple or not, in a scope with the flags (ECMAScript 15.1.1, 15.2.1).
 pub fn parameter_row(list: AstKind<'_>, is_simple: bool, flags: ScopeFlags) -> Row
-    ensures { is_simple ≡ is_simple_list list.entry.node.now → IsRow result symbol.FunctionScopedVariable.bits (binder.parameter_excluded list.entry.node.now (record no_scope { flags = flags.bits } ∷ [])) }
+    ensures { is_simple ≡ is_simple_parameter_list list.entry.node.now → IsRow result symbol.FunctionScopedVariable.bits (binder.parameter_excluded list.entry.node.now (record no_scope { flags = flags.bits } ∷ [])) }
 {
     Row {
         flags: SymbolFlags::FunctionScopedVariable,

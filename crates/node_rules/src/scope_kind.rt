@@ -7,7 +7,7 @@ ghost use Rattle.semantic_kinds.specs.declared.role.Role.TheVariants.{Value as v
 ghost use Rattle.semantic_syntax.specs.declared.scope_flags.TheConstants.ScopeFlags as scope;
 ghost use Rattle.semantic_syntax.specs.Sets.{union};
 ghost use Rattle.node_rules.specs.Seen.{path_of, in_role};
-ghost use Rattle.semantic_model.specs.Nodes.{is_with_text, has_use_strict as uses_strict};
+ghost use Rattle.semantic_tree.specs.Views.{is_with_text, has_use_strict as uses_strict};
 ghost use Rattle.semantic_model.specs.ScopeKind.{strict_if as strict_bits, strict_by_body as body_bits, accessor as accessor_bits, value_of, method_flags as method_bits, flags_of_kind};
 
 use crate::questions::reads;

@@ -6,7 +6,7 @@ use Rattle.semantic_kinds.specs.declared.role.Role.{Role}
 use Rattle.semantic_tree.specs.Children.{forest_of}
 use Rattle.semantic_tree.specs.declared.node.Node.{Node}
 use Rattle.semantic_tree.proofs.Fits.{drop_here}
-use Rattle.semantic_model.specs.Nodes.{is_role_of}
+use Rattle.semantic_tree.specs.Views.{is_role_of}
 use Rattle.semantic_model.specs.Names.{binding_roles, bound_below, bound_names}
 use Rattle.node_symbols.specs.declared.exports.Export.{Export}
 use Rattle.node_symbols.specs.Given.{gives, names_given, given_below, given_from}

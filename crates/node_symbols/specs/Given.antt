@@ -7,7 +7,7 @@ use Rattle.semantic_kinds.specs.declared.role.Role.TheVariants as role
 use Rattle.semantic_tree.specs.Forest.{Forest, nothing, tree}
 use Rattle.semantic_tree.specs.declared.node.Node.{Node}
 use Rattle.semantic_model.specs.Names.{bound_names}
-use Rattle.semantic_model.specs.Nodes.{children_of}
+use Rattle.semantic_tree.specs.Views.{children_of}
 use Rattle.program_names.specs.Exported.{is_default_declaration}
 use Rattle.node_symbols.specs.declared.exports.Export.{Export}
 use Rattle.node_symbols.specs.declared.exports.Export.TheVariants as export

@@ -1,5 +1,5 @@
 -- What is found among children with other marks.
-use Rattle.std.proofs.Common.{◌≡◌, ℕ, ◌+◌, List, [], ◌∷◌, Option, Some, None, cond, Bool, true, false, ◌||◌, refl, ap, ◌∙◌, map, option_map, is_none}
+use Rattle.std.proofs.Common.{◌≡◌, ℕ, ◌+◌, List, [], ◌∷◌, Option, Some, None, cond, Bool, true, false, ◌||◌, refl, ap, ◌∙◌, map, option_map}
 use Rattle.std.specs.List.{list_any}
 use Rattle.semantic_kinds.specs.Roles.{same_role}
 use Rattle.semantic_kinds.specs.declared.kind.AstType.{AstType}
@@ -10,7 +10,7 @@ use Rattle.semantic_tree.specs.Forest.{Forest, nothing, tree, count}
 use Rattle.semantic_tree.specs.Nodes.{first_of}
 use Rattle.semantic_tree.specs.declared.node.Node.{Node}
 use Rattle.semantic_model.specs.Inside.{opens, is_inside, any_inside, scopes_in, body_number}
-use Rattle.semantic_model.specs.Nodes.{has_role, is_role_of, children_of, child_of, holds}
+use Rattle.semantic_tree.specs.Views.{has_role, is_role_of, children_of, child_of, has_child, is_there, holds}
 use Rattle.program_laws.specs.Remarked.{remarked, remarked_node}
 
 module _ (f : Node → Marks) where
@@ -40,12 +40,12 @@ module _ (f : Node → Marks) where
   pub child_holds : (r : Role) (test : Node → Bool) → ((n : Node) → test (remarked_node f n) ≡ test n) → (node : Node) → holds test (child_of r (remarked_node f node)) ≡ holds test (child_of r node)
   child_holds r test same node = ap (holds test) (child_same r node) ∙ holds_same test same (child_of r node)
 
-  no_more : (o : Option Node) → is_none (option_map (remarked_node f) o) ≡ is_none o
-  no_more None = refl
-  no_more (Some x) = refl
+  stays_there : (o : Option Node) → is_there (option_map (remarked_node f) o) ≡ is_there o
+  stays_there None = refl
+  stays_there (Some x) = refl
 
-  pub none_same : (r : Role) (node : Node) → is_none (child_of r (remarked_node f node)) ≡ is_none (child_of r node)
-  none_same r node = ap is_none (child_same r node) ∙ no_more (child_of r node)
+  pub there_same : (r : Role) (node : Node) → has_child r (remarked_node f node) ≡ has_child r node
+  there_same r node = ap is_there (child_same r node) ∙ stays_there (child_of r node)
 
   pub any_same : (test : Node → Bool) → ((n : Node) → test (remarked_node f n) ≡ test n) → (xs : List Node) → list_any test (map (remarked_node f) xs) ≡ list_any test xs
   any_same test same [] = refl

@@ -13,23 +13,24 @@ use Rattle.semantic_syntax.specs.declared.reference_flags.TheConstants.Reference
 use Rattle.semantic_tree.specs.Forest.{Forest, nothing, tree}
 use Rattle.semantic_tree.specs.declared.node.Node.{Node}
 use Rattle.semantic_model.specs.Ambient.{ambient_inside, ambient_round}
-use Rattle.semantic_model.specs.Cursor.{read_or_type, written, typed_key, at_child, cursor_before, cursor_behind, on_entering, on_leaving, cursor_after}
-use Rattle.semantic_model.specs.Inner.{is_wrapper, inside_wrapper, inner_expression, is_member_or_chain}
-use Rattle.semantic_model.specs.Nodes.{is, reads}
+use Rattle.semantic_model.specs.Cursor.{read_or_type, written, typed_key, at_child, cursor_before, cursor_behind, on_entering, on_leaving, cursor_after, is_member_or_chain}
+use Rattle.semantic_tree.specs.KindGroups.{is_wrapper}
+use Rattle.semantic_tree.specs.Unwrapped.{unwrapped_in, inner_expression}
+use Rattle.semantic_tree.specs.Views.{is, has_text}
 use Rattle.program_laws.specs.ReadMarks.{KeepsRead}
 use Rattle.program_laws.specs.Remarked.{remarked_node, remarked}
 use Rattle.program_laws.proofs.Children.{child_holds}
 
 module _ (f : Node → Marks) where
   -- what is inside the wrappers
-  inside_same : (outer : Node) (below : Forest) → inside_wrapper (remarked_node f outer) (remarked f below) ≡ remarked_node f (inside_wrapper outer below)
+  inside_same : (outer : Node) (below : Forest) → unwrapped_in is_wrapper role.Expression (remarked_node f outer) (remarked f below) ≡ remarked_node f (unwrapped_in is_wrapper role.Expression outer below)
   inside_same outer nothing = refl
   inside_same outer (tree r k span text marks below id after) = go (same_role r role.Expression) (is_wrapper k) (inside_same inner below) (inside_same outer after)
     where
       inner : Node
       inner = record { kind = k; span = span; text = text; marks = marks; children = below; node_id = id }
 
-      go : (x y : Bool) → inside_wrapper (remarked_node f inner) (remarked f below) ≡ remarked_node f (inside_wrapper inner below) → inside_wrapper (remarked_node f outer) (remarked f after) ≡ remarked_node f (inside_wrapper outer after) → cond x (cond y (inside_wrapper (remarked_node f inner) (remarked f below)) (remarked_node f inner)) (inside_wrapper (remarked_node f outer) (remarked f after)) ≡ remarked_node f (cond x (cond y (inside_wrapper inner below) inner) (inside_wrapper outer after))
+      go : (x y : Bool) → unwrapped_in is_wrapper role.Expression (remarked_node f inner) (remarked f below) ≡ remarked_node f (unwrapped_in is_wrapper role.Expression inner below) → unwrapped_in is_wrapper role.Expression (remarked_node f outer) (remarked f after) ≡ remarked_node f (unwrapped_in is_wrapper role.Expression outer after) → cond x (cond y (unwrapped_in is_wrapper role.Expression (remarked_node f inner) (remarked f below)) (remarked_node f inner)) (unwrapped_in is_wrapper role.Expression (remarked_node f outer) (remarked f after)) ≡ remarked_node f (cond x (cond y (unwrapped_in is_wrapper role.Expression inner below) inner) (unwrapped_in is_wrapper role.Expression outer after))
       go true true h i = h
       go true false h i = refl
       go false y h i = i
@@ -37,7 +38,7 @@ module _ (f : Node → Marks) where
   pub inner_same : (node : Node) → inner_expression (remarked_node f node) ≡ remarked_node f (inner_expression node)
   inner_same node = go (is_wrapper node.kind)
     where
-      go : (b : Bool) → cond b (inside_wrapper (remarked_node f node) (remarked f node.children)) (remarked_node f node) ≡ remarked_node f (cond b (inside_wrapper node node.children) node)
+      go : (b : Bool) → cond b (unwrapped_in is_wrapper role.Expression (remarked_node f node) (remarked f node.children)) (remarked_node f node) ≡ remarked_node f (cond b (unwrapped_in is_wrapper role.Expression node node.children) node)
       go true = inside_same node node.children
       go false = refl
 
@@ -59,7 +60,7 @@ module _ (f : Node → Marks) where
 
     at_child_same : (k : AstType) (parent : Node) (ambient : Bool) (r : Role) (child : Node) (cursor : ℕ) → at_child k (remarked_node f parent) ambient r (remarked_node f child) cursor ≡ at_child k parent ambient r child cursor
     at_child_same kind.AssignmentExpression parent ambient role.Left child cursor = refl
-    at_child_same kind.UnaryExpression parent ambient role.Argument child cursor = ap (λ b. cond (reads (codes "delete") parent && b) way.Write.bits cursor) (deleted_same child)
+    at_child_same kind.UnaryExpression parent ambient role.Argument child cursor = ap (λ b. cond (has_text (codes "delete") parent && b) way.Write.bits cursor) (deleted_same child)
     at_child_same kind.UpdateExpression parent ambient role.Argument child cursor = refl
     at_child_same kind.ComputedMemberExpression parent ambient role.Expression child cursor = refl
     at_child_same kind.ConditionalExpression parent ambient role.Test child cursor = refl

@@ -17,7 +17,7 @@ use Rattle.semantic_model.specs.Binder.{Row, declare, declare_here, ids, ambient
 use Rattle.semantic_model.specs.Declaration.{plain, hoisted, moved, caught, here, outward_to, outward_past}
 use Rattle.semantic_model.specs.Names.{bound_names, names_at}
 use Rattle.semantic_model.specs.Namespace.{InstanceState, non_instantiated, const_enum_only, instantiated, instance_state, nodes_around}
-use Rattle.semantic_model.specs.Nodes.{is, has, is_with_text, children_of}
+use Rattle.semantic_tree.specs.Views.{is, has, is_with_text, children_of}
 use Rattle.semantic_model.specs.Place.{Place, OpenScope, innermost, is_strict, parent_holds}
 use Rattle.program_laws.specs.ReadMarks.{KeepsRead}
 use Rattle.program_laws.proofs.Children.{children_same, child_holds}

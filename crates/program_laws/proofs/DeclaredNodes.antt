@@ -16,7 +16,7 @@ use Rattle.semantic_model.specs.Entries.{Among}
 use Rattle.semantic_model.specs.Event.{Event, declares, takes_over, declared, declared_at, declarations, events, events_of, declares_all, is_barred, staying, placed, placed_by, taken_over, is_catch_body, written_declarations}
 use Rattle.semantic_model.specs.Names.{binding_roles, bound_below, bound_names, names_at}
 use Rattle.semantic_model.specs.Namespace.{InstanceState, non_instantiated, const_enum_only, instantiated, instance_state, nodes_around}
-use Rattle.semantic_model.specs.Nodes.{is, has, is_role_of, children_of}
+use Rattle.semantic_tree.specs.Views.{is, has, is_role_of, children_of}
 use Rattle.semantic_model.specs.Place.{Place, OpenScope, innermost, outside}
 use Rattle.semantic_model.specs.Step.{Step, entering, opening, header_ending, closing, leaving, steps}
 use Rattle.semantic_model.proofs.Clauses.{kind_is}

@@ -10,9 +10,9 @@ use Rattle.semantic_kinds.specs.declared.role.Role.TheVariants as role
 use Rattle.semantic_tree.specs.declared.node.Node.{Node}
 use Rattle.semantic_model.specs.Declaration.{Declaration}
 use Rattle.semantic_model.specs.Event.{takes_over, written_declarations, declared_at, taken_over, declares_all, events_of, events}
-use Rattle.semantic_model.specs.Inner.{inner_expression}
+use Rattle.semantic_tree.specs.Unwrapped.{inner_expression}
 use Rattle.semantic_model.specs.NamespaceStates.{state_at, namespace_states}
-use Rattle.semantic_model.specs.Nodes.{is, reads}
+use Rattle.semantic_tree.specs.Views.{is, has_text}
 use Rattle.semantic_model.specs.Place.{Place, OpenScope, innermost}
 use Rattle.semantic_model.specs.Reference.{entered_reference, references}
 use Rattle.semantic_model.specs.Step.{Step, entering, opening, header_ending, closing, leaving}
@@ -46,8 +46,8 @@ module _ (f : Node → Marks) where
   pub references_same : (ss : List Step) → references (remarked_steps f ss) ≡ references ss
   references_same ss = taken_same entered_reference (remarked_step f) reference_same ss
 
-  callee_same : (node : Node) → (is kind.IdentifierReference (inner_expression (remarked_node f node)) && reads (codes "eval") (inner_expression (remarked_node f node))) ≡ (is kind.IdentifierReference (inner_expression node) && reads (codes "eval") (inner_expression node))
-  callee_same node = ap (λ x. is kind.IdentifierReference x && reads (codes "eval") x) (inner_same f node)
+  callee_same : (node : Node) → (is kind.IdentifierReference (inner_expression (remarked_node f node)) && has_text (codes "eval") (inner_expression (remarked_node f node))) ≡ (is kind.IdentifierReference (inner_expression node) && has_text (codes "eval") (inner_expression node))
+  callee_same node = ap (λ x. is kind.IdentifierReference x && has_text (codes "eval") x) (inner_same f node)
 
   opened_same : (calls : List (List ℕ)) (s : Step) → opened_entry calls (remarked_step f s) ≡ opened_entry calls s
   opened_same calls (entering p) = refl
@@ -63,7 +63,7 @@ module _ (f : Node → Marks) where
     direct_same : (node : Node) → is_direct_eval (remarked_node f node) ≡ is_direct_eval node
     direct_same node =
         λ i. is kind.CallExpression node && not (keeps node mark.Optional refl i)
-        && child_holds f role.Callee (λ callee. is kind.IdentifierReference (inner_expression callee) && reads (codes "eval") (inner_expression callee)) callee_same node i
+        && child_holds f role.Callee (λ callee. is kind.IdentifierReference (inner_expression callee) && has_text (codes "eval") (inner_expression callee)) callee_same node i
 
     eval_same : (s : Step) → eval_in (remarked_step f s) ≡ eval_in s
     eval_same (entering p) = ap (λ b. cond b (Some (numbers p.chain)) None) (direct_same p.node)

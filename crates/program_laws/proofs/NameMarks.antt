@@ -1,5 +1,6 @@
 -- A node with other marks binds the same names.
-use Rattle.std.proofs.Common.{◌≡◌, List, [], ◌∷◌, ◌++◌, cond, Bool, true, false, ◌&&◌, refl, sym, ap, ◌∙◌, map, flat_map}
+use Rattle.std.proofs.Common.{◌≡◌, List, [], ◌∷◌, ◌++◌, cond, Bool, true, false, ◌&&◌, refl, sym, ap, ◌∙◌, map, flat_map, not}
+use Rattle.std.specs.List.{list_all}
 use Rattle.semantic_kinds.specs.declared.kind.AstType.{AstType}
 use Rattle.semantic_kinds.specs.declared.kind.AstType.TheVariants as kind
 use Rattle.semantic_kinds.specs.declared.marks.Marks.{Marks}
@@ -7,10 +8,11 @@ use Rattle.semantic_kinds.specs.declared.role.Role.{Role}
 use Rattle.semantic_kinds.specs.declared.role.Role.TheVariants as role
 use Rattle.semantic_tree.specs.Forest.{Forest, nothing, tree}
 use Rattle.semantic_tree.specs.declared.node.Node.{Node}
-use Rattle.semantic_model.specs.Names.{binding_roles, bound_below, bound_names, names_at, is_plain_parameter, all_plain, is_simple_list}
-use Rattle.semantic_model.specs.Nodes.{is, is_role_of, children_of}
+use Rattle.semantic_model.specs.Names.{binding_roles, bound_below, bound_names, names_at}
+use Rattle.semantic_tree.specs.BoundNames.{is_plain_parameter, is_simple_parameter_list}
+use Rattle.semantic_tree.specs.Views.{is, is_role_of, children_of}
 use Rattle.program_laws.specs.Remarked.{remarked_node, remarked}
-use Rattle.program_laws.proofs.Children.{children_same, child_holds, none_same}
+use Rattle.program_laws.proofs.Children.{children_same, child_holds, there_same}
 use Rattle.semantic_model.proofs.Alike.{map_append}
 
 module _ (f : Node → Marks) where
@@ -43,11 +45,11 @@ module _ (f : Node → Marks) where
   names_same r node = ap (flat_map bound_names) (children_same f r node.children) ∙ all_bound (children_of r node.children)
 
   plain_same : (node : Node) → is_plain_parameter (remarked_node f node) ≡ is_plain_parameter node
-  plain_same node = λ i. child_holds f role.Pattern (is kind.BindingIdentifier) (λ n. refl) node i && none_same f role.Initializer node i
+  plain_same node = λ i. child_holds f role.Pattern (is kind.BindingIdentifier) (λ n. refl) node i && not (there_same f role.Initializer node i)
 
-  all_plain_same : (xs : List Node) → all_plain (map (remarked_node f) xs) ≡ all_plain xs
+  all_plain_same : (xs : List Node) → list_all is_plain_parameter (map (remarked_node f) xs) ≡ list_all is_plain_parameter xs
   all_plain_same [] = refl
   all_plain_same (x ∷ xs) = λ i. plain_same x i && all_plain_same xs i
 
-  pub simple_same : (node : Node) → is_simple_list (remarked_node f node) ≡ is_simple_list node
-  simple_same node = λ i. none_same f role.Rest node i && (ap all_plain (children_same f role.Items node.children) ∙ all_plain_same (children_of role.Items node.children)) i
+  pub simple_same : (node : Node) → is_simple_parameter_list (remarked_node f node) ≡ is_simple_parameter_list node
+  simple_same node = λ i. not (there_same f role.Rest node i) && (ap (list_all is_plain_parameter) (children_same f role.Items node.children) ∙ all_plain_same (children_of role.Items node.children)) i

@@ -12,7 +12,7 @@ use Rattle.semantic_syntax.specs.Tables.{Name}
 use Rattle.semantic_tree.specs.declared.node.Node.{Node}
 use Rattle.semantic_model.specs.Names.{bound_names}
 use Rattle.semantic_model.specs.Namespace.{non_instantiated, const_enum_only, instantiated, Item, Reached, counts_as, leads_to, is_module, is_import_equals, is_list, statements, body_items, declaration_in, exported, declares, first_declaring, target_of, item_reached, local_reached, specifier_reached, specifiers_reached, declaration_reached, reached_from, is_among, new_items, reach, reached_within, greatest, instance_state, nodes_around}
-use Rattle.semantic_model.specs.Nodes.{is, reads, children_of, child_of}
+use Rattle.semantic_tree.specs.Views.{is, has_text, children_of, child_of}
 use Rattle.program_laws.specs.ReadMarks.{KeepsRead}
 use Rattle.program_laws.proofs.Children.{children_same, child_same, any_same, count_same}
 use Rattle.program_laws.proofs.NameMarks.{bound_same}
@@ -59,9 +59,9 @@ module _ (f : Node → Marks) where
 
   declares_same : (name : Name) (x : Node) → declares name (remarked_node f x) ≡ declares name x
   declares_same name x =
-      ap (λ y. list_any (reads name) (bound_names y)) (exported_same x)
-      ∙ ap (list_any (reads name)) (bound_same f (exported x))
-      ∙ any_same f (reads name) (λ n. refl) (bound_names (exported x))
+      ap (λ y. list_any (has_text name) (bound_names y)) (exported_same x)
+      ∙ ap (list_any (has_text name)) (bound_same f (exported x))
+      ∙ any_same f (has_text name) (λ n. refl) (bound_names (exported x))
 
   first_same : (name : Name) (xs : List Node) → first_declaring name (map (remarked_node f) xs) ≡ option_map (remarked_node f) (first_declaring name xs)
   first_same name [] = refl

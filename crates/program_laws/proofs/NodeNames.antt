@@ -10,7 +10,7 @@ use Rattle.semantic_model.specs.Event.{events}
 use Rattle.semantic_model.specs.Fold.{Made, start}
 use Rattle.semantic_model.specs.Hoist.{run}
 use Rattle.semantic_model.specs.NodeTable.{belonging}
-use Rattle.semantic_model.specs.Nodes.{is}
+use Rattle.semantic_tree.specs.Views.{is}
 use Rattle.semantic_model.specs.Place as model
 use Rattle.semantic_model.specs.Reference.{Occurrence, reference_at, entered_reference, references}
 use Rattle.semantic_model.specs.Step.{Step, entering, opening, header_ending, closing, leaving, steps}

@@ -11,7 +11,7 @@ use Rattle.semantic_syntax.specs.SourceTypes.{is_module}
 use Rattle.semantic_syntax.specs.Tables.{Name}
 use Rattle.semantic_syntax.specs.declared.scope_flags.TheConstants.ScopeFlags as scope
 use Rattle.semantic_tree.specs.declared.node.Node.{Node}
-use Rattle.semantic_model.specs.Nodes.{is, is_with_text, has_use_strict, children_of}
+use Rattle.semantic_tree.specs.Views.{is, is_with_text, has_use_strict, children_of}
 use Rattle.semantic_model.specs.Place.{Place, is_strict}
 use Rattle.semantic_model.specs.ScopeKind.{strict_if, strict_by_body, value_of, method_flags, flags_of_kind, opened_scope}
 use Rattle.program_laws.proofs.Children.{children_same, child_holds, any_same, body_same}

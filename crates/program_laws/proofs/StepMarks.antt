@@ -7,7 +7,7 @@ use Rattle.semantic_tree.specs.Tree.{Tree}
 use Rattle.semantic_tree.specs.declared.node.Node.{Node}
 use Rattle.semantic_model.specs.Cursor.{on_entering, on_leaving, cursor_behind}
 use Rattle.semantic_model.specs.Inside.{opens, is_inside, any_inside, header_roles, is_in_header, is_parameter_decorator, scopes_in}
-use Rattle.semantic_model.specs.Nodes.{has_role}
+use Rattle.semantic_tree.specs.Views.{has_role}
 use Rattle.semantic_model.specs.Place.{Place, OpenScope, outside}
 use Rattle.semantic_model.specs.ScopeKind.{opened_scope}
 use Rattle.semantic_model.specs.Step.{Step, entering, opening, header_ending, closing, leaving, steps_below, steps, opening_at, ending_after, opening_last, scope_at, next_at, chain_within, child_place, cursor_past, root_place}

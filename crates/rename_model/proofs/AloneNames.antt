@@ -29,7 +29,7 @@ use Rattle.semantic_model.specs.Event.{events}
 use Rattle.semantic_model.specs.Fold.{State, Made, start}
 use Rattle.semantic_model.specs.Hoist.{run}
 use Rattle.semantic_model.specs.NodeTable.{belonging}
-use Rattle.semantic_model.specs.Nodes.{is, children_of}
+use Rattle.semantic_tree.specs.Views.{is, children_of}
 use Rattle.semantic_model.specs.Place.{parent_holds}
 use Rattle.semantic_model.specs.Step.{entering, steps}
 use Rattle.semantic_model.specs.TablesOf.{tables_of}

@@ -38,7 +38,7 @@ use Rattle.semantic_tree.specs.declared.node.Node.{Node}
 use Rattle.semantic_tree.specs.declared.place.Place.{Place}
 use Rattle.semantic_tree.proofs.ShapedLaws.{no_fault-IsShaped, IsShaped-no_fault}
 use Rattle.semantic_model.specs.Entries.{Among}
-use Rattle.semantic_model.specs.Nodes.{children_of}
+use Rattle.semantic_tree.specs.Views.{children_of}
 use Rattle.semantic_model.proofs.Clauses.{kind_is}
 use Rattle.semantic_model.proofs.Members.{among_left, among_right}
 use Rattle.program_laws.specs.ReadMarks.{without_mark, without_where}

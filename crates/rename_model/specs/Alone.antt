@@ -9,7 +9,7 @@ use Rattle.semantic_tree.specs.declared.node.Node.{Node}
 use Rattle.semantic_tree.specs.declared.place.Place.{Place}
 use Rattle.semantic_model.specs.Binder.{member_names}
 use Rattle.semantic_model.specs.Entries.{Among}
-use Rattle.semantic_model.specs.Nodes.{is, children_of}
+use Rattle.semantic_tree.specs.Views.{is, children_of}
 use Rattle.rename_model.specs.WithName.{is_identifier}
 use Rattle.program_names.specs.Analysis.{symbol_at, tied_at, analysis_of}
 

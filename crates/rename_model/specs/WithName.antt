@@ -10,7 +10,7 @@ use Rattle.semantic_syntax.specs.Tables.{Name}
 use Rattle.semantic_tree.specs.Forest.{Forest, nothing, tree}
 use Rattle.semantic_tree.specs.Tree.{Tree}
 use Rattle.semantic_tree.specs.declared.node.Node.{Node}
-use Rattle.semantic_model.specs.Nodes.{children_of, child_of, holds}
+use Rattle.semantic_tree.specs.Views.{children_of, child_of, holds}
 use Rattle.program_laws.specs.ReadMarks.{without_where}
 
 -- a value that is chosen, or whose left is

@@ -7,7 +7,7 @@ use Rattle.semantic_syntax.specs.Tables.{Name, Tables}
 use Rattle.semantic_tree.specs.declared.node.Node.{Node}
 use Rattle.scoping.specs.NodeEntries.{NodeEntries}
 use Rattle.semantic_syntax.specs.Reading.{reference_of}
-use Rattle.semantic_model.specs.Nodes.{is, reads}
+use Rattle.semantic_tree.specs.Views.{is, has_text}
 
 -- the reference is one of the tables and has no symbol
 abbrev pub is_free : Tables → ℕ → Bool
@@ -20,4 +20,4 @@ is_free_at t nodes node =
 
 -- such an identifier reference has the text
 abbrev pub is_free_named : Name → Tables → NodeEntries → Node → Bool
-is_free_named name t nodes node = is_free_at t nodes node && reads name node
+is_free_named name t nodes node = is_free_at t nodes node && has_text name node

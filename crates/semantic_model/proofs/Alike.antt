@@ -17,7 +17,7 @@ use Rattle.semantic_kinds.specs.declared.kind.AstType.{AstType}
 use Rattle.semantic_kinds.specs.declared.kind.AstType.TheVariants as kind
 use Rattle.semantic_kinds.specs.declared.role.Role.{Role}
 use Rattle.semantic_kinds.specs.declared.role.Role.TheVariants as role
-use Rattle.semantic_model.specs.Nodes.{is, children_of}
+use Rattle.semantic_tree.specs.Views.{is, children_of}
 use Rattle.semantic_model.specs.Binder.{member_names}
 use Rattle.semantic_model.proofs.Clauses.{kind_is, both_hold}
 

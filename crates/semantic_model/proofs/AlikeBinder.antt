@@ -11,7 +11,7 @@ use Rattle.semantic_kinds.specs.declared.kind.AstType.{AstType}
 use Rattle.semantic_kinds.specs.declared.kind.AstType.TheVariants as kind
 use Rattle.semantic_kinds.specs.declared.mark.Mark.TheVariants as mark
 use Rattle.semantic_kinds.specs.declared.role.Role.TheVariants as role
-use Rattle.semantic_model.specs.Nodes.{is, has}
+use Rattle.semantic_tree.specs.Views.{is, has}
 use Rattle.semantic_model.specs.Names.{bound_names}
 use Rattle.semantic_model.specs.Place.{Place, OpenScope, is_strict, parent_holds}
 use Rattle.semantic_model.specs.Declaration.{plain, hoisted, moved, caught, Declaration, here, outward_to, outward_past}

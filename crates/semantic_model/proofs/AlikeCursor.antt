@@ -10,10 +10,11 @@ use Rattle.semantic_kinds.specs.declared.kind.AstType.TheVariants as kind
 use Rattle.semantic_kinds.specs.declared.role.Role.{Role}
 use Rattle.semantic_kinds.specs.declared.role.Role.TheVariants as role
 use Rattle.semantic_syntax.specs.declared.reference_flags.TheConstants.ReferenceFlags as way
-use Rattle.semantic_model.specs.Nodes.{is, reads, children_of, holds}
-use Rattle.semantic_model.specs.Inner.{is_wrapper, inside_wrapper, inner_expression, is_member_or_chain}
+use Rattle.semantic_tree.specs.Views.{is, has_text, children_of, holds}
+use Rattle.semantic_tree.specs.KindGroups.{is_wrapper}
+use Rattle.semantic_tree.specs.Unwrapped.{unwrapped_in, inner_expression}
+use Rattle.semantic_model.specs.Cursor.{is_member_or_chain, written, at_child, cursor_before, cursor_behind, on_entering, on_leaving, cursor_after}
 use Rattle.semantic_model.specs.Ambient.{ambient_inside, ambient_round}
-use Rattle.semantic_model.specs.Cursor.{written, at_child, cursor_before, cursor_behind, on_entering, on_leaving, cursor_after}
 use Rattle.semantic_kinds.specs.Classes.{is_member}
 use Rattle.semantic_model.proofs.Alike.{Alike, no_trees, trees_alike, TextFor, is_name, may_name}
 
@@ -34,7 +35,7 @@ module _ (f : Name → Name) where
     pub same : SameNode a u g
     pub is : b ≡ with_text a u g
 
-  inside_same : (outer : Node) (u : Name) (g : Forest) (below below' : Forest) → SameNode outer u g → Alike f below below' → SameInner (inside_wrapper outer below) (inside_wrapper (with_text outer u g) below')
+  inside_same : (outer : Node) (u : Name) (g : Forest) (below below' : Forest) → SameNode outer u g → Alike f below below' → SameInner (unwrapped_in is_wrapper role.Expression outer below) (unwrapped_in is_wrapper role.Expression (with_text outer u g) below')
   inside_same outer u g nothing nothing s no_trees = record { u = u; g = g; same = s; is = refl }
   inside_same outer u g _ _ s (trees_alike r k span t v marks below below' id after after' text members b a) =
       go (same_role r role.Expression) (is_wrapper k)
@@ -44,7 +45,7 @@ module _ (f : Name → Name) where
       inner : Node
       inner = record { kind = k; span = span; text = t; marks = marks; children = below; node_id = id }
 
-      go : (x y : Bool) → SameInner (inside_wrapper inner below) (inside_wrapper (with_text inner v below') below') → SameInner (inside_wrapper outer after) (inside_wrapper (with_text outer u g) after') → SameInner (cond x (cond y (inside_wrapper inner below) inner) (inside_wrapper outer after)) (cond x (cond y (inside_wrapper (with_text inner v below') below') (with_text inner v below')) (inside_wrapper (with_text outer u g) after'))
+      go : (x y : Bool) → SameInner (unwrapped_in is_wrapper role.Expression inner below) (unwrapped_in is_wrapper role.Expression (with_text inner v below') below') → SameInner (unwrapped_in is_wrapper role.Expression outer after) (unwrapped_in is_wrapper role.Expression (with_text outer u g) after') → SameInner (cond x (cond y (unwrapped_in is_wrapper role.Expression inner below) inner) (unwrapped_in is_wrapper role.Expression outer after)) (cond x (cond y (unwrapped_in is_wrapper role.Expression (with_text inner v below') below') (with_text inner v below')) (unwrapped_in is_wrapper role.Expression (with_text outer u g) after'))
       go true true h i = h
       go true false h i = record { u = v; g = below'; same = record { text = text; children = b }; is = refl }
       go false y h i = i
@@ -52,7 +53,7 @@ module _ (f : Name → Name) where
   pub inner_same : (node : Node) (u : Name) (g : Forest) → SameNode node u g → SameInner (inner_expression node) (inner_expression (with_text node u g))
   inner_same node u g s = go (is_wrapper node.kind)
     where
-      go : (b : Bool) → SameInner (cond b (inside_wrapper node node.children) node) (cond b (inside_wrapper (with_text node u g) g) (with_text node u g))
+      go : (b : Bool) → SameInner (cond b (unwrapped_in is_wrapper role.Expression node node.children) node) (cond b (unwrapped_in is_wrapper role.Expression (with_text node u g) g) (with_text node u g))
       go true = inside_same node u g node.children g s s.children
       go false = record { u = u; g = g; same = s; is = refl }
 
@@ -73,7 +74,7 @@ module _ (f : Name → Name) where
       ap is_member_or_chain w.is ∙ chain_same (inner_expression node) w.u w.g w.same
 
   -- the text of a kind that names nothing
-  plain_reads : (node : Node) (u : Name) (g : Forest) (word : Name) → SameNode node u g → is_name node.kind ≡ false → may_name node.kind ≡ false → reads word (with_text node u g) ≡ reads word node
+  plain_reads : (node : Node) (u : Name) (g : Forest) (word : Name) → SameNode node u g → is_name node.kind ≡ false → may_name node.kind ≡ false → has_text word (with_text node u g) ≡ has_text word node
   plain_reads node u g word s h i = ap (λ t. bytes_eq t word) (s.text.plain h i)
 
   at_child_same : (k : AstType) (parent : Node) (pu : Name) (pg : Forest) (ambient : Bool) (r : Role) (child : Node) (cu : Name) (cg : Forest) (cursor : ℕ) → parent.kind ≡ k → SameNode parent pu pg → SameNode child cu cg → at_child k (with_text parent pu pg) ambient r (with_text child cu cg) cursor ≡ at_child k parent ambient r child cursor
@@ -81,7 +82,7 @@ module _ (f : Name → Name) where
       ap (λ b. cond b cursor way.Value.bits) (plain_reads parent pu pg (codes "=") s (rw e refl) (rw e refl))
   at_child_same kind.UnaryExpression parent pu pg ambient role.Argument child cu cg cursor e s c =
       ap (λ b. cond (b && is_member_or_chain (inner_expression (with_text child cu cg))) way.Write.bits cursor) (plain_reads parent pu pg (codes "delete") s (rw e refl) (rw e refl))
-      ∙ ap (λ b. cond (reads (codes "delete") parent && b) way.Write.bits cursor) (deleted_same child cu cg c)
+      ∙ ap (λ b. cond (has_text (codes "delete") parent && b) way.Write.bits cursor) (deleted_same child cu cg c)
   at_child_same kind.UpdateExpression parent pu pg ambient role.Argument child cu cg cursor e s c = refl
   at_child_same kind.ComputedMemberExpression parent pu pg ambient role.Expression child cu cg cursor e s c = refl
   at_child_same kind.ConditionalExpression parent pu pg ambient role.Test child cu cg cursor e s c = refl

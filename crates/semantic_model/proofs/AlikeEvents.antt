@@ -9,7 +9,7 @@ use Rattle.semantic_kinds.specs.declared.kind.AstType.{AstType}
 use Rattle.semantic_kinds.specs.declared.kind.AstType.TheVariants as kind
 use Rattle.semantic_kinds.specs.declared.mark.Mark.TheVariants as mark
 use Rattle.semantic_kinds.specs.declared.role.Role.TheVariants as role
-use Rattle.semantic_model.specs.Nodes.{is, has}
+use Rattle.semantic_tree.specs.Views.{is, has}
 use Rattle.semantic_model.specs.Names.{names_at}
 use Rattle.semantic_model.specs.Place.{Place, OpenScope, innermost, outside}
 use Rattle.semantic_model.specs.Step.{Step, entering, opening, header_ending, closing, leaving, steps}

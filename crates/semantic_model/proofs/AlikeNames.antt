@@ -1,5 +1,5 @@
 -- What alike nodes bind: the same names, changed.
-use Rattle.std.proofs.Common.{◌≡◌, List, [], ◌∷◌, ◌++◌, cond, Bool, true, false, ◌&&◌, refl, sym, ap, subst, ◌∙◌, flat_map, is_none}
+use Rattle.std.proofs.Common.{◌≡◌, List, [], ◌∷◌, ◌++◌, cond, Bool, true, false, ◌&&◌, refl, sym, ap, subst, ◌∙◌, flat_map, not}
 use Rattle.semantic_syntax.specs.Tables.{Name}
 use Rattle.semantic_tree.specs.Forest.{Forest, nothing}
 use Rattle.semantic_tree.specs.Nodes.{first_of}
@@ -9,8 +9,10 @@ use Rattle.semantic_kinds.specs.declared.kind.AstType.{AstType}
 use Rattle.semantic_kinds.specs.declared.kind.AstType.TheVariants as kind
 use Rattle.semantic_kinds.specs.declared.role.Role.{Role}
 use Rattle.semantic_kinds.specs.declared.role.Role.TheVariants as role
-use Rattle.semantic_model.specs.Nodes.{is, is_role_of, children_of}
-use Rattle.semantic_model.specs.Names.{binding_roles, bound_below, bound_names, names_at, is_plain_parameter, all_plain, is_simple_list}
+use Rattle.std.specs.List.{list_all}
+use Rattle.semantic_tree.specs.Views.{is, is_there, is_role_of, children_of}
+use Rattle.semantic_model.specs.Names.{binding_roles, bound_below, bound_names, names_at}
+use Rattle.semantic_tree.specs.BoundNames.{is_plain_parameter, is_simple_parameter_list}
 use Rattle.semantic_model.proofs.Clauses.{kind_is}
 use Rattle.semantic_model.proofs.Alike.{Alike, no_trees, trees_alike, is_name}
 use Rattle.semantic_model.proofs.AlikeCursor.{with_text, SameNode}
@@ -82,22 +84,22 @@ module _ (f : Name → Name) where
   names_changed r a b h = all_changed (children_of r a.children) (children_of r b.children) (children_same r a.children b.children h)
 
   -- whether there is a child
-  none_same : (r : Role) (a b : Forest) → Alike f a b → is_none (first_of (children_of r b)) ≡ is_none (first_of (children_of r a))
-  none_same r nothing nothing no_trees = refl
-  none_same r _ _ (trees_alike q k span t v marks below below' id after after' text members b a) = go (same_role q r) (none_same r after after' a)
+  there_same : (r : Role) (a b : Forest) → Alike f a b → is_there (first_of (children_of r b)) ≡ is_there (first_of (children_of r a))
+  there_same r nothing nothing no_trees = refl
+  there_same r _ _ (trees_alike q k span t v marks below below' id after after' text members b a) = go (same_role q r) (there_same r after after' a)
     where
-      go : (x : Bool) → is_none (first_of (children_of r after')) ≡ is_none (first_of (children_of r after)) → is_none (first_of (cond x (record { kind = k; span = span; text = v; marks = marks; children = below'; node_id = id } ∷ children_of r after') (children_of r after'))) ≡ is_none (first_of (cond x (record { kind = k; span = span; text = t; marks = marks; children = below; node_id = id } ∷ children_of r after) (children_of r after)))
+      go : (x : Bool) → is_there (first_of (children_of r after')) ≡ is_there (first_of (children_of r after)) → is_there (first_of (cond x (record { kind = k; span = span; text = v; marks = marks; children = below'; node_id = id } ∷ children_of r after') (children_of r after'))) ≡ is_there (first_of (cond x (record { kind = k; span = span; text = t; marks = marks; children = below; node_id = id } ∷ children_of r after) (children_of r after)))
       go true h = refl
       go false h = h
 
   plain_same : (node : Node) (u : Name) (g : Forest) → SameNode f node u g → is_plain_parameter (with_text node u g) ≡ is_plain_parameter node
-  plain_same node u g s = λ i. first_same f role.Pattern (is kind.BindingIdentifier) (λ n v h w. refl) node.children g s.children i && none_same role.Initializer node.children g s.children i
+  plain_same node u g s = λ i. first_same f role.Pattern (is kind.BindingIdentifier) (λ n v h w. refl) node.children g s.children i && not (there_same role.Initializer node.children g s.children i)
 
-  all_plain_same : (xs ys : List Node) → AlikePath f xs ys → all_plain ys ≡ all_plain xs
+  all_plain_same : (xs ys : List Node) → AlikePath f xs ys → list_all is_plain_parameter ys ≡ list_all is_plain_parameter xs
   all_plain_same [] [] h = refl
   all_plain_same [] (y ∷ ys) h = absurd h
   all_plain_same (x ∷ xs) [] h = absurd h
   all_plain_same (x ∷ xs) (y ∷ ys) h = let (u, g, e, s) = h.0 in λ i. (ap is_plain_parameter e ∙ plain_same x u g s) i && all_plain_same xs ys h.1 i
 
-  pub simple_same : (node : Node) (u : Name) (g : Forest) → SameNode f node u g → is_simple_list (with_text node u g) ≡ is_simple_list node
-  simple_same node u g s = λ i. none_same role.Rest node.children g s.children i && all_plain_same (children_of role.Items node.children) (children_of role.Items g) (children_same role.Items node.children g s.children) i
+  pub simple_same : (node : Node) (u : Name) (g : Forest) → SameNode f node u g → is_simple_parameter_list (with_text node u g) ≡ is_simple_parameter_list node
+  simple_same node u g s = λ i. not (there_same role.Rest node.children g s.children i) && all_plain_same (children_of role.Items node.children) (children_of role.Items g) (children_same role.Items node.children g s.children) i

@@ -12,7 +12,7 @@ use Rattle.semantic_kinds.specs.declared.kind.AstType.TheVariants as kind
 use Rattle.semantic_kinds.specs.declared.mark.Mark.TheVariants as mark
 use Rattle.semantic_kinds.specs.declared.role.Role.{Role}
 use Rattle.semantic_kinds.specs.declared.role.Role.TheVariants as role
-use Rattle.semantic_model.specs.Nodes.{is, has, reads, children_of, child_of}
+use Rattle.semantic_tree.specs.Views.{is, has, has_text, children_of, child_of}
 use Rattle.semantic_model.specs.Names.{bound_names}
 use Rattle.semantic_model.specs.Namespace.{InstanceState, non_instantiated, const_enum_only, instantiated, Item, Reached, counts_as, leads_to, is_module, is_import_equals, is_list, statements, body_items, declaration_in, exported, declares, first_declaring, target_of, item_reached, local_reached, specifier_reached, specifiers_reached, declaration_reached, reached_from, is_among, new_items, reach, reached_within, greatest, instance_state, nodes_around}
 use Rattle.semantic_model.proofs.Clauses.{kind_is}
@@ -111,15 +111,15 @@ module _ (f : Name → Name) (k : Keeps f) where
       go true = inner_alike x y (child_of role.Declaration x) (child_of role.Declaration y) h (child_alike role.Declaration x y h)
       go false = h
 
-  any_reads : (name : Name) (xs ys : List Node) → Changed f xs ys → list_any (reads (f name)) ys ≡ list_any (reads name) xs
+  any_reads : (name : Name) (xs ys : List Node) → Changed f xs ys → list_any (has_text (f name)) ys ≡ list_any (has_text name) xs
   any_reads name [] [] h = refl
   any_reads name [] (y ∷ ys) h = absurd h
   any_reads name (x ∷ xs) [] h = absurd h
-  any_reads name (x ∷ xs) (y ∷ ys) h = λ i. (ap (reads (f name)) h.0.1 ∙ k.equal x.text name) i || any_reads name xs ys h.1 i
+  any_reads name (x ∷ xs) (y ∷ ys) h = λ i. (ap (has_text (f name)) h.0.1 ∙ k.equal x.text name) i || any_reads name xs ys h.1 i
 
   declares_same : (name : Name) (x y : Node) → AlikeNode x y → declares (f name) y ≡ declares name x
   declares_same name x y h = let (u, g, e, s) = exported_alike x y h in
-      ap (λ z. list_any (reads (f name)) (bound_names z)) e ∙ any_reads name (bound_names (exported x)) (bound_names (with_text (exported x) u g)) (bound_changed f (exported x) u g s)
+      ap (λ z. list_any (has_text (f name)) (bound_names z)) e ∙ any_reads name (bound_names (exported x)) (bound_names (with_text (exported x) u g)) (bound_changed f (exported x) u g s)
 
   first_same : (name : Name) (xs ys : List Node) → AlikePath f xs ys → AlikeOption (first_declaring name xs) (first_declaring (f name) ys)
   first_same name [] [] h = tt

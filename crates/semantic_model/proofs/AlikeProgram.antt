@@ -12,8 +12,8 @@ use Rattle.semantic_tree.specs.declared.node.Node.{Node}
 use Rattle.semantic_kinds.specs.declared.kind.AstType.TheVariants as kind
 use Rattle.semantic_kinds.specs.declared.mark.Mark.TheVariants as mark
 use Rattle.semantic_kinds.specs.declared.role.Role.TheVariants as role
-use Rattle.semantic_model.specs.Nodes.{is, has, reads}
-use Rattle.semantic_model.specs.Inner.{inner_expression}
+use Rattle.semantic_tree.specs.Views.{is, has, has_text}
+use Rattle.semantic_tree.specs.Unwrapped.{inner_expression}
 use Rattle.semantic_model.specs.Place.{Place}
 use Rattle.semantic_model.specs.Cursor.{on_entering}
 use Rattle.semantic_model.specs.Step.{Step, entering, opening, header_ending, closing, leaving, steps_below, steps, root_place}
@@ -101,13 +101,13 @@ module _ (f : Name → Name) where
         go (inl e) = ap (λ b. is kind.IdentifierReference node && b) (ap (λ t. bytes_eq t (codes "eval")) (s.text.named (subst (λ j. is_name j ≡ true) (sym (kind_is node.kind kind.IdentifierReference e)) refl)) ∙ eval_text node.text)
         go (inr e) = rw e refl
 
-    callee_same : (node : Node) (u : Name) (g : Forest) → SameNode f node u g → (is kind.IdentifierReference (inner_expression (with_text node u g)) && reads (codes "eval") (inner_expression (with_text node u g))) ≡ (is kind.IdentifierReference (inner_expression node) && reads (codes "eval") (inner_expression node))
+    callee_same : (node : Node) (u : Name) (g : Forest) → SameNode f node u g → (is kind.IdentifierReference (inner_expression (with_text node u g)) && has_text (codes "eval") (inner_expression (with_text node u g))) ≡ (is kind.IdentifierReference (inner_expression node) && has_text (codes "eval") (inner_expression node))
     callee_same node u g s =
         let w : SameInner f (inner_expression node) (inner_expression (with_text node u g)) = inner_same f node u g s in
-        ap (λ x. is kind.IdentifierReference x && reads (codes "eval") x) w.is ∙ named_eval (inner_expression node) w.u w.g w.same
+        ap (λ x. is kind.IdentifierReference x && has_text (codes "eval") x) w.is ∙ named_eval (inner_expression node) w.u w.g w.same
 
     direct_same : (node : Node) (u : Name) (g : Forest) → SameNode f node u g → is_direct_eval (with_text node u g) ≡ is_direct_eval node
-    direct_same node u g s = ap (λ b. is kind.CallExpression node && not (has mark.Optional node) && b) (first_same f role.Callee (λ callee. is kind.IdentifierReference (inner_expression callee) && reads (codes "eval") (inner_expression callee)) callee_same node.children g s.children)
+    direct_same node u g s = ap (λ b. is kind.CallExpression node && not (has mark.Optional node) && b) (first_same f role.Callee (λ callee. is kind.IdentifierReference (inner_expression callee) && has_text (codes "eval") (inner_expression callee)) callee_same node.children g s.children)
 
     eval_same : (p q : Place) → SamePlace f p q → eval_in (entering q) ≡ eval_in (entering p)
     eval_same p q s = ap (λ x. eval_in (entering x)) s.is ∙ ap (λ b. cond b (Some (numbers p.chain)) None) (direct_same p.node s.u s.g s.node)

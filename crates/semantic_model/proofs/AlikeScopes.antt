@@ -15,7 +15,7 @@ use Rattle.semantic_kinds.specs.declared.kind.AstType.{AstType}
 use Rattle.semantic_kinds.specs.declared.kind.AstType.TheVariants as kind
 use Rattle.semantic_kinds.specs.declared.role.Role.{Role}
 use Rattle.semantic_kinds.specs.declared.role.Role.TheVariants as role
-use Rattle.semantic_model.specs.Nodes.{is, is_with_text, has_use_strict, has_role, is_role_of, children_of, holds}
+use Rattle.semantic_tree.specs.Views.{is, is_with_text, has_use_strict, has_role, is_role_of, children_of, holds}
 use Rattle.semantic_model.specs.Place.{Place, is_strict}
 use Rattle.semantic_model.specs.Inside.{opens, is_inside, any_inside, scopes_in, body_number}
 use Rattle.semantic_model.specs.ScopeKind.{strict_if, strict_by_body, accessor, value_of, method_flags, flags_of_kind, opened_scope}

@@ -12,7 +12,7 @@ use Rattle.semantic_kinds.specs.declared.role.Role.{Role}
 use Rattle.semantic_kinds.specs.declared.role.Role.TheVariants as role
 use Rattle.semantic_syntax.specs.declared.scope_flags.TheConstants.ScopeFlags as scope
 use Rattle.semantic_syntax.specs.Sets.{meets, union}
-use Rattle.semantic_model.specs.Nodes.{is, has_role}
+use Rattle.semantic_tree.specs.Views.{is, has_role}
 use Rattle.semantic_model.specs.Place.{Place, OpenScope, innermost, outside, is_strict}
 use Rattle.semantic_model.specs.Inside.{opens, is_inside, any_inside, header_roles, is_in_header, is_parameter_decorator, scopes_in, body_number}
 use Rattle.semantic_model.specs.ScopeKind.{strict_if, opened_scope}

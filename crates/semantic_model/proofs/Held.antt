@@ -5,7 +5,7 @@ use Rattle.std.proofs.lemmas.Bool.Decides.{eqb_tells}
 use Rattle.semantic_tree.specs.Forest.{Forest, nothing, tree}
 use Rattle.semantic_kinds.specs.declared.role.Role.{Role}
 use Rattle.semantic_tree.specs.declared.node.Node.{Node}
-use Rattle.semantic_model.specs.Nodes.{has_role}
+use Rattle.semantic_tree.specs.Views.{has_role}
 use Rattle.semantic_tree.specs.Tree.{Tree}
 use Rattle.semantic_model.specs.Place.{Place, OpenScope, outside}
 use Rattle.semantic_model.specs.Inside.{opens, is_inside, scopes_in, is_in_header, header_roles, any_inside, is_parameter_decorator}

@@ -11,7 +11,7 @@ use Rattle.semantic_model.specs.Fold.{State}
 use Rattle.semantic_model.proofs.Held.{less_or, IsEntered, held_ends_once}
 use Rattle.semantic_model.proofs.Headers.{ends}
 use Rattle.semantic_kinds.specs.declared.kind.AstType.TheVariants as kind
-use Rattle.semantic_model.specs.Nodes.{is}
+use Rattle.semantic_tree.specs.Views.{is}
 use Rattle.semantic_model.specs.Step.{Step, entering, opening, header_ending, closing, leaving, steps}
 use Rattle.semantic_model.specs.Declaration.{Declaration}
 use Rattle.semantic_model.specs.Binder.{declared_on_entering, declared_on_opening}

@@ -8,7 +8,7 @@ use Rattle.semantic_kinds.specs.declared.role.Role.TheVariants as role
 use Rattle.semantic_kinds.specs.declared.mark.Mark.TheVariants as mark
 use Rattle.semantic_syntax.specs.declared.symbol_flags.TheConstants.SymbolFlags as symbol
 use Rattle.semantic_syntax.specs.Sets.{union}
-use Rattle.semantic_model.specs.Nodes.{is, has, is_with_text, children_of}
+use Rattle.semantic_tree.specs.Views.{is, has, is_with_text, children_of}
 use Rattle.semantic_model.specs.Names.{bound_names, names_at}
 use Rattle.semantic_model.specs.Namespace.{InstanceState, non_instantiated, const_enum_only, instantiated, instance_state, nodes_around}
 use Rattle.semantic_model.specs.Place.{Place, OpenScope, innermost, parent_holds}

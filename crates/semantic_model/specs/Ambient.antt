@@ -6,7 +6,7 @@ use Rattle.semantic_kinds.specs.declared.role.Role.{Role}
 use Rattle.semantic_kinds.specs.declared.role.Role.TheVariants as role
 use Rattle.semantic_kinds.specs.declared.mark.Mark.TheVariants as mark
 use Rattle.semantic_tree.specs.declared.node.Node.{Node}
-use Rattle.semantic_model.specs.Nodes.{is, has}
+use Rattle.semantic_tree.specs.Views.{is, has}
 use Rattle.semantic_kinds.specs.Classes.{holds_kind}
 
 -- whether code is ambient inside a node, given whether it is around it

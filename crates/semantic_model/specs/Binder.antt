@@ -9,8 +9,9 @@ use Rattle.semantic_tree.specs.declared.node.Node.{Node}
 use Rattle.semantic_syntax.specs.declared.scope_flags.TheConstants.ScopeFlags as scope
 use Rattle.semantic_syntax.specs.declared.symbol_flags.TheConstants.SymbolFlags as symbol
 use Rattle.semantic_syntax.specs.Sets.{meets, union}
-use Rattle.semantic_model.specs.Nodes.{is, is_with_text, has, reads, child_of, children_of, holds}
-use Rattle.semantic_model.specs.Names.{bound_names, names_at, is_simple_list}
+use Rattle.semantic_tree.specs.Views.{is, is_with_text, has, has_text, child_of, children_of, holds}
+use Rattle.semantic_model.specs.Names.{bound_names, names_at}
+use Rattle.semantic_tree.specs.BoundNames.{is_simple_parameter_list}
 use Rattle.semantic_syntax.specs.SourceTypes.{is_typescript}
 use Rattle.semantic_model.specs.Place.{Place, OpenScope, innermost, is_strict, parent_holds}
 use Rattle.semantic_model.specs.Declaration.{How, plain, hoisted, moved, caught, Declaration, Route, here, outward_to, outward_past}
@@ -94,7 +95,7 @@ variables_under (declaration ∷ path) p =
 
 -- a function or class as a statement
 abbrev pub is_statement : Node → Bool
-is_statement node = reads (codes "declaration") node || reads (codes "ts-declare") node
+is_statement node = has_text (codes "declaration") node || has_text (codes "ts-declare") node
 
 abbrev pub is_special : Node → Bool
 is_special node = has mark.Async node || has mark.Generator node
@@ -141,7 +142,7 @@ class_row p chain = record {
 -- parameters of one name are allowed in the simple list of a sloppy plain function
 abbrev pub parameter_excluded : Node → List OpenScope → ℕ
 parameter_excluded list chain =
-    if is_with_text kind.FormalParameters (codes "arrow") list || is_with_text kind.FormalParameters (codes "unique") list || is_strict chain || not (is_simple_list list)
+    if is_with_text kind.FormalParameters (codes "arrow") list || is_with_text kind.FormalParameters (codes "unique") list || is_strict chain || not (is_simple_parameter_list list)
     then union symbol.FunctionScopedVariableExcludes.bits symbol.FunctionScopedVariable.bits
     else symbol.FunctionScopedVariableExcludes.bits
 

@@ -11,10 +11,10 @@ use Rattle.semantic_kinds.specs.declared.mark.Mark.TheVariants as mark
 use Rattle.semantic_tree.specs.declared.node.Node.{Node}
 use Rattle.semantic_syntax.specs.declared.reference_flags.TheConstants.ReferenceFlags as way
 use Rattle.semantic_syntax.specs.Sets.{meets, union}
-use Rattle.semantic_model.specs.Nodes.{is, has, reads}
-use Rattle.semantic_model.specs.Inner.{inner_expression, is_member_or_chain}
+use Rattle.semantic_tree.specs.Views.{is, has, has_text, child_of, holds}
+use Rattle.semantic_tree.specs.Unwrapped.{inner_expression}
 use Rattle.semantic_model.specs.Ambient.{ambient_inside, ambient_round}
-use Rattle.semantic_kinds.specs.Classes.{is_simple_target, holds_kind}
+use Rattle.semantic_kinds.specs.Classes.{is_member, is_simple_target, holds_kind}
 
 -- a name or a type name that is used as a value or a type
 abbrev pub read_or_type : ℕ
@@ -33,6 +33,10 @@ is_write_place _ r = same_role r role.Binding
 abbrev pub written : AstType → Role → Node → ℕ → ℕ
 written parent r child cursor =
     cond (is_write_place parent r && is_simple_target child.kind && not (meets cursor way.Write.bits)) way.Write.bits cursor
+
+-- a member, or a chain of one, as `a?.b`
+abbrev pub is_member_or_chain : Node → Bool
+is_member_or_chain node = is_member node.kind || (is kind.ChainExpression node && holds (λ x. is_member x.kind) (child_of role.Expression node))
 
 -- what is exported: a type alone where it is marked so
 abbrev pub exported : Node → Node → ℕ
@@ -54,10 +58,10 @@ typed_key parent ambient cursor = cond (has mark.Computed parent && (has mark.Ab
 -- the cursor at a child, by its parent's kind; `ambient` says whether code inside the parent is
 abbrev pub at_child : AstType → Node → Bool → Role → Node → ℕ → ℕ
 at_child kind.AssignmentExpression parent ambient role.Left child cursor =
-    cond (reads (codes "=") parent) cursor way.Value.bits
+    cond (has_text (codes "=") parent) cursor way.Value.bits
 at_child kind.UpdateExpression parent ambient role.Argument child cursor = way.Value.bits
 at_child kind.UnaryExpression parent ambient role.Argument child cursor =
-    cond (reads (codes "delete") parent && is_member_or_chain (inner_expression child)) way.Write.bits cursor
+    cond (has_text (codes "delete") parent && is_member_or_chain (inner_expression child)) way.Write.bits cursor
 at_child kind.ComputedMemberExpression parent ambient role.Expression child cursor = without 8 cursor way.MemberWriteTarget.bits
 at_child kind.ConditionalExpression parent ambient role.Test child cursor = without 8 cursor way.MemberWriteTarget.bits
 at_child kind.AssignmentTargetPropertyIdentifier parent ambient role.Binding child cursor = way.Write.bits

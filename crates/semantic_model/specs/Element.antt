@@ -12,8 +12,8 @@ use Rattle.semantic_kinds.specs.declared.role.Role.TheVariants as role
 use Rattle.semantic_kinds.specs.declared.mark.Mark.TheVariants as mark
 use Rattle.semantic_tree.specs.Forest.{Forest}
 use Rattle.semantic_tree.specs.declared.node.Node.{Node}
-use Rattle.semantic_model.specs.Nodes.{is, has, reads, holds, child_of, children_of}
-use Rattle.semantic_model.specs.Keys.{key_name}
+use Rattle.semantic_tree.specs.Views.{is, has, has_text, holds, child_of, children_of}
+use Rattle.semantic_tree.specs.KeyNames.{key_name}
 
 -- an element of a class
 pub record Element : Type 0 where
@@ -38,17 +38,17 @@ element_with what member = option_and_then (λ key. option_map (element_named wh
 
 -- a function with a body, and not one that only TypeScript knows
 abbrev pub is_implemented : Node → Bool
-is_implemented value = is_some (child_of role.Body value) && not (reads (codes "ts-declare") value || reads (codes "ts-empty-body") value)
+is_implemented value = is_some (child_of role.Body value) && not (has_text (codes "ts-declare") value || has_text (codes "ts-empty-body") value)
 
 -- a getter or setter is a method too
 abbrev pub method_kind : Node → ℕ
 method_kind member =
-    union element.Method.bits (cond (reads (codes "get") member) element.Getter.bits (cond (reads (codes "set") member) element.Setter.bits 0))
+    union element.Method.bits (cond (has_text (codes "get") member) element.Getter.bits (cond (has_text (codes "set") member) element.Setter.bits 0))
 
 -- a constructor makes no element, and neither does a method without body
 abbrev pub element_of_method : Node → Option Element
 element_of_method member =
-    cond (not (reads (codes "constructor") member) && holds is_implemented (child_of role.Value member)) (element_with (method_kind member) member) None
+    cond (not (has_text (codes "constructor") member) && holds is_implemented (child_of role.Value member)) (element_with (method_kind member) member) None
 
 abbrev element_by : AstType → Node → Option Element
 element_by kind.MethodDefinition member = element_of_method member

@@ -5,7 +5,7 @@ use Rattle.semantic_kinds.specs.declared.role.Role.TheVariants as role
 use Rattle.semantic_kinds.specs.Roles.{same_role}
 use Rattle.semantic_syntax.specs.declared.symbol_flags.TheConstants.SymbolFlags as symbol
 use Rattle.semantic_syntax.specs.Sets.{meets}
-use Rattle.semantic_model.specs.Nodes.{is}
+use Rattle.semantic_tree.specs.Views.{is}
 use Rattle.semantic_model.specs.Place.{Place, OpenScope, innermost, outside, parent_holds}
 use Rattle.semantic_model.specs.Step.{Step, entering, opening, header_ending}
 use Rattle.semantic_model.specs.Declaration.{How, plain, moved, Declaration, standing, stands_in}

@@ -6,7 +6,7 @@ use Rattle.semantic_kinds.specs.declared.kind.AstType.{AstType}
 use Rattle.semantic_kinds.specs.declared.kind.AstType.TheVariants as kind
 use Rattle.semantic_kinds.specs.declared.role.Role.{Role}
 use Rattle.semantic_kinds.specs.declared.role.Role.TheVariants as role
-use Rattle.semantic_model.specs.Nodes.{is_role_of}
+use Rattle.semantic_tree.specs.Views.{is_role_of}
 use Rattle.semantic_kinds.specs.Classes.{holds_kind}
 
 -- the children of a node that stand inside its scope

@@ -8,7 +8,7 @@ use Rattle.semantic_syntax.specs.Tables.{Name}
 use Rattle.semantic_tree.specs.Forest.{Forest, nothing, tree}
 use Rattle.semantic_tree.specs.Nodes.{first_of}
 use Rattle.semantic_tree.specs.declared.node.Node.{Node}
-use Rattle.semantic_model.specs.Nodes.{reads, holds, children_of}
+use Rattle.semantic_tree.specs.Views.{has_text, holds, children_of}
 
 -- the label of a statement that has the children
 abbrev pub label_of : Forest → Option Node
@@ -21,7 +21,7 @@ abbrev pub is_labelled : AstType → Bool
 is_labelled k = same_kind k kind.LabeledStatement
 
 abbrev has_label : Name → Forest → Bool
-has_label label below = holds (reads label) (label_of below)
+has_label label below = holds (has_text label) (label_of below)
 
 -- a jump of the forest names the label, and no labelled statement of the forest takes it first
 abbrev pub is_named_in : Name → Forest → Bool

@@ -1,6 +1,4 @@
-pub mod Nodes
 pub mod Names
-pub mod Inner
 pub mod Place
 pub mod Inside
 pub mod ScopeKind
@@ -27,7 +25,6 @@ pub mod Moment
 pub mod Outcome
 pub mod Swap
 pub mod Count
-pub mod Keys
 pub mod Element
 pub mod Class
 pub mod Label

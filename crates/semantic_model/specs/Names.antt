@@ -1,12 +1,12 @@
 -- The names that a pattern, declarator, parameter or declaration binds.
-use Rattle.std.specs.Prelude.{List, [], ◌∷◌, ◌++◌, Bool, true, ◌&&◌, cond, is_none, flat_map}
+use Rattle.std.specs.Prelude.{List, [], ◌∷◌, ◌++◌, cond, flat_map}
 use Rattle.semantic_tree.specs.Forest.{Forest, nothing, tree}
 use Rattle.semantic_kinds.specs.declared.kind.AstType.{AstType}
 use Rattle.semantic_kinds.specs.declared.kind.AstType.TheVariants as kind
 use Rattle.semantic_kinds.specs.declared.role.Role.{Role}
 use Rattle.semantic_kinds.specs.declared.role.Role.TheVariants as role
 use Rattle.semantic_tree.specs.declared.node.Node.{Node}
-use Rattle.semantic_model.specs.Nodes.{is, is_role_of, children_of, child_of, holds}
+use Rattle.semantic_tree.specs.Views.{is, is_role_of, children_of}
 
 -- the roles of a kind under which the names stand that it binds
 abbrev pub binding_roles : AstType → List Role
@@ -37,15 +37,3 @@ bound_names node = cond (is kind.BindingIdentifier node) (node ∷ []) (bound_be
 -- the binding identifiers under a role of a node
 abbrev pub names_at : Role → Node → List Node
 names_at r node = flat_map bound_names (children_of r node.children)
-
--- a parameter is a plain name without initializer
-abbrev pub is_plain_parameter : Node → Bool
-is_plain_parameter node = holds (is kind.BindingIdentifier) (child_of role.Pattern node) && is_none (child_of role.Initializer node)
-
-abbrev pub all_plain : List Node → Bool
-all_plain [] = true
-all_plain (x ∷ xs) = is_plain_parameter x && all_plain xs
-
--- the list has no rest, and each parameter is plain
-abbrev pub is_simple_list : Node → Bool
-is_simple_list node = is_none (child_of role.Rest node) && all_plain (children_of role.Items node.children)

@@ -7,7 +7,7 @@ use Rattle.semantic_kinds.specs.declared.role.Role.TheVariants as role
 use Rattle.semantic_kinds.specs.declared.mark.Mark.TheVariants as mark
 use Rattle.semantic_tree.specs.declared.node.Node.{Node}
 use Rattle.semantic_syntax.specs.Tables.{Name}
-use Rattle.semantic_model.specs.Nodes.{is, has, reads, child_of, children_of}
+use Rattle.semantic_tree.specs.Views.{is, has, has_text, child_of, children_of}
 use Rattle.semantic_model.specs.Names.{bound_names}
 use Rattle.std.specs.List.{list_any}
 use Rattle.semantic_kinds.specs.Classes.{holds_kind}
@@ -70,7 +70,7 @@ exported node = cond (holds_kind (kind.ExportDeclaration ∷ kind.ExportDefaultD
 
 -- whether a statement declares the name: imports don't
 abbrev pub declares : Name → Node → Bool
-declares name node = list_any (reads name) (bound_names (exported node))
+declares name node = list_any (has_text name) (bound_names (exported node))
 
 abbrev pub first_declaring : Name → List Node → Option Node
 first_declaring name [] = None

@@ -1,7 +1,7 @@
 -- The states of the namespaces of a program.
 use Rattle.std.specs.Prelude.{List, Option, Some, None, cond, filter_map}
 use Rattle.semantic_kinds.specs.declared.kind.AstType.TheVariants as kind
-use Rattle.semantic_model.specs.Nodes.{is}
+use Rattle.semantic_tree.specs.Views.{is}
 use Rattle.semantic_model.specs.Step.{Step, entering}
 use Rattle.semantic_model.specs.Namespace.{InstanceState, instance_state, nodes_around}
 

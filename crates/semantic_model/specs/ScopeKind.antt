@@ -7,7 +7,7 @@ use Rattle.semantic_kinds.specs.declared.role.Role.TheVariants as role
 use Rattle.semantic_tree.specs.declared.node.Node.{Node}
 use Rattle.semantic_syntax.specs.declared.scope_flags.TheConstants.ScopeFlags as scope
 use Rattle.semantic_syntax.specs.Sets.{union}
-use Rattle.semantic_model.specs.Nodes.{is, reads, child_of, holds, has_use_strict}
+use Rattle.semantic_tree.specs.Views.{is, has_text, child_of, holds, has_use_strict}
 use Rattle.semantic_syntax.specs.SourceTypes.{is_module}
 use Rattle.semantic_model.specs.Place.{Place, OpenScope, is_strict}
 use Rattle.semantic_model.specs.Inside.{body_number}
@@ -27,7 +27,7 @@ accessor text =
 -- what a function is as the value of a method or of an object's property
 abbrev pub value_of : AstType → List ℕ → Node → ℕ
 value_of kind.MethodDefinition text node = cond (bytes_eq text (codes "constructor")) scope.Constructor.bits (accessor text)
-value_of kind.ObjectProperty text node = cond (reads (codes "expression") node) (accessor text) 0
+value_of kind.ObjectProperty text node = cond (has_text (codes "expression") node) (accessor text) 0
 value_of _ text node = 0
 
 abbrev pub method_flags : List Node → Node → ℕ

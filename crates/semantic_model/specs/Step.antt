@@ -4,7 +4,7 @@ use Rattle.semantic_tree.specs.Forest.{Forest, nothing, tree}
 use Rattle.semantic_kinds.specs.declared.role.Role.{Role}
 use Rattle.semantic_kinds.specs.declared.role.Role.TheVariants as role
 use Rattle.semantic_tree.specs.declared.node.Node.{Node}
-use Rattle.semantic_model.specs.Nodes.{has_role}
+use Rattle.semantic_tree.specs.Views.{has_role}
 use Rattle.semantic_syntax.specs.SourceTypes.{is_typescript_definition}
 use Rattle.semantic_tree.specs.Tree.{Tree}
 use Rattle.semantic_model.specs.Place.{Place, OpenScope, outside}

@@ -10,8 +10,8 @@ use Rattle.semantic_syntax.specs.Sets.{union}
 use Rattle.semantic_syntax.specs.declared.references.Reference.{Reference}
 use Rattle.semantic_syntax.specs.Tables.{Tables, Scope, Bindings, FreeLists}
 use Rattle.semantic_model.specs.FreeNames.{add_free}
-use Rattle.semantic_model.specs.Nodes.{is, has, reads, child_of, holds}
-use Rattle.semantic_model.specs.Inner.{inner_expression}
+use Rattle.semantic_tree.specs.Views.{is, has, has_text, child_of, holds}
+use Rattle.semantic_tree.specs.Unwrapped.{inner_expression}
 use Rattle.semantic_tree.specs.Tree.{Tree}
 use Rattle.semantic_model.specs.Place.{OpenScope, innermost}
 use Rattle.semantic_model.specs.Step.{Step, entering, opening, steps}
@@ -27,7 +27,7 @@ use Rattle.semantic_model.specs.Tie.{Tie, ties, in_order, symbol_of, final_flags
 abbrev pub is_direct_eval : Node → Bool
 is_direct_eval node =
     is kind.CallExpression node && not (has mark.Optional node)
-    && holds (λ callee. is kind.IdentifierReference (inner_expression callee) && reads (codes "eval") (inner_expression callee)) (child_of role.Callee node)
+    && holds (λ callee. is kind.IdentifierReference (inner_expression callee) && has_text (codes "eval") (inner_expression callee)) (child_of role.Callee node)
 
 abbrev pub numbers : List OpenScope → List ℕ
 numbers chain = map (λ s. s.number) chain

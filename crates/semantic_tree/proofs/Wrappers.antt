@@ -8,7 +8,7 @@ use Rattle.semantic_kinds.specs.declared.marks.Marks.{Marks}
 use Rattle.semantic_syntax.specs.declared.spans.Span.{Span}
 use Rattle.semantic_tree.specs.declared.node.Node.{Node}
 use Rattle.semantic_tree.specs.Nodes.{trees, nodes_in, first_of}
-use Rattle.semantic_tree.specs.Views.{child_in}
+use Rattle.semantic_tree.specs.Views.{child_of}
 use Rattle.semantic_tree.specs.Unwrapped.{unwrapped, unwrapped_in}
 
 -- what is left of a child, or the node itself where there is none
@@ -25,12 +25,12 @@ in_first wraps inner node nothing = refl
 in_first wraps inner node (tree role kind span text marks below id after) =
     choose wraps inner node (record { kind = kind; span = span; text = text; marks = marks; children = below; node_id = id }) (nodes_in inner (trees after)) (unwrapped_in wraps inner node after) (same_role role inner) (in_first wraps inner node after)
 
-one_step : (wraps : AstType → Bool) (inner : Role) (node : Node) (b : Bool) → (if b then unwrapped_in wraps inner node node.children else node) ≡ (if b then unwrapped_child wraps inner node (child_in inner node) else node)
+one_step : (wraps : AstType → Bool) (inner : Role) (node : Node) (b : Bool) → (if b then unwrapped_in wraps inner node node.children else node) ≡ (if b then unwrapped_child wraps inner node (child_of inner node) else node)
 one_step wraps inner node true = in_first wraps inner node node.children
 one_step wraps inner node false = refl
 
 -- a wrapper is what is left of its child, and any other node itself
-pub unwrapped_step : (wraps : AstType → Bool) (inner : Role) (node : Node) → unwrapped wraps inner node ≡ (if wraps node.kind then unwrapped_child wraps inner node (child_in inner node) else node)
+pub unwrapped_step : (wraps : AstType → Bool) (inner : Role) (node : Node) → unwrapped wraps inner node ≡ (if wraps node.kind then unwrapped_child wraps inner node (child_of inner node) else node)
 unwrapped_step wraps inner node = one_step wraps inner node (wraps node.kind)
 
 some_same : {x y : Node} → ◌≡◌ {A = Option Node} (Some x) (Some y) → x ≡ y
@@ -53,16 +53,16 @@ child_in_below role (tree r kind span text marks below id after) child h =
     ] h
 
 -- a wrapper that has a child in the role is what is left of the child
-pub unwrapped_child_in : (wraps : AstType → Bool) (inner : Role) (node child : Node) → wraps node.kind ≡ true → child_in inner node ≡ Some child → unwrapped wraps inner node ≡ unwrapped wraps inner child
+pub unwrapped_child_in : (wraps : AstType → Bool) (inner : Role) (node child : Node) → wraps node.kind ≡ true → child_of inner node ≡ Some child → unwrapped wraps inner node ≡ unwrapped wraps inner child
 unwrapped_child_in wraps inner node child w h =
-    unwrapped_step wraps inner node ∙ ap (λ b. if b then unwrapped_child wraps inner node (child_in inner node) else node) w ∙ ap (unwrapped_child wraps inner node) h
+    unwrapped_step wraps inner node ∙ ap (λ b. if b then unwrapped_child wraps inner node (child_of inner node) else node) w ∙ ap (unwrapped_child wraps inner node) h
 
 -- a wrapper without a child in the role is left
-pub unwrapped_alone : (wraps : AstType → Bool) (inner : Role) (node : Node) → child_in inner node ≡ None → unwrapped wraps inner node ≡ node
+pub unwrapped_alone : (wraps : AstType → Bool) (inner : Role) (node : Node) → child_of inner node ≡ None → unwrapped wraps inner node ≡ node
 unwrapped_alone wraps inner node h =
     unwrapped_step wraps inner node ∙ ap (λ o. if wraps node.kind then unwrapped_child wraps inner node o else node) h ∙ either (wraps node.kind) node
 
 -- what is no wrapper is left
 pub unwrapped_none : (wraps : AstType → Bool) (inner : Role) (node : Node) → wraps node.kind ≡ false → unwrapped wraps inner node ≡ node
 unwrapped_none wraps inner node w =
-    unwrapped_step wraps inner node ∙ ap (λ b. if b then unwrapped_child wraps inner node (child_in inner node) else node) w
+    unwrapped_step wraps inner node ∙ ap (λ b. if b then unwrapped_child wraps inner node (child_of inner node) else node) w

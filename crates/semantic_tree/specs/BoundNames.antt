@@ -7,7 +7,7 @@ use Rattle.semantic_kinds.specs.declared.kind.AstType.TheVariants as kinds
 use Rattle.semantic_kinds.specs.declared.role.Role.{Role}
 use Rattle.semantic_kinds.specs.declared.role.Role.TheVariants as roles
 use Rattle.semantic_tree.specs.Forest.{Forest, nothing, tree}
-use Rattle.semantic_tree.specs.Views.{all_in, has_child, is_kind, whose}
+use Rattle.semantic_tree.specs.Views.{all_in, has_child, is, whose}
 use Rattle.semantic_tree.specs.declared.node.Node.{Node}
 
 -- what a child in the role binds, its parent of the kind binds too
@@ -46,7 +46,7 @@ rising from (node ∷ rest) = if nat_le from node.node_id then node ∷ rising (
 
 -- a plain name without initializer
 abbrev pub is_plain_parameter : Node → Bool
-is_plain_parameter item = whose roles.Pattern (is_kind kinds.BindingIdentifier) item && not (has_child roles.Initializer item)
+is_plain_parameter item = whose roles.Pattern (is kinds.BindingIdentifier) item && not (has_child roles.Initializer item)
 
 -- no rest, and each parameter a plain name without initializer
 abbrev pub is_simple_parameter_list : Node → Bool

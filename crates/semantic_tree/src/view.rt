@@ -6,7 +6,7 @@ ghost use Rattle.std.specs.Iterator.{YieldsFirstBy, item_count};
 ghost use Rattle.semantic_tree.specs.ChildIter.{left_of, shown};
 ghost use Rattle.std.specs.Str.{chars};
 ghost use Rattle.semantic_kinds.specs.MarkSets.{has_mark};
-ghost use Rattle.semantic_tree.specs.Views.{all_in, child_in};
+ghost use Rattle.semantic_tree.specs.Views.{all_in, child_of};
 
 use crate::node::Node;
 use semantic_kinds::{AstType, Mark, Role};
@@ -80,7 +80,7 @@ impl<'a> AstKind<'a> {
 
     /// The first child in a role, if there is one.
     pub fn child(self, role: Role) -> Option<AstKind<'a>>
-        ensures { option_map shown result ≡ child_in role self.entry.node.now }
+        ensures { option_map shown result ≡ child_of role self.entry.node.now }
     {
         self.children(role).next()
     }

@@ -11,7 +11,7 @@ use Rattle.semantic_syntax.specs.declared.scope_flags.TheConstants.ScopeFlags as
 use Rattle.semantic_syntax.specs.declared.source_type.SourceType.{SourceType}
 use Rattle.semantic_tree.specs.declared.node.Node.{Node}
 use Rattle.semantic_model.specs.ScopeKind.{flags_of_kind, opened_scope, strict_if}
-use Rattle.semantic_model.specs.Nodes.{has_use_strict}
+use Rattle.semantic_tree.specs.Views.{has_use_strict}
 use Rattle.semantic_tree.specs.Forest.{Forest, nothing, tree}
 use Rattle.semantic_tree.specs.Faults.{first_fault}
 use Rattle.semantic_tree.specs.Limits.{source_limit}

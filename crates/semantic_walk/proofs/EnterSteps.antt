@@ -7,8 +7,8 @@ use Rattle.semantic_kinds.specs.declared.kind.AstType.TheVariants as kind
 use Rattle.semantic_tree.specs.declared.node.Node.{Node}
 use Rattle.semantic_kinds.specs.declared.mark.Mark.TheVariants as mark
 use Rattle.semantic_kinds.specs.declared.role.Role.TheVariants as role
-use Rattle.semantic_model.specs.Inner.{inner_expression}
-use Rattle.semantic_model.specs.Nodes.{is, has, holds, child_of, reads}
+use Rattle.semantic_tree.specs.Unwrapped.{inner_expression}
+use Rattle.semantic_tree.specs.Views.{is, has, holds, child_of, has_text}
 use Rattle.semantic_model.specs.Place.{Place, at}
 use Rattle.semantic_model.specs.Cursor.{on_entering, way_of}
 use Rattle.semantic_model.specs.Declaration.{Declaration}
@@ -39,7 +39,7 @@ noting_alone (parent ∷ path) here x = refl
 -- what is no call calls nothing by its name
 no_eval : (node : Node) → same_kind node.kind kind.CallExpression ≡ false → is_direct_eval node ≡ false
 no_eval node h =
-    ap (λ b. b && not (has mark.Optional node) && holds (λ callee. is kind.IdentifierReference (inner_expression callee) && reads (codes "eval") (inner_expression callee)) (child_of role.Callee node)) h
+    ap (λ b. b && not (has mark.Optional node) && holds (λ callee. is kind.IdentifierReference (inner_expression callee) && has_text (codes "eval") (inner_expression callee)) (child_of role.Callee node)) h
 
 module _ (ds : List Declaration) (w : Walker) (p : Place) (comes : ComesTo w p) (shown : IsShown ds w p) where
   -- the walk has stepped to the node

@@ -17,7 +17,7 @@ use Rattle.semantic_model.specs.Binder.{declared_by}
 use Rattle.semantic_model.specs.Cursor.{at_child, cursor_before, cursor_behind, is_write_place, on_entering, on_leaving}
 use Rattle.semantic_model.specs.Declaration.{Declaration}
 use Rattle.semantic_model.specs.Inside.{Inside, no_scope_opens, holds_for, inside, opens_for, is_inside, header_roles, is_parameter_decorator}
-use Rattle.semantic_model.specs.Nodes.{is, has}
+use Rattle.semantic_tree.specs.Views.{is, has}
 use Rattle.semantic_model.specs.Place.{Place, OpenScope, innermost, outside, at}
 use Rattle.semantic_model.specs.ScopeKind.{opened_scope}
 use Rattle.semantic_model.specs.Step.{opening, closing, opening_at, opening_last, ending_after, scope_at, chain_within, child_place}

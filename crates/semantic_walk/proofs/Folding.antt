@@ -16,7 +16,7 @@ use Rattle.semantic_model.specs.Event.{declares_all, events_of, written_declarat
 use Rattle.semantic_model.specs.Fold.{State, Made, start}
 use Rattle.semantic_model.specs.Hoist.{run}
 use Rattle.semantic_model.specs.Names.{names_at}
-use Rattle.semantic_model.specs.Nodes.{has}
+use Rattle.semantic_tree.specs.Views.{has}
 use Rattle.semantic_model.specs.Place.{Place, OpenScope}
 use Rattle.semantic_model.specs.Step.{Step, entering, opening, header_ending, closing, leaving, steps}
 use Rattle.walk_model.specs.Noted.{with_entry}

@@ -15,7 +15,7 @@ use Rattle.semantic_syntax.specs.Sets.{union}
 use Rattle.semantic_tree.specs.Forest.{Forest, nothing, tree, count}
 use Rattle.semantic_tree.specs.Children.{node_count}
 use Rattle.semantic_tree.specs.declared.node.Node.{Node}
-use Rattle.semantic_model.specs.Nodes.{is, has, is_role_of, children_of}
+use Rattle.semantic_tree.specs.Views.{is, has, is_role_of, children_of}
 use Rattle.semantic_model.specs.Names.{binding_roles, bound_below, bound_names, names_at}
 use Rattle.semantic_model.specs.Namespace.{InstanceState, non_instantiated, const_enum_only, instantiated, instance_state, nodes_around}
 use Rattle.semantic_model.specs.Place.{Place, OpenScope, parent_holds}

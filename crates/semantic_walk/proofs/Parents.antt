@@ -2,8 +2,8 @@
 use Rattle.std.proofs.Common.{◌≡◌, ℕ, zero, suc, ◌+◌, ◌<◌, List, [], ◌∷◌, Bool, true, ◌&&◌, Some, None, length, get_or, map, refl, sym, ap, ◌∙◌, arith}
 use Rattle.semantic_kinds.specs.declared.kind.AstType.TheVariants as kind
 use Rattle.semantic_tree.specs.declared.node.Node.{Node}
-use Rattle.semantic_model.specs.Nodes.{is}
-use Rattle.semantic_model.specs.Names.{is_simple_list}
+use Rattle.semantic_tree.specs.Views.{is}
+use Rattle.semantic_tree.specs.BoundNames.{is_simple_parameter_list}
 use Rattle.semantic_walk.specs.Paths.{parent_in, is_marked, first_mark}
 
 -- the mark of the parent
@@ -27,8 +27,8 @@ mark_absent (x ∷ y ∷ xs) ms same h = absurd (no (sym (ap length same)) h)
     no e f = omega arith
 
 -- a list of parameters is simple if it is marked
-pub marked_simple : (list : Node) (m : Bool) (xs : List Node) → is kind.FormalParameters list ≡ true → Some m ≡ first_mark xs → list ∷ [] ≡ xs → m ≡ is_simple_list list
-marked_simple list m xs k first parent = unmarked (first ∙ ap first_mark (sym parent)) ∙ ap (λ b. b && is_simple_list list) k
+pub marked_simple : (list : Node) (m : Bool) (xs : List Node) → is kind.FormalParameters list ≡ true → Some m ≡ first_mark xs → list ∷ [] ≡ xs → m ≡ is_simple_parameter_list list
+marked_simple list m xs k first parent = unmarked (first ∙ ap first_mark (sym parent)) ∙ ap (λ b. b && is_simple_parameter_list list) k
   where
     unmarked : Some m ≡ Some (is_marked list) → m ≡ is_marked list
     unmarked e = cc

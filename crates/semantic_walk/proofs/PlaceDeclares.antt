@@ -14,7 +14,7 @@ use Rattle.semantic_syntax.specs.declared.symbol_flags.TheConstants.SymbolFlags 
 use Rattle.semantic_syntax.specs.SourceTypes.{is_typescript}
 use Rattle.semantic_tree.specs.Forest.{Forest, nothing, tree}
 use Rattle.semantic_tree.specs.declared.node.Node.{Node}
-use Rattle.semantic_model.specs.Nodes.{is, has, is_role_of, children_of}
+use Rattle.semantic_tree.specs.Views.{is, has, is_role_of, children_of}
 use Rattle.semantic_model.specs.Names.{binding_roles, bound_below, bound_names}
 use Rattle.semantic_model.specs.Place.{Place, OpenScope, innermost, is_strict, parent_holds}
 use Rattle.semantic_model.specs.Binder as binder

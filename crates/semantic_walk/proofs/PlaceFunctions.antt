@@ -9,7 +9,7 @@ use Rattle.semantic_syntax.specs.Sets.{meets}
 use Rattle.semantic_syntax.specs.Reading.{scope_of}
 use Rattle.semantic_tree.specs.declared.node.Node.{Node}
 use Rattle.semantic_tree.specs.declared.view.AstKind.{AstKind}
-use Rattle.semantic_model.specs.Nodes.{is, has}
+use Rattle.semantic_tree.specs.Views.{is, has}
 use Rattle.semantic_model.specs.Names.{bound_names}
 use Rattle.semantic_model.specs.Place.{Place, OpenScope, innermost}
 use Rattle.semantic_model.specs.Declaration.{Declaration, plain, moved, here, outward_past}

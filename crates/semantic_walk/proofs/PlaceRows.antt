@@ -12,8 +12,9 @@ use Rattle.semantic_syntax.specs.Reading.{scope_of}
 use Rattle.semantic_tree.specs.ChildIter.{shown}
 use Rattle.semantic_tree.specs.declared.node.Node.{Node}
 use Rattle.semantic_tree.specs.declared.view.AstKind.{AstKind}
-use Rattle.semantic_model.specs.Nodes.{is, has, is_with_text, children_of}
-use Rattle.semantic_model.specs.Names.{bound_names, names_at, is_simple_list}
+use Rattle.semantic_tree.specs.Views.{is, has, is_with_text, children_of}
+use Rattle.semantic_model.specs.Names.{bound_names, names_at}
+use Rattle.semantic_tree.specs.BoundNames.{is_simple_parameter_list}
 use Rattle.semantic_model.specs.Namespace.{InstanceState, instance_state, nodes_around}
 use Rattle.semantic_model.specs.Place.{Place, OpenScope, no_scope, innermost, parent_holds}
 use Rattle.semantic_model.specs.Declaration.{Declaration, plain, hoisted, caught, here, outward_to}
@@ -192,7 +193,7 @@ module _ (ds : List Declaration) (p : Place) where
 -- what a parameter of a list conflicts with, by the flags of its scope
 abbrev excluded_in : Node → Bool → ℕ
 excluded_in list strict =
-    if is_with_text kind.FormalParameters (codes "arrow") list || is_with_text kind.FormalParameters (codes "unique") list || strict || not (is_simple_list list)
+    if is_with_text kind.FormalParameters (codes "arrow") list || is_with_text kind.FormalParameters (codes "unique") list || strict || not (is_simple_parameter_list list)
     then union symbol.FunctionScopedVariableExcludes.bits symbol.FunctionScopedVariable.bits
     else symbol.FunctionScopedVariableExcludes.bits
 

@@ -5,7 +5,7 @@ use Rattle.semantic_syntax.specs.declared.scope_flags.TheConstants.ScopeFlags as
 use Rattle.semantic_syntax.specs.Tables.{Name, Tables}
 use Rattle.semantic_syntax.specs.Reading.{scope_of}
 use Rattle.semantic_tree.specs.declared.node.Node.{Node}
-use Rattle.semantic_model.specs.Nodes.{is}
+use Rattle.semantic_tree.specs.Views.{is}
 use Rattle.semantic_model.specs.Declaration.{Declaration, Route as Way}
 use Rattle.semantic_model.specs.Event.{declares_all}
 use Rattle.walk_model.specs.Naming.{Naming}

@@ -8,7 +8,7 @@ use Rattle.semantic_kinds.specs.declared.role.Role.{Role}
 use Rattle.semantic_kinds.specs.declared.role.Role.TheVariants as role
 use Rattle.semantic_tree.specs.Forest.{Forest, nothing, tree}
 use Rattle.semantic_tree.specs.declared.node.Node.{Node}
-use Rattle.semantic_model.specs.Nodes.{has}
+use Rattle.semantic_tree.specs.Views.{has}
 
 -- whether something may be made or noted on entering a node of the kind
 abbrev pub acts_on_entering : AstType → Bool

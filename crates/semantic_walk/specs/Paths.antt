@@ -4,8 +4,8 @@ use Rattle.semantic_kinds.specs.declared.kind.AstType.TheVariants as kind
 use Rattle.node_store.specs.Entered.{Entered}
 use Rattle.node_store.specs.Store.{Stands, path_to, entered_in}
 use Rattle.semantic_tree.specs.declared.node.Node.{Node}
-use Rattle.semantic_model.specs.Nodes.{is}
-use Rattle.semantic_model.specs.Names.{is_simple_list}
+use Rattle.semantic_tree.specs.Views.{is}
+use Rattle.semantic_tree.specs.BoundNames.{is_simple_parameter_list}
 use Rattle.semantic_walk.specs.declared.path.Path.TheInside.{Inside}
 
 -- the nodes from the root to the one that is visited, and those that were entered, if all are kept
@@ -23,7 +23,7 @@ way_of p = record { nodes = turned (length p.marks.items) (path_to p.store); ent
 
 -- a list of parameters is marked if it is simple
 abbrev pub is_marked : Node → Bool
-is_marked node = is kind.FormalParameters node && is_simple_list node
+is_marked node = is kind.FormalParameters node && is_simple_parameter_list node
 
 -- the marks are those of the nodes, and the store stands at the last of them
 pub record IsWay (p : Inside) : Type 0 where

@@ -3,7 +3,7 @@ use Rattle.std.specs.Prelude.{◌≡◌, List, true}
 use Rattle.semantic_kinds.specs.declared.kind.AstType.TheVariants as kind
 use Rattle.semantic_model.specs.Entries.{Among}
 use Rattle.semantic_model.specs.Namespace.{InstanceState, instance_state, nodes_around}
-use Rattle.semantic_model.specs.Nodes.{is}
+use Rattle.semantic_tree.specs.Views.{is}
 use Rattle.semantic_model.specs.Place.{Place}
 use Rattle.semantic_model.specs.Step.{Step, entering}
 use Rattle.namespace_states.specs.StatesByMarks.{state_in}

@@ -6,11 +6,10 @@ ghost use Rattle.semantic_kinds.specs.declared.kind.AstType.TheVariants.{FormalP
 ghost use Rattle.semantic_kinds.specs.declared.role.Role.TheVariants.{Pattern as pattern_role, Id as id_role, Name as name_role, Local as local_role};
 ghost use Rattle.semantic_kinds.specs.declared.mark.Mark.TheVariants.{Pure as pure_mark};
 ghost use Rattle.semantic_syntax.specs.declared.scope_flags.TheConstants.ScopeFlags as scope;
-ghost use Rattle.semantic_tree.specs.Views.{all_in};
+ghost use Rattle.semantic_tree.specs.Views.{all_in, is, has};
 ghost use Rattle.table_building.specs.Named.{named_by};
 ghost use Rattle.semantic_model.specs.Names.{bound_names, names_at};
 ghost use Rattle.table_building.specs.Each.{declare_patterns, declare_members};
-ghost use Rattle.semantic_model.specs.Nodes.{is, has};
 ghost use Rattle.semantic_model.specs.Place.{Place, OpenScope, parent_holds};
 ghost use Rattle.semantic_model.specs.Declaration.{Declaration};
 ghost use Rattle.semantic_model.specs.Event.{declares_all};

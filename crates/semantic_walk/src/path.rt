@@ -4,11 +4,10 @@ ghost use Rattle.std.specs.Prelude.{◌≡◌, ◌++◌, ◌∷◌, ◌-◌, ◌
 ghost use Rattle.node_rules.specs.Seen.{path_of};
 ghost use Rattle.node_store.specs.Entered.{entering, leaving};
 ghost use Rattle.node_store.specs.PathOf.{path_of as outward_path, IsInStore};
-ghost use Rattle.semantic_model.specs.Names.{is_simple_list};
+ghost use Rattle.semantic_tree.specs.BoundNames.{is_simple_parameter_list};
 ghost use Rattle.semantic_walk.specs.Listed.{kept_from, list_kept};
 ghost use Rattle.semantic_walk.specs.Paths.{parent_in, is_marked, first_mark};
 
-use node_rules::rows::is_simple_list;
 use node_store::{Ancestry, AstNodeStore, AstNodeStoreKind, AstNodes};
 use semantic_syntax::ScopeId;
 use semantic_tree::{AstKind, AstType};
@@ -43,7 +42,7 @@ impl<'a> Model for Path<'a> {
 fn is_marked(kind: AstKind<'_>) -> bool
     ensures { result ≡ is_marked kind.entry.node.now }
 {
-    kind.ty() == AstType::FormalParameters && is_simple_list(kind)
+    kind.ty() == AstType::FormalParameters && kind.is_simple_parameter_list()
 }
 
 impl<'a> Path<'a> {
@@ -125,11 +124,11 @@ impl<'a> Path<'a> {
 
     /// Whether that parent, the list, is simple.
     pub fn is_in_simple(&self, list: AstKind<'a>) -> bool
-        ensures { list.entry.node.now ∷ [] ≡ parent_in self.now.nodes → result ≡ is_simple_list list.entry.node.now }
+        ensures { list.entry.node.now ∷ [] ≡ parent_in self.now.nodes → result ≡ is_simple_parameter_list list.entry.node.now }
     {
         match self.parent_mark() {
             Some(mark) if list.ty() == AstType::FormalParameters => mark,
-            _ => is_simple_list(list),
+            _ => list.is_simple_parameter_list(),
         }
     }
 

@@ -5,7 +5,7 @@ ghost use Rattle.semantic_kinds.specs.Kinds.{same_kind};
 ghost use Rattle.semantic_kinds.specs.declared.kind.AstType.TheVariants.{Program as program_kind};
 ghost use Rattle.semantic_tree.specs.Children.{forest_of};
 ghost use Rattle.semantic_tree.specs.Forest.{Forest, nothing};
-ghost use Rattle.semantic_model.specs.Nodes.{has_role};
+ghost use Rattle.semantic_tree.specs.Views.{has_role};
 ghost use Rattle.semantic_model.specs.Inside.{opens, is_inside, any_inside, is_in_header, header_roles};
 ghost use Rattle.semantic_model.specs.Place.{Place, OpenScope, at};
 ghost use Rattle.semantic_model.specs.ScopeKind.{opened_scope};

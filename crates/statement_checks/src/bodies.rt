@@ -2,7 +2,7 @@
 ghost use Rattle.std.specs.Prelude.{◌≡◌, not, option_map, find};
 ghost use Rattle.semantic_kinds.specs.declared.kind.AstType.TheVariants as kinds;
 ghost use Rattle.semantic_tree.specs.ChildIter.{shown};
-ghost use Rattle.semantic_tree.specs.Views.{is_kind};
+ghost use Rattle.semantic_tree.specs.Views.{is};
 ghost use Rattle.node_store.specs.PathLeft.{path_left};
 ghost use Rattle.check_model.specs.Bodies as rows;
 ghost use Rattle.check_context.specs.Handed.{around, sight, IsContext, IsHanded};
@@ -52,7 +52,7 @@ fn has_single_body(kind: AstKind<'_>) -> bool
 
 /// The first node of a path that is no label.
 fn first_unlabelled<'a>(above: AncestorKinds<'_, 'a>) -> Option<AstKind<'a>>
-    ensures { option_map shown result ≡ find (λ node. not (is_kind kinds.LabeledStatement node)) (path_left above.entry) }
+    ensures { option_map shown result ≡ find (λ node. not (is kinds.LabeledStatement node)) (path_left above.entry) }
 {
     let mut left = above;
     while let Some(kind) = left.next() {

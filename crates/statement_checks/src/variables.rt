@@ -3,7 +3,7 @@ ghost use Rattle.std.specs.Prelude.{◌≡◌, ◌&&◌, ◌∷◌, [], option_m
 ghost use Rattle.semantic_kinds.specs.declared.kind.AstType.TheVariants as kinds;
 ghost use Rattle.semantic_kinds.specs.declared.role.Role.TheVariants as roles;
 ghost use Rattle.semantic_tree.specs.ChildIter.{shown, left_of};
-ghost use Rattle.semantic_tree.specs.Views.{all_in, has_text, is_kind, whose};
+ghost use Rattle.semantic_tree.specs.Views.{all_in, has_text, is, whose};
 ghost use Rattle.semantic_tree.specs.BoundNames.{bound_names};
 ghost use Rattle.semantic_diagnostics.specs.Names as tell_of;
 ghost use Rattle.semantic_diagnostics.specs.Statements as tell;
@@ -56,7 +56,7 @@ fn only_child(children: ChildIter<'_>) -> Option<AstKind<'_>>
 
 /// Whether a declarator binds a plain name.
 fn is_plain_name(declarator: AstKind<'_>) -> bool
-    ensures { result ≡ whose roles.Id (is_kind kinds.BindingIdentifier) declarator.entry.node.now }
+    ensures { result ≡ whose roles.Id (is kinds.BindingIdentifier) declarator.entry.node.now }
 {
     match declarator.child(Role::Id) {
         Some(id) => id.ty() == AstType::BindingIdentifier,

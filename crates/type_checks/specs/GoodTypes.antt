@@ -2,7 +2,7 @@
 use Rattle.std.specs.Prelude.{◌≡◌, true, IfSome}
 use Rattle.semantic_kinds.specs.declared.role.Role.TheVariants as roles
 use Rattle.semantic_tree.specs.Sound.{has_good_span}
-use Rattle.semantic_tree.specs.Views.{child_in}
+use Rattle.semantic_tree.specs.Views.{child_of}
 use Rattle.semantic_tree.specs.declared.node.Node.{Node}
 use Rattle.check_context.specs.declared.context.CheckContext.{CheckContext}
 
@@ -12,4 +12,4 @@ HasGoodSpan ctx node = has_good_span ctx.source_text.now node ≡ true
 
 -- the same of the type that an annotation has
 abbrev pub HasGoodType : Node → CheckContext → Type 0
-HasGoodType node ctx = IfSome (child_in roles.Element node) (HasGoodSpan ctx)
+HasGoodType node ctx = IfSome (child_of roles.Element node) (HasGoodSpan ctx)

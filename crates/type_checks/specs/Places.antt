@@ -3,7 +3,7 @@ use Rattle.std.specs.Prelude.{List, ◌∷◌, Bool, false, ◌&&◌, not}
 use Rattle.std.specs.List.{filter}
 use Rattle.semantic_kinds.specs.declared.kind.AstType.TheVariants as kinds
 use Rattle.semantic_tree.specs.KindGroups.{is_module_declaration}
-use Rattle.semantic_tree.specs.Views.{is_kind}
+use Rattle.semantic_tree.specs.Views.{is}
 use Rattle.semantic_tree.specs.declared.node.Node.{Node}
 use Rattle.node_store.specs.PathLeft.{path_left}
 use Rattle.type_checks.specs.declared.places.Places.{Places}
@@ -14,5 +14,5 @@ places_left places = filter (λ node. not (is_module_declaration node.kind)) (pa
 
 -- the next places are an external module and a program around it
 abbrev pub is_in_module_of_program : List Node → Bool
-is_in_module_of_program (module_node ∷ program ∷ above) = is_kind kinds.TSExternalModuleDeclaration module_node && is_kind kinds.Program program
+is_in_module_of_program (module_node ∷ program ∷ above) = is kinds.TSExternalModuleDeclaration module_node && is kinds.Program program
 is_in_module_of_program _ = false

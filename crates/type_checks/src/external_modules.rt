@@ -1,7 +1,7 @@
 //! Early errors of external modules.
 ghost use Rattle.std.specs.Prelude.{◌≡◌, not};
 ghost use Rattle.semantic_kinds.specs.declared.role.Role.TheVariants as roles;
-ghost use Rattle.semantic_tree.specs.Views.{child_in};
+ghost use Rattle.semantic_tree.specs.Views.{child_of};
 ghost use Rattle.check_model.specs.Assignments.{block_rows};
 ghost use Rattle.check_model.specs.Namespaces as rows;
 ghost use Rattle.check_model.specs.Search.{row_if, rows_of_some};
@@ -86,7 +86,7 @@ fn tell_misplaced(
 
 /// Tells of export assignments in the body of an external module (`TS(2309)`).
 fn tell_body(alloc: Global, kind: AstKind<'_>, out: &mut Diagnostics) -> Result<(), AllocError>
-    ensures { Tells result (rows_of_some block_rows (child_in roles.Body kind.entry.node.now)) out.old out.new }
+    ensures { Tells result (rows_of_some block_rows (child_of roles.Body kind.entry.node.now)) out.old out.new }
 {
     match kind.child(Role::Body) {
         Some(body) => tell_block(alloc, body, out),

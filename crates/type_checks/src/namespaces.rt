@@ -1,7 +1,7 @@
 //! Early errors of namespaces and of `global`.
 ghost use Rattle.std.specs.Prelude.{◌≡◌, ◌||◌, not};
 ghost use Rattle.semantic_kinds.specs.declared.mark.Mark.TheVariants as mark;
-ghost use Rattle.semantic_tree.specs.Views.{is_marked};
+ghost use Rattle.semantic_tree.specs.Views.{has};
 ghost use Rattle.semantic_diagnostics.specs.Types as tell;
 ghost use Rattle.check_model.specs.Groups.{is_module_kind, under_namespaces};
 ghost use Rattle.check_model.specs.Namespaces as rows;
@@ -100,7 +100,7 @@ fn tell_undeclared(
     out: &mut Diagnostics,
 ) -> Result<(), AllocError>
     requires { IsHanded kind.node.now ctx.now }
-    ensures { let s = sight kind.entry.node.now ctx.now in Tells result (row_if (not (is_marked mark.Declare s.node || s.is_ambient)) (tell.global_scope_augmentation_should_have_declare_modifier (rows.global_span s))) out.old out.new }
+    ensures { let s = sight kind.entry.node.now ctx.now in Tells result (row_if (not (has mark.Declare s.node || s.is_ambient)) (tell.global_scope_augmentation_should_have_declare_modifier (rows.global_span s))) out.old out.new }
 {
     if kind.has_mark(Mark::Declare) || ctx.in_ambient {
         return Ok(());

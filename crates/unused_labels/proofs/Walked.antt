@@ -7,7 +7,7 @@ use Rattle.semantic_kinds.specs.declared.kind.AstType.{AstType}
 use Rattle.semantic_kinds.specs.declared.kind.AstType.TheVariants as kind
 use Rattle.semantic_tree.specs.Forest.{Forest, nothing, tree}
 use Rattle.semantic_tree.specs.declared.node.Node.{Node}
-use Rattle.semantic_model.specs.Nodes.{reads, holds}
+use Rattle.semantic_tree.specs.Views.{has_text, holds}
 use Rattle.semantic_model.specs.Label.{label_of, is_jump, is_labelled, is_named_in, is_used, unused_in, unused_labels}
 use Rattle.unused_labels.specs.LabelStack.{Labelled, LabelLists, no_labels, entered, left}
 use Rattle.unused_labels.specs.Labelling.{label_met, node_entered, walked_below, used_where, used_by}
@@ -25,7 +25,7 @@ jumps_apart _ h = absurd cc
 
 -- whether a jump of a node names the label
 abbrev named_at : Bool → Bool → Option Node → Forest → Name → Bool
-named_at jump labelled o below label = (jump && holds (reads label) o) || (not (labelled && holds (reads label) o) && is_named_in label below)
+named_at jump labelled o below label = (jump && holds (has_text label) o) || (not (labelled && holds (has_text label) o) && is_named_in label below)
 
 abbrev own_unused : Bool → Option Node → ℕ → Forest → List ℕ
 own_unused labelled o id below = cond (labelled && not (is_used o below)) (id ∷ []) []

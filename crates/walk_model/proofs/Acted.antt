@@ -11,7 +11,7 @@ use Rattle.semantic_syntax.specs.declared.scope_flags.TheConstants.ScopeFlags as
 use Rattle.semantic_syntax.specs.Tables.{Bindings, Tables}
 use Rattle.semantic_syntax.specs.Reading.{scope_of}
 use Rattle.scoping.specs.Writing.{taken_over, with_home}
-use Rattle.semantic_model.specs.Nodes.{is}
+use Rattle.semantic_tree.specs.Views.{is}
 use Rattle.semantic_model.specs.Place.{Place, OpenScope, at}
 use Rattle.semantic_model.specs.Binding.{Binding, take_over, bound_by}
 use Rattle.semantic_model.specs.Event.{takes_over}

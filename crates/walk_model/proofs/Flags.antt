@@ -15,7 +15,7 @@ use Rattle.semantic_syntax.specs.SourceTypes.{is_module}
 use Rattle.semantic_syntax.specs.Tables.{Scope}
 use Rattle.semantic_tree.specs.declared.node.Node.{Node}
 use Rattle.semantic_syntax.specs.Reading.{no_scope}
-use Rattle.semantic_model.specs.Nodes.{has_use_strict, reads}
+use Rattle.semantic_tree.specs.Views.{has_use_strict, has_text}
 use Rattle.semantic_model.specs.Place.{Place, is_strict}
 use Rattle.semantic_model.specs.ScopeKind.{strict_if, strict_by_body, accessor, value_of, method_flags, flags_of_kind, opened_scope}
 use Rattle.walk_model.specs.Opens.{with_eval}
@@ -42,7 +42,7 @@ clean_accessor text = clean_cond (bytes_eq text (codes "get")) scope.GetAccessor
 
 clean_value : (k : AstType) (text : List ℕ) (node : Node) → IsClean (value_of k text node)
 clean_value kind.MethodDefinition text node = clean_cond (bytes_eq text (codes "constructor")) scope.Constructor.bits (accessor text) refl (clean_accessor text)
-clean_value kind.ObjectProperty text node = clean_cond (reads (codes "expression") node) (accessor text) 0 (clean_accessor text) refl
+clean_value kind.ObjectProperty text node = clean_cond (has_text (codes "expression") node) (accessor text) 0 (clean_accessor text) refl
 clean_value _ text node = refl
 
 clean_method : (path : List Node) (node : Node) → IsClean (method_flags path node)

@@ -16,7 +16,7 @@ use Rattle.semantic_kinds.specs.declared.class.Class.TheVariants as class
 use Rattle.semantic_syntax.specs.declared.scope_flags.TheConstants.ScopeFlags as scope
 use Rattle.semantic_syntax.specs.Sets.{meets, union}
 use Rattle.semantic_syntax.specs.SourceTypes.{is_module}
-use Rattle.semantic_model.specs.Nodes.{has_role, has_use_strict}
+use Rattle.semantic_tree.specs.Views.{has_role, has_use_strict}
 use Rattle.semantic_model.specs.Place.{Place, OpenScope, outside, is_strict}
 use Rattle.semantic_model.specs.Inside.{opens, is_inside, any_inside, header_roles, is_in_header, is_parameter_decorator, scopes_in}
 use Rattle.semantic_model.specs.ScopeKind.{opened_scope, strict_if}

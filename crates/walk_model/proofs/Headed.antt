@@ -13,7 +13,7 @@ use Rattle.semantic_kinds.specs.declared.role.Role.{Role}
 use Rattle.semantic_kinds.specs.declared.role.Role.TheVariants as role
 use Rattle.semantic_syntax.specs.declared.scope_flags.TheConstants.ScopeFlags as scope
 use Rattle.semantic_syntax.specs.Sets.{meets, union}
-use Rattle.semantic_model.specs.Nodes.{is, has_role, reads, child_of, holds, has_use_strict}
+use Rattle.semantic_tree.specs.Views.{is, has_role, has_text, child_of, holds, has_use_strict}
 use Rattle.semantic_model.specs.Place.{Place, OpenScope, is_strict}
 use Rattle.semantic_model.specs.Inside.{opens, is_inside, any_inside, header_roles, is_in_header}
 use Rattle.semantic_model.specs.ScopeKind.{strict_if, accessor, value_of, method_flags, flags_of_kind, opened_scope}
@@ -184,7 +184,7 @@ accessory_text text = accessory_cond (bytes_eq text (codes "get")) scope.GetAcce
 
 accessory_value : (k : AstType) (text : List ℕ) (node : Node) → IsAccessory (value_of k text node)
 accessory_value kind.MethodDefinition text node = accessory_cond (bytes_eq text (codes "constructor")) scope.Constructor.bits (accessor text) (inr (inr (inr refl))) (accessory_text text)
-accessory_value kind.ObjectProperty text node = accessory_cond (reads (codes "expression") node) (accessor text) 0 (accessory_text text) (inl refl)
+accessory_value kind.ObjectProperty text node = accessory_cond (has_text (codes "expression") node) (accessor text) 0 (accessory_text text) (inl refl)
 accessory_value _ text node = inl refl
 
 accessory_method : (path : List Node) (node : Node) → IsAccessory (method_flags path node)

@@ -5,7 +5,7 @@ use Rattle.semantic_tree.specs.Forest.{Forest}
 use Rattle.semantic_tree.specs.declared.node.Node.{Node}
 use Rattle.semantic_kinds.specs.declared.kind.AstType.{AstType}
 use Rattle.semantic_kinds.specs.declared.role.Role.{Role}
-use Rattle.semantic_model.specs.Nodes.{has_role}
+use Rattle.semantic_tree.specs.Views.{has_role}
 use Rattle.semantic_model.specs.Place.{Place, OpenScope, outside}
 use Rattle.semantic_model.specs.Inside.{is_inside, header_roles, is_in_header, is_parameter_decorator}
 use Rattle.semantic_model.specs.Declaration.{contains}

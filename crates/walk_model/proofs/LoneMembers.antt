@@ -16,7 +16,7 @@ use Rattle.semantic_tree.specs.Place.{root_place, child_place, placed_below}
 use Rattle.semantic_tree.specs.Rules.{number_in, template_stands, stands, keeps_table, is_rooted, names_foreign, is_well_formed}
 use Rattle.semantic_tree.specs.declared.node.Node.{Node}
 use Rattle.semantic_tree.specs.declared.place.Place.{Place}
-use Rattle.semantic_model.specs.Nodes.{is, children_of}
+use Rattle.semantic_tree.specs.Views.{is, children_of}
 use Rattle.semantic_model.specs.Binder.{member_names}
 use Rattle.semantic_model.proofs.Clauses.{kind_is, first_holds, second_holds}
 use Rattle.semantic_model.proofs.Shape.{NoneMisshapen, first_formed, rest_formed, table_kept, fit_kept, none_misshapen}

@@ -8,7 +8,7 @@ use Rattle.semantic_kinds.specs.declared.role.Role.{Role}
 use Rattle.semantic_kinds.specs.declared.role.Role.TheVariants as role
 use Rattle.semantic_tree.specs.Forest.{Forest, nothing, tree}
 use Rattle.semantic_tree.specs.declared.node.Node.{Node}
-use Rattle.semantic_model.specs.Nodes.{is_role_of, children_of}
+use Rattle.semantic_tree.specs.Views.{is_role_of, children_of}
 use Rattle.semantic_model.specs.Names.{binding_roles, bound_below, bound_names, names_at}
 use Rattle.semantic_model.specs.Place.{Place}
 use Rattle.semantic_model.specs.Declaration.{Declaration, plain, here}

@@ -14,7 +14,7 @@ use Rattle.semantic_tree.specs.Nodes.{nodes_in}
 use Rattle.semantic_tree.specs.Fit.{fit, Fit, AreInRole}
 use Rattle.semantic_tree.specs.declared.node.Node.{Node}
 use Rattle.semantic_tree.proofs.FitLaws.{fit-Fit}
-use Rattle.semantic_model.specs.Nodes.{is, is_role_of, children_of}
+use Rattle.semantic_tree.specs.Views.{is, is_role_of, children_of}
 use Rattle.semantic_model.specs.Names.{binding_roles, bound_below, bound_names, names_at}
 use Rattle.semantic_model.proofs.Clauses.{role_is, first_holds, second_holds}
 

@@ -12,7 +12,7 @@ use Rattle.semantic_syntax.specs.Sets.{meets}
 use Rattle.semantic_syntax.specs.Tables.{Scope}
 use Rattle.semantic_syntax.specs.Reading.{scope_of, no_scope}
 use Rattle.semantic_syntax.specs.Told.{source_of}
-use Rattle.semantic_model.specs.Nodes.{is}
+use Rattle.semantic_tree.specs.Views.{is}
 use Rattle.semantic_model.specs.Place.{Place, OpenScope, at, innermost}
 use Rattle.semantic_model.specs.Declaration.{Declaration, contains}
 use Rattle.semantic_model.specs.Step.{Step, entering, opening, header_ending, closing, leaving}

@@ -24,7 +24,7 @@ use Rattle.semantic_tree.specs.Place.{root_place, child_place, placed_below}
 use Rattle.semantic_tree.specs.Rules.{is_well_formed}
 use Rattle.semantic_tree.specs.declared.node.Node.{Node}
 use Rattle.semantic_tree.specs.declared.place.Place.{Place}
-use Rattle.semantic_model.specs.Nodes.{has_role}
+use Rattle.semantic_tree.specs.Views.{has_role}
 use Rattle.semantic_model.specs.Inside.{header_roles, is_in_header}
 use Rattle.semantic_model.proofs.Clauses.{kind_is, role_is, first_holds, second_holds, both_hold}
 use Rattle.semantic_model.proofs.ParameterShape.{lead_in_role}

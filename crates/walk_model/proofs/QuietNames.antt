@@ -12,7 +12,7 @@ use Rattle.semantic_kinds.specs.declared.class.Class.{Class}
 use Rattle.semantic_kinds.specs.declared.class.Class.TheVariants as class
 use Rattle.semantic_tree.specs.Tree.{Tree}
 use Rattle.semantic_tree.specs.Faults.{first_fault}
-use Rattle.semantic_model.specs.Nodes.{is_role_of}
+use Rattle.semantic_tree.specs.Views.{is_role_of}
 use Rattle.semantic_model.specs.Names.{binding_roles}
 use Rattle.semantic_model.proofs.Clauses.{kind_is, first_holds, second_holds}
 use Rattle.walk_model.proofs.Shapes.{HoldsPart, HoldParts, holds_below, tree_holds}

@@ -9,7 +9,7 @@ use Rattle.semantic_syntax.specs.Tables.{Scope}
 use Rattle.semantic_syntax.specs.Told.{source_of}
 use Rattle.semantic_syntax.specs.Reading.{way_of}
 use Rattle.semantic_tree.specs.Forest.{Forest, nothing, tree}
-use Rattle.semantic_model.specs.Nodes.{is, has_role}
+use Rattle.semantic_tree.specs.Views.{is, has_role}
 use Rattle.semantic_model.specs.Inside.{header_roles}
 use Rattle.walk_model.proofs.Touched.{AllTouch}
 use Rattle.semantic_model.specs.Place.{Place, OpenScope, at}

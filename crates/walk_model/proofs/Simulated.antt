@@ -7,7 +7,7 @@ use Rattle.semantic_kinds.specs.Roles.{same_role}
 use Rattle.semantic_tree.specs.Tree.{Tree}
 use Rattle.semantic_tree.specs.Faults.{first_fault}
 use Rattle.semantic_syntax.specs.Told.{source_of}
-use Rattle.semantic_model.specs.Nodes.{is}
+use Rattle.semantic_tree.specs.Views.{is}
 use Rattle.semantic_model.specs.Place.{Place, OpenScope, innermost, parent_holds}
 use Rattle.semantic_model.specs.Binding.{bound_by}
 use Rattle.semantic_model.specs.Declaration.{How, plain, hoisted, moved, caught, Declaration, stands_in}

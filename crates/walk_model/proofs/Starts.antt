@@ -13,7 +13,7 @@ use Rattle.semantic_syntax.specs.Tables.{Scope, Tables}
 use Rattle.semantic_syntax.specs.Source.{chain_within, chain}
 use Rattle.semantic_syntax.specs.Reading.{scope_of, no_scope, parent_of}
 use Rattle.semantic_syntax.specs.Told.{source_of}
-use Rattle.semantic_model.specs.Nodes.{is}
+use Rattle.semantic_tree.specs.Views.{is}
 use Rattle.semantic_model.specs.Place.{Place, OpenScope, at}
 use Rattle.semantic_model.specs.Declaration.{Declaration, contains}
 use Rattle.semantic_model.specs.Step.{Step, entering, opening, header_ending, closing, leaving}

@@ -11,7 +11,7 @@ use Rattle.semantic_syntax.specs.Sets.{meets, union}
 use Rattle.semantic_syntax.specs.Tables.{Tables}
 use Rattle.semantic_syntax.specs.Reading.{scope_of}
 use Rattle.semantic_syntax.specs.Told.{source_of}
-use Rattle.semantic_model.specs.Nodes.{has_role}
+use Rattle.semantic_tree.specs.Views.{has_role}
 use Rattle.semantic_model.specs.Place.{Place, OpenScope, at, innermost, outside}
 use Rattle.semantic_model.specs.Inside.{opens, is_inside, any_inside, header_roles, is_in_header, is_parameter_decorator}
 use Rattle.semantic_model.specs.ScopeKind.{opened_scope, flags_of_kind, strict_if}

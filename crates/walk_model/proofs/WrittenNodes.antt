@@ -9,7 +9,7 @@ use Rattle.semantic_syntax.specs.Tables.{Name}
 use Rattle.semantic_tree.specs.Nodes.{trees}
 use Rattle.semantic_tree.specs.Fit.{fit}
 use Rattle.semantic_tree.specs.declared.node.Node.{Node}
-use Rattle.semantic_model.specs.Nodes.{is, child_of, children_of, holds}
+use Rattle.semantic_tree.specs.Views.{is, child_of, children_of, holds}
 use Rattle.semantic_model.specs.Names.{bound_names}
 use Rattle.semantic_model.specs.Place.{Place, OpenScope, innermost}
 use Rattle.semantic_model.specs.Binder.{ids, is_statement, declared_on_entering, declared_on_opening}

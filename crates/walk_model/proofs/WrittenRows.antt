@@ -11,7 +11,7 @@ use Rattle.semantic_syntax.specs.Sets.{meets, union}
 use Rattle.semantic_syntax.specs.Tables.{Name}
 use Rattle.semantic_tree.specs.Nodes.{first_of}
 use Rattle.semantic_tree.specs.declared.node.Node.{Node}
-use Rattle.semantic_model.specs.Nodes.{is, has, is_with_text, children_of, child_of, holds}
+use Rattle.semantic_tree.specs.Views.{is, has, is_with_text, children_of, child_of, holds}
 use Rattle.semantic_model.specs.Names.{bound_names, names_at}
 use Rattle.semantic_model.specs.Namespace.{InstanceState, non_instantiated, const_enum_only, instantiated, instance_state, nodes_around}
 use Rattle.semantic_model.specs.Place.{Place, OpenScope, innermost, parent_holds}

@@ -14,7 +14,7 @@ use Rattle.semantic_syntax.specs.Tables.{Name}
 use Rattle.semantic_tree.specs.Forest.{Forest, nothing, tree}
 use Rattle.semantic_tree.specs.Tree.{Tree}
 use Rattle.semantic_tree.specs.declared.node.Node.{Node}
-use Rattle.semantic_model.specs.Nodes.{is, is_with_text, child_of, holds}
+use Rattle.semantic_tree.specs.Views.{is, is_with_text, child_of, holds}
 use Rattle.semantic_model.specs.Names.{bound_names}
 use Rattle.semantic_model.specs.Inside.{is_inside, is_parameter_decorator}
 use Rattle.semantic_model.specs.Binder.{is_statement}

@@ -1,5 +1,5 @@
 use Rattle.semantic_kinds.specs.declared.role.Role.TheVariants as role
-use Rattle.semantic_model.specs.Nodes.{child_of}
+use Rattle.semantic_tree.specs.Views.{child_of}
 use Rattle.link_model.specs.Exports.{default_name}
 use Rattle.link_model.specs.Imports.{imports}
 use Rattle.module_targets.specs.AnalysedIn.{analysed_in, ties_in}

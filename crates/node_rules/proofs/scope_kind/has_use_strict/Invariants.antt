@@ -3,7 +3,7 @@ use Rattle.semantic_tree.specs.Children.{forest_of}
 use Rattle.semantic_kinds.specs.declared.kind.AstType.TheVariants as kind
 use Rattle.semantic_kinds.specs.declared.role.Role.TheVariants as role
 use Rattle.std.proofs.Common.{codes}
-use Rattle.semantic_model.specs.Nodes.{is_with_text, children_of}
+use Rattle.semantic_tree.specs.Views.{is_with_text, children_of}
 use Rattle.std.specs.List.{list_any}
 use Rattle.node_rules.proofs.scope_kind.has_use_strict.Given as goal
 

@@ -2,7 +2,7 @@ use Rattle.std.proofs.Common.{◌≡◌}
 use Rattle.std.specs.List.{list_any}
 use Rattle.semantic_kinds.specs.declared.role.Role.TheVariants as role
 use Rattle.semantic_tree.specs.ChildIter.{left_of}
-use Rattle.semantic_model.specs.Nodes.{children_of}
+use Rattle.semantic_tree.specs.Views.{children_of}
 use Rattle.rename_passes.specs.Told.{told_by}
 use Rattle.rename_model.specs.Renamed.{bears_name}
 use Rattle.rename_model.specs.WithName.{is_named_value}

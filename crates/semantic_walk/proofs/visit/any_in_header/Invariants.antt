@@ -1,6 +1,6 @@
 use Rattle.std.proofs.Common.{◌≡◌, drop}
 use Rattle.semantic_tree.specs.Children.{forest_of}
-use Rattle.semantic_model.specs.Nodes.{has_role}
+use Rattle.semantic_tree.specs.Views.{has_role}
 use Rattle.semantic_model.specs.Inside.{header_roles}
 use Rattle.semantic_walk.proofs.visit.any_in_header.Given as goal
 

@@ -1,7 +1,7 @@
 use Rattle.std.proofs.Common.{◌≡◌, map}
 use Rattle.semantic_kinds.specs.declared.role.Role.TheVariants as role
 use Rattle.semantic_tree.specs.ChildIter.{left_of}
-use Rattle.semantic_model.specs.Nodes.{children_of}
+use Rattle.semantic_tree.specs.Views.{children_of}
 use Rattle.module_entries.specs.Views.{export_of}
 use Rattle.module_entries.specs.Entries.{seen, with_exports}
 use Rattle.module_entries.proofs.entries.ModuleEntries.gather_specifiers.Given as goal

@@ -1,7 +1,7 @@
 use Rattle.std.proofs.Common.{◌≡◌, map}
 use Rattle.semantic_kinds.specs.declared.role.Role.TheVariants as role
 use Rattle.semantic_tree.specs.ChildIter.{left_of}
-use Rattle.semantic_model.specs.Nodes.{children_of}
+use Rattle.semantic_tree.specs.Views.{children_of}
 use Rattle.semantic_model.specs.Namespace.{specifier_reached, specifiers_reached}
 use Rattle.namespace_leads.specs.Led.{led_by}
 use Rattle.namespace_leads.proofs.program_pass.ProgramPass.follow_specifiers.Given as goal

@@ -6,7 +6,7 @@ use Rattle.semantic_tree.specs.declared.node.Node.{Node}
 use Rattle.semantic_kinds.specs.declared.kind.AstType.{AstType}
 use Rattle.semantic_kinds.specs.declared.role.Role.{Role}
 use Rattle.semantic_model.specs.Names.{binding_roles, bound_below, bound_names}
-use Rattle.semantic_model.specs.Nodes.{is_role_of}
+use Rattle.semantic_tree.specs.Views.{is_role_of}
 use Rattle.walk_model.specs.Naming.{Naming}
 use Rattle.table_building.specs.Growth.{Goes}
 use Rattle.table_building.specs.Named.{named_by}

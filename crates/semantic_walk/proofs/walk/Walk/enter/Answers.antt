@@ -1,6 +1,6 @@
 use Rattle.std.proofs.Common.{◌≡◌, false, cond, length, refl, sym, ap, ◌∙◌, arith}
 use Rattle.semantic_kinds.specs.declared.kind.AstType.TheVariants as kind
-use Rattle.semantic_model.specs.Nodes.{is}
+use Rattle.semantic_tree.specs.Views.{is}
 use Rattle.semantic_walk.specs.Walker.{Walker, referring}
 use Rattle.semantic_walk.specs.EvenKinds.{acts_on_entering}
 use Rattle.semantic_walk.proofs.RoomAt.{ids_entered}

@@ -2,8 +2,7 @@ use Rattle.std.proofs.Common.{◌≡◌, ◌+◌, ◌-◌, ◌^◌, ◌≤◌, l
 use Rattle.semantic_kinds.specs.declared.kind.AstType.TheVariants as kind
 use Rattle.semantic_kinds.specs.declared.role.Role.TheVariants as role
 use Rattle.semantic_tree.specs.ChildIter.{left_of}
-use Rattle.semantic_tree.specs.Views.{all_in}
-use Rattle.semantic_model.specs.Nodes.{is}
+use Rattle.semantic_tree.specs.Views.{all_in, is}
 use Rattle.table_building.specs.Growth.{Goes}
 use Rattle.table_building.specs.Named.{member_naming}
 use Rattle.table_building.specs.Each.{declare_each}
