@@ -14,7 +14,7 @@ ghost use Rattle.namesakes.specs.WrittenNames.{Adds, openers_of};
 
 use node_rules::declaring::binds_under;
 use node_rules::inside::{is_inside, is_parameter_decorator};
-use node_rules::questions::reads;
+use node_rules::rows::{is_statement, is_var_declaration};
 use scoping::name_table::NameTable;
 use semantic_syntax::{Ident, NodeId, SourceType};
 use semantic_tree::{AstKind, AstType, Program, Role};
@@ -64,8 +64,7 @@ fn is_sloppy(source_type: SourceType) -> bool
 fn is_known_inside(kind: AstKind<'_>) -> bool
     ensures { result ≡ is_known_inside kind.entry.node.now }
 {
-    matches!(kind.ty(), AstType::Function | AstType::Class)
-        && !(reads(kind, "declaration") || reads(kind, "ts-declare"))
+    matches!(kind.ty(), AstType::Function | AstType::Class) && !is_statement(kind)
 }
 
 /// Whether the variables of a declaration are lexical: all but those of `var` (ECMAScript 14.3.1, Let and Const
@@ -74,9 +73,7 @@ fn is_lexical(declaration: Option<AstKind<'_>>) -> bool
     ensures { result ≡ is_lexical (option_map shown declaration.entry) }
 {
     match declaration {
-        Some(declaration) => {
-            !(declaration.ty() == AstType::VariableDeclaration && reads(declaration, "var"))
-        }
+        Some(declaration) => !is_var_declaration(declaration),
         None => false,
     }
 }

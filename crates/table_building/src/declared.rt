@@ -17,6 +17,7 @@ ghost use Rattle.table_building.specs.Named.{naming, named_by};
 use crate::conflicts::Conflicts;
 use crate::declaration::Declaration;
 use crate::remembered::Remembered;
+use crate::route::parent;
 use node_rules::rows::Row;
 use resolver::UnresolvedReferences;
 use scoping::{NodeTables, Scoping};
@@ -161,8 +162,7 @@ impl<'a> Declared<'a> {
         ensures value { result ≡ (scope_of self.now.tables scope).parent }
         ensures within { IfSome result (λ s. s < length self.now.tables.scopes) }
     {
-        self.scoping.attest();
-        self.scoping.scope_parent_id(scope)
+        parent(&self.scoping, scope)
     }
 
     /// The symbol that the scope remembers for the name.

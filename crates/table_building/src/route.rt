@@ -53,7 +53,7 @@ pub struct Route {
 }
 
 /// The scope around the scope, which the root's has not.
-fn parent(scoping: &Scoping, scope: ScopeId) -> Option<ScopeId>
+pub(crate) fn parent(scoping: &Scoping, scope: ScopeId) -> Option<ScopeId>
     requires { scope < length scoping.now.scopes }
     ensures value { result ≡ (scope_of scoping.now scope).parent }
     ensures within { IfSome result (λ s. s < length scoping.now.scopes) }

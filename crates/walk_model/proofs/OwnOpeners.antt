@@ -12,9 +12,9 @@ use Rattle.semantic_model.specs.Place.{Place, OpenScope, innermost}
 use Rattle.semantic_model.specs.Declaration.{Declaration, contains, standing}
 use Rattle.semantic_model.specs.Binder.{declared_by, declared_on_entering, declared_on_opening}
 use Rattle.semantic_model.specs.Step.{Step, entering, opening, header_ending, closing, leaving, steps}
-use Rattle.semantic_model.specs.Event.{written_declarations, any_bars}
+use Rattle.semantic_model.specs.Event.{counts_past, written_declarations, any_bars}
 use Rattle.walk_model.specs.Walks.{numbers}
-use Rattle.walk_model.specs.WrittenNames.{counts_past, any_standing}
+use Rattle.walk_model.specs.WrittenNames.{any_standing}
 use Rattle.walk_model.proofs.Nested.{AreNested, open_past, contains_more}
 use Rattle.walk_model.proofs.Routes.{HasVar, grounded, GoesOut, AllGoOut, entering_goes, opening_goes}
 use Rattle.walk_model.proofs.Grounds.{IsGrounded, AllGrounded, all_grounded}

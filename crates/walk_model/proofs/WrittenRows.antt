@@ -17,7 +17,8 @@ use Rattle.semantic_model.specs.Namespace.{InstanceState, non_instantiated, cons
 use Rattle.semantic_model.specs.Place.{Place, OpenScope, innermost, parent_holds}
 use Rattle.semantic_model.specs.Declaration.{plain, caught, Declaration, Route, here, passed_before, first_with, route_from, outward_past, standing}
 use Rattle.semantic_model.specs.Binder.{Row, declare, declare_here, is_var, is_block_function, lexical_flags, variable_row, variables_under, function_flags, function_row, own_function_row, class_row, is_pure_declarator, ids, ambient_if, marked_ambient, is_special, is_statement, parameter_excluded, parameters_under, catch_names, import_flags, enums, member_named, namespace_row, type_parameter_route, type_parameter_row, declared_by, declared_inside}
-use Rattle.walk_model.specs.WrittenNames.{Written, is_written, is_lexical, names_in, counts_past, any_standing}
+use Rattle.semantic_model.specs.Event.{counts_past}
+use Rattle.walk_model.specs.WrittenNames.{Written, is_written, is_lexical, names_in, any_standing}
 use Rattle.walk_model.proofs.NamesInRole.{AtMostOne}
 
 -- whether a symbol of these flags is one past which a block function doesn't move

@@ -7,8 +7,6 @@ use Rattle.semantic_kinds.specs.declared.kind.AstType.TheVariants as kind
 use Rattle.semantic_kinds.specs.declared.role.Role.{Role}
 use Rattle.semantic_kinds.specs.declared.role.Role.TheVariants as role
 use Rattle.semantic_syntax.specs.declared.source_type.SourceType.{SourceType}
-use Rattle.semantic_syntax.specs.declared.symbol_flags.TheConstants.SymbolFlags as symbol
-use Rattle.semantic_syntax.specs.Sets.{meets}
 use Rattle.semantic_syntax.specs.SourceTypes.{is_typescript, is_module}
 use Rattle.semantic_syntax.specs.Tables.{Name}
 use Rattle.semantic_tree.specs.Forest.{Forest, nothing, tree}
@@ -19,6 +17,7 @@ use Rattle.semantic_model.specs.Names.{bound_names}
 use Rattle.semantic_model.specs.Inside.{is_inside, is_parameter_decorator}
 use Rattle.semantic_model.specs.Binder.{is_statement}
 use Rattle.semantic_model.specs.Declaration.{Declaration, standing}
+use Rattle.semantic_model.specs.Event.{counts_past}
 
 -- a name, declared in the scope that a node opens
 pub record Written : Type 0 where
@@ -87,10 +86,6 @@ is_sloppy source_type = not (is_typescript source_type) && not (is_module source
 -- what a program declares
 abbrev pub names_written : Tree → List Written
 names_written program = written_in program.root None (record { innermost = 0; around = 0 })
-
--- whether the declaration is one past which a block function doesn't move
-abbrev pub counts_past : Declaration → Bool
-counts_past e = meets e.flags symbol.BlockScopedVariable.bits || meets e.flags symbol.Class.bits || meets e.flags symbol.Function.bits
 
 -- whether one of the name that counts stands in the scope that the node opens
 abbrev pub any_standing : ℕ → Name → List Declaration → Bool
