@@ -26,12 +26,12 @@ is_module_kind kinds.TSNamespaceDeclaration = true
 is_module_kind kinds.TSGlobalDeclaration = true
 is_module_kind _ = false
 
--- a label
+-- labels may be nested, as in `a: b: c;`
 abbrev pub is_label : AstType → Bool
 is_label kinds.LabeledStatement = true
 is_label _ = false
 
--- a namespace
+-- namespaces may be nested, as in `namespace A.B {}`
 abbrev pub is_namespace : AstType → Bool
 is_namespace kinds.TSNamespaceDeclaration = true
 is_namespace _ = false

@@ -133,7 +133,6 @@ last_untold p None n = by (opens p.node.kind)
     by true = two_untold (opening p (opened_scope p n) ∷ []) (closing p (opened_scope p n) ∷ []) (one_untold (opening p (opened_scope p n)) tt) (one_untold (closing p (opened_scope p n)) tt)
     by false = none_untold
 
--- a node
 pub node_told : (checks : Bool) (source : List ℕ) (ds : List Declaration) (t : Telling) (p : Place) (n : ℕ) → telling_along checks source ds t (steps_of p n) ≡ telling_over checks source ds t p n
 node_told checks source ds t p n =
     let below : List Step = steps_below p None n (on_entering p.node.kind p.cursor) p.node.children in

@@ -66,7 +66,6 @@ module _ (s : Sight) (els : List StoredElement) (i : ℕ) (within : i < length e
       (sym (ap (λ (e : EarlierElements). predecessor_in e (element_seen own)) is ∙ predecessor_found (map element_seen (take i els)) (element_seen own)))
 
   module _ (rows before mid now : List Diagnostic) (telling : IsTelling rows (rows_left s els i) before mid) where
-    -- the element is told of
     pub element_told : now ≡ mid ++ own_rows s earlier (element_seen own) → IsTelling rows (rows_left s els (i + 1)) before now
     element_told k = goes_on rows (own_rows s earlier (element_seen own)) (rows_left s els (i + 1)) before mid now (subst (λ l. IsTelling rows l before mid) own_first telling) k
 

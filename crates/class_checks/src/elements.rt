@@ -146,7 +146,6 @@ fn tell_class(
     tell_elements(alloc, elements, &mut earlier, ctx, out)
 }
 
-/// The elements of each class.
 fn elements_by_class<'t, 'a>(classes: &'t ClassTable<'a>) -> &'t [Vec<Element<'a>>]
     ensures { map (λ v. map element_seen v.items) result.now ≡ classes.entry.now.elements }
 {

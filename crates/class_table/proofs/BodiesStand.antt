@@ -97,7 +97,6 @@ fit_none (p ∷ ps) cs h f =
     subst (λ xs. none_is_body xs ≡ true) (take-append-drop n cs)
     (none_append (take n cs) (drop n cs) (run_none p (take n cs) (λ text. first_holds (takes false text p) _ (h text)) (second_holds _ (all_of p.class (take n cs)) r.0)) (fit_none ps (drop n cs) (λ text. second_holds (takes false text p) _ (h text)) r.1))
 
--- the part that is a body
 abbrev body_part : Part
 body_part = record { role = role.Body; count = count.One; class = class.Only kind.ClassBody }
 

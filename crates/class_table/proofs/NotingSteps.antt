@@ -78,7 +78,6 @@ steps_note (tree r k span text marks below id after) p own n cursor b =
     ∙ ap (λ x. noting_all x later) (all_append into inner (leaving child ∷ []) ∙ ap (left k) (steps_note below child None next (on_entering k child.cursor) into))
     ∙ steps_note after p scope (next + cond (opens k) 1 0 + scopes_in below) (cursor_past p r cursor child) (left k (noted_below k id below into))
 
--- the steps of a node
 pub node_steps_note : (p : Place) (n : ℕ) (b : ClassTableBuilder) → noting_all b (steps_of p n) ≡ left p.node.kind (noted_below p.node.kind p.node.node_id p.node.children (entered_under p.path p.node b))
 node_steps_note p n b =
     let into : ClassTableBuilder = entered_under p.path p.node b in
@@ -89,7 +88,6 @@ node_steps_note p n b =
 pub noted_classes : (p : Tree) → first_fault p ≡ None → noted p.root begun ≡ record begun { classes = lists_told (classes p.root) }
 noted_classes p h = let stand = bodies_stand p h in notes_other p.root.children stand.2 stand.1 p.root.kind p.root.node_id None no_classes fits_none
 
--- its steps
 pub all_steps_note : (p : Tree) → first_fault p ≡ None → noting_all begun (steps p) ≡ record begun { classes = lists_told (classes p.root) }
 all_steps_note p h =
     let stand = bodies_stand p h in

@@ -11,7 +11,7 @@ use semantic_syntax::{Ident, NodeId, Span};
 pub struct PrivateIdentifierReference<'a> {
     /// The private identifier.
     pub id: NodeId,
-    /// Its text.
+    /// The name without its `#`.
     pub name: Ident<'a>,
     /// Where it stands in the source, in bytes.
     pub span: Span,

@@ -37,7 +37,6 @@ pub record Adds (scopes symbols references : ℕ) (t u : Tables) : Type 0 where
   pub of_symbols : length u.symbols ≤ length t.symbols + symbols
   pub of_references : length u.references ≤ length t.references + references
 
--- none does
 abbrev pub AddsNone : Tables → Tables → Type 0
 AddsNone t u = Adds 0 0 0 t u
 
@@ -72,7 +71,6 @@ none_is_few b t u h = record { of_scopes = h.of_scopes; of_symbols = omega (arit
 pub same_adds : (t u : Tables) → u ≡ t → AddsNone t u
 same_adds t u e = subst (λ v. AddsNone t v) (sym e) (adds_none t)
 
--- a symbol that is changed
 changes_symbol : (t : Tables) (y : ℕ) (x : Symbol) → AddsNone t (with_symbol t y x)
 changes_symbol t y x = record { of_scopes = omega arith; of_symbols = omega (arith, length-set t.symbols y x); of_references = omega arith }
 

@@ -11,7 +11,7 @@ use Rattle.semantic_tree.specs.Forest.{Forest, nothing, join}
 use Rattle.semantic_tree.specs.Tree.{Tree, numbered_tree}
 use Rattle.semantic_tree.specs.declared.node.Node.{Node}
 
--- the name of a function
+-- `f` and the number, in decimal
 abbrev pub function_name : ℕ → List ℕ
 function_name i = codes "f" ++ decimal i
 

@@ -13,7 +13,7 @@ use std::alloc::{AllocError, Global};
 /// How many functions a script may have.
 pub const MOST_FUNCTIONS: u32 = 100_000;
 
-/// The name of a function.
+/// `f` and the number of the function.
 #[tactic(auto, using(crate::proofs::Ascii::ascii_names, crate::proofs::Lines::names))]
 fn function_name(alloc: Global, number: u32) -> Result<String, AllocError>
     requires { number < made.most_functions }

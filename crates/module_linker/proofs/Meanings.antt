@@ -54,7 +54,6 @@ module _ (source : SourceCall) (out errs : SinkCall) (words : List (String Globa
   at_same : (told wanted : Stop) → told ≡ wanted → MeansAt (end_of_stop wanted) → MeansAt (end_of_stop told)
   at_same told wanted same means = subst (λ s. MeansAt (end_of_stop s)) (sym same) means
 
-  -- there are words
   pub means_words : (result : LinkStatus) → ((words ≡ []) → ⊥) → Unread source → Untouched out → Tells errs usage_line stop.Usage result → Means source out errs words result
   means_words result not_asked unread untouched (told, is, inl line) = at_stop told result is (at_same told stop.Usage line.0 (not_asked, unread, untouched, line.1))
   means_words result not_asked unread untouched (told, is, inr part) = at_stop told result is (at_same told stop.Memory part.0 (inr unread, inl untouched, (usage_line, of_usage, part.1)))

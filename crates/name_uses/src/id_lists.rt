@@ -4,7 +4,7 @@ ghost use Rattle.std.specs.Prelude.{◌≡◌};
 use semantic_syntax::{ReferenceId, SymbolId};
 use std::marker::Model;
 
-/// Symbols.
+/// Ids of symbols, in the order in which they were found.
 #[derive(Drop)]
 pub struct SymbolIdList {
     ids: Vec<SymbolId>,
@@ -19,7 +19,7 @@ impl Model for SymbolIdList {
 }
 
 impl SymbolIdList {
-    /// These symbols.
+    /// The list over the vector, without taking memory.
     pub fn new(ids: Vec<SymbolId>) -> SymbolIdList
         ensures { result ≡ ids.items }
     {
@@ -41,7 +41,7 @@ impl SymbolIdList {
     }
 }
 
-/// References.
+/// Ids of references, in the order in which they were found.
 #[derive(Drop)]
 pub struct ReferenceIdList {
     ids: Vec<ReferenceId>,
@@ -56,7 +56,7 @@ impl Model for ReferenceIdList {
 }
 
 impl ReferenceIdList {
-    /// These references.
+    /// The list over the vector, without taking memory.
     pub fn new(ids: Vec<ReferenceId>) -> ReferenceIdList
         ensures { result ≡ ids.items }
     {

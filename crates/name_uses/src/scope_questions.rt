@@ -8,7 +8,7 @@ ghost use Rattle.name_uses.specs.Undeclared.{has_arguments, is_in_function};
 use scoping::Scoping;
 use semantic_syntax::{ScopeFlags, ScopeId};
 
-/// What the scope is.
+/// The flags of the scope, in the types of its tables.
 #[tactic(auto, using(crate::proofs::ScopesTold::scopes))]
 fn flags_of(scoping: &Scoping, scope: ScopeId) -> ScopeFlags
     ensures { result.bits ≡ scope_flags scoping.now scope }

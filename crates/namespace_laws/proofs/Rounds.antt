@@ -27,7 +27,6 @@ found-among i (x ∷ xs) h = go (i.node.node_id == x.node.node_id) refl h (λ k.
     go true q h k = (x, (inl refl, same-number i.node.node_id x.node.node_id q))
     go false q h k = let (y, (a, e)) = k h in (y, (inr a, e))
 
--- none has it
 none-among : (i : Item) (xs : List Item) → is_among i xs ≡ false → (x : Item) → Among x xs → i.node.node_id ≡ x.node.node_id → ⊥
 none-among i [] h x a e = absurd a
 none-among i (y ∷ xs) h x a e = go (i.node.node_id == y.node.node_id) refl h a (λ k b. none-among i xs k x b e)

@@ -26,7 +26,6 @@ same_way parents more before (suc steps) (suc n) h =
 numbered_first : (nodes : List SeenNode) (n : ℕ) (ids : List ℕ) (d : SeenNode) → n < length nodes → numbered_of nodes (n ∷ ids) ≡ (n, get_or nodes n d) ∷ numbered_of nodes ids
 numbered_first nodes n ids d h = rw (slice_get-get_or nodes n d h) refl
 
--- so do the nodes
 same_nodes : (nodes more : List SeenNode) (ids : List ℕ) → All (λ k. k < length nodes) ids → numbered_of (nodes ++ more) ids ≡ numbered_of nodes ids
 same_nodes nodes more [] h = refl
 same_nodes nodes more (n ∷ ids) h =
@@ -65,7 +64,6 @@ first_path list node id scope parent flags none root =
     ap (λ (ns : List SeenNode). kinds_of (numbered_of (ns ++ s ∷ []) (0 ∷ []))) empty
     ∙ sym (ap (λ (p : ℕ). node ∷ kinds_of (numbered_of list.nodes (outward list.parents p))) root ∙ ap (λ (ns : List SeenNode). node ∷ kinds_of (numbered_of ns (0 ∷ []))) empty)
 
--- the path of a later one
 later_path : (list : NodeList) → HasParents list → (node : Node) (id scope parent : ℕ) (flags : NodeFlags) (n : ℕ) → length list.nodes ≡ suc n → parent ≤ n → path_in (with_node list node id scope parent flags) (suc n) ≡ node ∷ path_in list parent
 later_path list h node id scope parent flags n long le =
     let s : SeenNode = record { node = node; id = id; scope = scope } in

@@ -41,7 +41,7 @@ impl AstTypesBitset {
         self.bits[ty as usize]
     }
 
-    /// Sets a kind.
+    /// Adds the kind to the set.
     pub fn set(&mut self, ty: AstType)
         ensures { (k : AstType) → holds self.new k ≡ (holds self.old k || same_kind k ty) }
     {

@@ -137,7 +137,7 @@ impl<'a> AstNodes<'a> {
         self.get_node(self.parent_id(n))
     }
 
-    /// A node.
+    /// The node with this id, which is its position in the list.
     pub fn get_node(&self, n: NodeId) -> &AstNode<'a>
         requires { n < length self.now.nodes }
         ensures { slice_get self.now.nodes n ≡ Some (seen result.now) }

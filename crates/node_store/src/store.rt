@@ -13,7 +13,7 @@ use semantic_syntax::{NodeId, ScopeId};
 use semantic_tree::view::AstKind;
 use std::alloc::{AllocError, Global};
 
-/// What is kept.
+/// Whether all nodes are kept, or the path alone, which is all that checks ask for.
 #[derive(Drop)]
 pub enum AstNodeStoreKind<'a> {
     /// All nodes.

@@ -92,7 +92,6 @@ pub fn tree_line(alloc: Global, cause: &TreeError) -> Result<String, AllocError>
     }
 }
 
-/// The line on an error.
 fn error_line(alloc: Global, error: &ReportError) -> Result<String, AllocError>
     ensures { IfOk result (λ line. string_bytes line ≡ line_of error.now) }
 {

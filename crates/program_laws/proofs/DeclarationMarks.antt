@@ -135,7 +135,6 @@ module _ (f : Node → Marks) where
     pure_same : (node : Node) → is_pure_declarator (remarked_node f node) ≡ is_pure_declarator node
     pure_same node = λ i. child_holds f role.Id (is kind.BindingIdentifier) (λ n. refl) node i && child_holds f role.Init is_pure_function pure_function_same node i
 
-    -- a variable
     variable_by : Node → List OpenScope → ℕ → Row
     variable_by x chain ambient =
         if is_with_text kind.VariableDeclaration (codes "var") x

@@ -142,6 +142,5 @@ one_turn marks made ms i m h e = sym (ap (λ xs. with_marks made (filter (is_kep
 pub kept_turn : (marks made : Marks) (ms : List Mark) (i : ℕ) (d : Mark) → i < length ms → with_marks (with_kept marks made (get_or ms i d)) (filter (is_kept marks) (drop (i + 1) ms)) ≡ with_marks made (filter (is_kept marks) (drop i ms))
 kept_turn marks made ms i d h = one_turn marks made ms i (get_or ms i d) h (any_default ms i d (get_or ms i d) h)
 
--- at the end they are all
 pub kept_end : (marks made : Marks) (ms : List Mark) (i : ℕ) → length ms ≤ i → with_marks made (filter (is_kept marks) (drop i ms)) ≡ made
 kept_end marks made ms i h = ap (λ xs. with_marks made (filter (is_kept marks) xs)) (drop_of_length-le ms h)

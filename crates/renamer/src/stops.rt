@@ -28,7 +28,6 @@ fn tell_stopped<E: Sink>(alloc: Global, cause: &ReportError, errs: &mut E) -> Re
     RenameStatus::from(tell(alloc, cause, errs))
 }
 
-/// The line on a refusal.
 fn refusal_line(alloc: Global, refusal: Refusal) -> Result<String, AllocError>
     ensures { IfOk result (λ line. string_bytes line ≡ refusal_line refusal) }
 {

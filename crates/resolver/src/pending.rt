@@ -81,7 +81,7 @@ impl<'a> UnresolvedReferences<'a> {
         self.entries.len()
     }
 
-    /// The reference at a place, if there is one.
+    /// The reference at a position, if there is one.
     pub fn get(&self, place: usize) -> Option<UnresolvedReference<'a>>
         ensures { result ≡ slice_get self.now place }
     {
@@ -93,7 +93,7 @@ impl<'a> UnresolvedReferences<'a> {
         })
     }
 
-    // Those from the place `start` on.
+    // Those from the position `start` on.
     pub(crate) fn entries_from(&self, start: usize) -> &[UnresolvedReference<'a>]
         ensures { result.now ≡ drop start self.now }
     {
@@ -105,7 +105,7 @@ impl<'a> UnresolvedReferences<'a> {
         }
     }
 
-    /// Gives the references from the place `start` on their outcomes, one for each. One that is pending stays,
+    /// Gives the references from the position `start` on their outcomes, one for each. One that is pending stays,
     /// with its new look-up scope; the others go. The order of what stays is kept.
     pub fn apply(&mut self, start: usize, outcomes: &Outcomes)
         requires { start + length outcomes.now ≡ length self.old }

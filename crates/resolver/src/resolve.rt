@@ -63,11 +63,11 @@ fn resolve_last<L, B: BindingSource<L>>(
     }
 }
 
-/// The outcomes, at the end of the header whose scope this is, of the references from the place `start` on. One
+/// The outcomes, at the end of the header whose scope this is, of the references from the position `start` on. One
 /// that waits in the scope or below is looked up as far as the scope; if nothing is found it waits in the scope's
 /// parent. Another one waits on as it was.
 ///
-/// A step is taken for each scope that is asked. After want of memory at most as many steps have been taken.
+/// Each scope that is asked is one probe, which `steps` counts. After want of memory no more than these were made.
 pub fn resolve_header<L, B: BindingSource<L>>(
     alloc: Global,
     pending: &UnresolvedReferences<'_>,
@@ -95,7 +95,7 @@ pub fn resolve_header<L, B: BindingSource<L>>(
 /// The outcomes, in the end, of all references that wait: each is looked up as far as the first scope outward
 /// that has no parent, and is free if nothing is found. None is pending.
 ///
-/// A step is taken for each scope that is asked. After want of memory at most as many steps have been taken.
+/// Each scope that is asked is one probe, which `steps` counts. After want of memory no more than these were made.
 pub fn resolve_all<L, B: BindingSource<L>>(
     alloc: Global,
     pending: &UnresolvedReferences<'_>,

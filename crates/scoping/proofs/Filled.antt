@@ -137,7 +137,6 @@ module _ (keep : ℕ × ℕ → Bool) where
       by None rest = rest
       by (Some d) rest = rw rest refl
 
-  -- where all are kept
   pub kept_all : (xs : SlotList) → ((i : ℕ) → i < length xs → option_map_or keep (get_or xs i None) true ≡ true) → filter keep (filled xs) ≡ filled xs
   kept_all [] h = refl
   kept_all (x ∷ xs) h = by x (h 0 (omega arith)) (kept_all xs (λ i l. h (suc i) (omega arith)))

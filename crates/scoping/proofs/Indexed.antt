@@ -161,7 +161,6 @@ unfilled (Some b ∷ xs) e i = absurd (cc)
 unfilled (None ∷ xs) e zero = refl
 unfilled (None ∷ xs) e (suc i) = unfilled xs e i
 
--- the row that is read
 pub row_read : (rows : List SlotList) (s i : ℕ) (row : SlotList) → i ≡ s → s < length rows → row ≡ get_or rows i row → row ≡ get_or rows s []
 row_read rows s i row at within read = get_or_read rows s row within (read ∙ ap (λ k. get_or rows k row) at) []
 

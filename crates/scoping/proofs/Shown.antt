@@ -188,7 +188,6 @@ module _ (rows : List ScopeRow) (s i : ℕ) (was now : ScopeRow) (at : i ≡ s) 
       ∙ ap (λ k. set (map scope_of_row rows) k (scope_of_row now)) at
       ∙ ap (set (map scope_of_row rows) s) (is ∙ ap f (sym scope_at))
 
-  -- with the parent as it was
   pub parents_kept : now.parent ≡ was.parent → parents (map scope_of_row (set rows i now)) ≡ parents (map scope_of_row rows)
   parents_kept kept =
       ap parents (map-set scope_of_row rows i now)

@@ -14,7 +14,7 @@ use std::alloc::{AllocError, Global};
 use std::marker::Model;
 use std::mem;
 
-/// What each scope binds, in slots. One map tells the place of a binding's slot from the pair of the scope and the
+/// What each scope binds, in slots. One map tells the position of a binding's slot from the pair of the scope and the
 /// name's number. A number that is unbound leaves an empty slot, and the slots of a scope are packed once most of
 /// them are empty: so unbinding costs what binding does, and a pass over a scope what it binds.
 #[derive(Drop)]
@@ -36,7 +36,7 @@ impl Model for BindingTable {
     ghost invariant = { IsKept };
 }
 
-/// Binds the number to the symbol. A new number goes last, a bound one keeps its place.
+/// Binds the number to the symbol. A new number goes last, a bound one keeps its position.
 fn bind(
     places: &mut IndexMap<(ScopeId, usize), usize>,
     slots: &mut ScopeSlots,
@@ -152,7 +152,7 @@ fn unbind(
     }
 }
 
-/// Tells the places of the slots under another scope, which binds nothing. There is room for it.
+/// Tells the positions of the slots under another scope, which binds nothing. There is room for it.
 fn rekey(
     places: &mut IndexMap<(ScopeId, usize), usize>,
     slots: &ScopeSlots,
@@ -224,7 +224,7 @@ impl BindingTable {
         self.scopes[scope.index()].bound_len()
     }
 
-    /// Binds the number to the symbol. A new number goes last, a bound one keeps its place.
+    /// Binds the number to the symbol. A new number goes last, a bound one keeps its position.
     pub fn insert(
         &mut self,
         scope: ScopeId,

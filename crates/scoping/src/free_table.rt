@@ -53,7 +53,7 @@ impl FreeTable {
         Ok(())
     }
 
-    /// Takes the reference out of the list of the number. The last one takes its place, and an empty list goes.
+    /// Takes the reference out of the list of the number. The last one takes its position, and an empty list goes.
     pub fn remove(&mut self, number: usize, reference: ReferenceId)
         ensures { self.new ≡ delisted (nat_eq number) reference self.old }
     {

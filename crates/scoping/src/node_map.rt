@@ -40,7 +40,7 @@ fn is_behind<T>(entries: &[(NodeId, T)], node: NodeId) -> bool
     }
 }
 
-/// The place of the node's entry, if any, among entries whose nodes rise.
+/// The position of the node's entry, if any, among entries whose nodes rise.
 fn place_of<T>(entries: &[(NodeId, T)], node: NodeId) -> Option<usize>
     requires { AreRising entries.now }
     ensures { MatchOption result (HasNone entries.now node) (IsPlaceOf entries.now node) }
@@ -72,7 +72,7 @@ impl<T: Copy> NodeMap<T> {
         }
     }
 
-    /// Notes the value of the node. A new node goes last, one that is there keeps its place.
+    /// Notes the value of the node. A new node goes last, one that is there keeps its position.
     pub fn insert(&mut self, node: NodeId, value: T) -> Result<(), AllocError>
         ensures ok { OnOk result (self.new ≡ insert_entry nat_eq self.old node value) }
         ensures err { OnErr result (self.new ≡ self.old) }

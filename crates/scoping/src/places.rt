@@ -1,11 +1,11 @@
-//! The places of entries in lists.
+//! Positions in lists of references.
 ghost use Rattle.std.specs.Prelude.{◌≡◌, nat_eq, position};
 ghost use Rattle.indexmap.specs.IndexMap.{swap_remove_by};
 
 use itertools::Itertools;
 use semantic_syntax::ReferenceId;
 
-/// The first place of the reference.
+/// The first position of the reference.
 pub fn place_of_reference(references: &[ReferenceId], reference: ReferenceId) -> Option<usize>
     ensures { result ≡ position (nat_eq reference) references.now }
 {
@@ -16,7 +16,7 @@ pub fn place_of_reference(references: &[ReferenceId], reference: ReferenceId) ->
     Some(place)
 }
 
-/// Takes the reference out of the list. The last one takes its place.
+/// Takes the reference out of the list. The last one takes its position.
 pub fn take_out(references: &mut Vec<ReferenceId>, reference: ReferenceId)
     ensures { references.new.items ≡ swap_remove_by (nat_eq reference) references.old.items }
 {

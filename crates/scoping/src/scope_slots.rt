@@ -12,7 +12,7 @@ use std::marker::Model;
 use std::slice::Iter;
 
 /// What one scope binds, in the order of binding, each number with its symbol in a slot. What is unbound leaves
-/// its slot empty, so that the others keep their places.
+/// its slot empty, so that the others keep their positions.
 #[derive(Drop)]
 pub struct ScopeSlots {
     items: Vec<Option<(usize, SymbolId)>>,
@@ -70,7 +70,7 @@ impl ScopeSlots {
         self.empty > self.items.len() / 2
     }
 
-    /// What the slot at the place binds.
+    /// What the slot at the position binds.
     pub fn get(&self, place: usize) -> Option<(usize, SymbolId)>
         ensures { result ≡ slice_index_or self.now place None }
     {
@@ -109,7 +109,7 @@ impl ScopeSlots {
         self.items[place] = None;
     }
 
-    /// Drops the slots from the place on, which are empty.
+    /// Drops the slots from the position on, which are empty.
     pub fn truncate(&mut self, place: usize)
         requires { filled (take place self.old) ≡ filled self.old }
         ensures { self.new ≡ take place self.old }

@@ -9,7 +9,7 @@ use semantic_syntax::{
     Ident, ReferenceFlags, ReferenceId, ScopeFlags, ScopeId, Steps, SymbolFlags, SymbolId,
 };
 
-/// Scopes with parents, flags and bindings, symbols with flags, and references with ways. Steps are counted
+/// Scopes with parents, flags and bindings, symbols with flags, and references with ways. Probes are counted
 /// on a ledger of the type `L`.
 ///
 /// The law of a source: the parents make no cycle, and each parent and each bound symbol exists.
@@ -18,7 +18,7 @@ pub trait BindingSource<L> {
     ghost meaning: { Self → Source };
 
     /// The symbol that the scope binds to the name, if any. No other call than this and `bound_name` tells a
-    /// binding, and each call is one step.
+    /// binding, and each call is one probe, which `steps` counts.
     fn probe(&self, scope: ScopeId, name: Ident<'_>, steps: &mut Steps<L>) -> Option<SymbolId>
         requires { scope < (meaning self.now).scopes }
         ensures bound { result ≡ (meaning self.now).bound scope (chars name.entry.text.now) }
@@ -36,12 +36,12 @@ pub trait BindingSource<L> {
         ensures outward { result ≡ (meaning self.now).parent scope }
         ensures law { IsSource (meaning self.now) };
 
-    /// What the scope is.
+    /// The flags of the scope: `arguments` is not looked up past a function that is no arrow.
     fn flags_of_scope(&self, scope: ScopeId) -> ScopeFlags
         requires { scope < (meaning self.now).scopes }
         ensures { result.bits ≡ (meaning self.now).scope_flags scope };
 
-    /// What the symbol is.
+    /// The flags of the symbol, by which it is usable in a way or not.
     fn flags_of_symbol(&self, symbol: SymbolId) -> SymbolFlags
         requires { symbol < (meaning self.now).symbols }
         ensures { result.bits ≡ (meaning self.now).symbol_flags symbol };

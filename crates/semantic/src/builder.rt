@@ -186,9 +186,9 @@ impl SemanticBuilder {
 
     /// As `build`. The only error is want of memory.
     ///
-    /// A step is taken for each scope that a look-up asks: of each reference the scopes from its own outward, each once,
-    /// up to the one that ties it or ends its look-up. So no more steps are taken than the scopes of the references lie
-    /// deep, all together. After want of memory at most as many have been taken.
+    /// `steps` counts the probes, one for each scope that a look-up asks: of each reference those from its own outward,
+    /// once, up to the one that ties it or ends its look-up. So there are no more probes than the scopes of the
+    /// references lie deep, all together. After want of memory no more than these were made.
     pub fn build_counted<'a, L>(
         self,
         alloc: Global,

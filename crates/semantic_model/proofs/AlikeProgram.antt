@@ -66,7 +66,6 @@ module _ (f : Name → Name) where
   option_renamed None = None
   option_renamed (Some r) = Some (renamed_occurrence f r)
 
-  -- one reference
   reference_same : (p q : Place) → SamePlace f p q → entered_reference (entering q) ≡ option_renamed (entered_reference (entering p))
   reference_same p q s = subst (λ x. entered_reference (entering x) ≡ option_renamed (entered_reference (entering p))) (sym s.is) (go (cases_Bool (is kind.IdentifierReference p.node)))
     where

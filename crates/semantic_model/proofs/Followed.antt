@@ -213,7 +213,6 @@ followed p own n cursor (tree r k span text marks below id after) rest a o c e s
     clause_below : cond (same_kind k kind.CatchClause) (ends_with_block below) true ≡ true → same_kind k kind.CatchClause ≡ true → ends_with_block below ≡ true
     clause_below q i = rw i at q
 
--- so it is in a program
 pub followed_program : (p : Tree) → HasForm p → AllFollowed (steps p)
 followed_program p h =
     let root : Place = root_place p in (

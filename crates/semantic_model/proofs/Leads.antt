@@ -64,7 +64,6 @@ module _ (v : ℕ → ℕ) (table : List (Option ℕ)) where
       go true e q k = record { itself = q; lasts = var_lasts s s.body refl e h.0 }
       go false e q k = k
 
-  -- all that are passed lead there
   passed_lead : (chain : List OpenScope) (t : OpenScope) → first_with is_var chain ≡ Some t → Ends t.number → AllNear v chain → AllLead (passed_before is_var chain) t.number
   passed_lead [] t f k a = tt
   passed_lead (s ∷ ss) t f k a = go (is_var s) f a.0 (λ e. passed_lead ss t e k a.1)
@@ -115,7 +114,6 @@ module _ (v : ℕ → ℕ) (table : List (Option ℕ)) where
   names_led : (p : Place) (flags excluded : ℕ) (names : List Node) → AllLed (declare_here p flags excluded names)
   names_led p flags excluded names = row_led p.node (record { flags = flags; excluded = excluded; how = plain; route = here p.chain }) false names tt
 
-  -- so it is for each event
   abbrev pub AllEventsLed : List Event → Type 0
   AllEventsLed [] = Unit {0}
   AllEventsLed (declares d ∷ es) = IsLed d.how d × AllEventsLed es

@@ -4,8 +4,8 @@ ghost use Rattle.semantic_syntax.specs.Counts.{raised};
 
 use std::marker::Model;
 
-/// A counter of steps over a ledger. It holds the ledger, so that code that is generic in `L` can't make
-/// another counter of the caller's. Contracts see how many steps were taken.
+/// Counts the probes of look-ups, in each of which one scope is asked for a name. It holds a ledger, so that code that
+/// is generic in `L` can't make another counter of the caller's. Contracts see how many probes were made.
 #[derive(Drop)]
 pub struct Steps<L> {
     ledger: L,
@@ -28,14 +28,14 @@ impl<L> Steps<L> {
         Steps { ledger, taken: 0 }
     }
 
-    /// One step more. The counter stands still at `u64::MAX`.
+    /// One probe more. The counter stands still at `u64::MAX`.
     pub fn tick(&mut self)
         ensures { self.new ≡ raised self.old 1 }
     {
         self.taken = self.taken.saturating_add(1);
     }
 
-    /// How many steps were taken.
+    /// How many probes were made.
     pub fn count(&self) -> u64
         ensures { result ≡ self.now }
     {

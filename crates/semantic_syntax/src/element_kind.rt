@@ -15,16 +15,16 @@ impl ElementKind {
     /// An `accessor` property.
     pub const Accessor: ElementKind = ElementKind { bits: 1 << 0 };
 
-    /// A method.
+    /// A method; getters and setters have this flag, too.
     pub const Method: ElementKind = ElementKind { bits: 1 << 1 };
 
-    /// A property.
+    /// A property (a field), with or without initializer.
     pub const Property: ElementKind = ElementKind { bits: 1 << 2 };
 
-    /// A getter.
+    /// A getter, which is a method, too.
     pub const Getter: ElementKind = ElementKind { bits: 1 << 3 };
 
-    /// A setter.
+    /// A setter, which is a method, too.
     pub const Setter: ElementKind = ElementKind { bits: 1 << 4 };
 
     /// A getter or a setter.

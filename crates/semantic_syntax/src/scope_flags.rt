@@ -5,7 +5,7 @@ ghost use Rattle.bitflags.specs.Sets.{without};
 
 use bitflags::{Flag, Flags};
 
-/// What a scope is.
+/// Which kind of node opened a scope, and what is known of its code.
 #[derive(Clone, Copy, PartialEq, Eq, Debug, Default)]
 pub struct ScopeFlags {
     bits: u16,
@@ -15,31 +15,31 @@ impl ScopeFlags {
     /// Its code is strict (ECMAScript 11.2.2).
     pub const StrictMode: ScopeFlags = ScopeFlags { bits: 1 << 0 };
 
-    /// The root.
+    /// The program's scope, which is scope 0.
     pub const Top: ScopeFlags = ScopeFlags { bits: 1 << 1 };
 
-    /// A function's or an arrow's.
+    /// A function opened it, or an arrow.
     pub const Function: ScopeFlags = ScopeFlags { bits: 1 << 2 };
 
-    /// An arrow's.
+    /// An arrow opened it, so `arguments` and `this` come from further out.
     pub const Arrow: ScopeFlags = ScopeFlags { bits: 1 << 3 };
 
-    /// A static block's.
+    /// `static { .. }` in a class opened it.
     pub const ClassStaticBlock: ScopeFlags = ScopeFlags { bits: 1 << 4 };
 
     /// The block of a namespace, an external module or a global declaration.
     pub const TsModuleBlock: ScopeFlags = ScopeFlags { bits: 1 << 5 };
 
-    /// A constructor's.
+    /// The function of a class's constructor opened it.
     pub const Constructor: ScopeFlags = ScopeFlags { bits: 1 << 6 };
 
-    /// A getter's.
+    /// The function of a getter opened it, in a class or an object.
     pub const GetAccessor: ScopeFlags = ScopeFlags { bits: 1 << 7 };
 
-    /// A setter's.
+    /// The function of a setter opened it, in a class or an object.
     pub const SetAccessor: ScopeFlags = ScopeFlags { bits: 1 << 8 };
 
-    /// A catch clause's.
+    /// A catch clause opened it; its body takes over what its parameter binds.
     pub const CatchClause: ScopeFlags = ScopeFlags { bits: 1 << 9 };
 
     /// `eval` is called directly in it or below.
@@ -48,7 +48,7 @@ impl ScopeFlags {
     /// A conditional type's, where `infer` declares.
     pub const TsConditional: ScopeFlags = ScopeFlags { bits: 1 << 11 };
 
-    /// A `with` statement's.
+    /// The body of `with`, in which a name may be a property of the object.
     pub const With: ScopeFlags = ScopeFlags { bits: 1 << 12 };
 
     /// Where a `var` inside is declared.

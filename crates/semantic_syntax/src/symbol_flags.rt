@@ -5,7 +5,7 @@ ghost use Rattle.bitflags.specs.Sets.{without};
 
 use bitflags::{Flag, Flags};
 
-/// What a symbol is.
+/// By which kinds of declarations a symbol is declared: one bit for each.
 #[derive(Clone, Copy, PartialEq, Eq, Debug, Default)]
 pub struct SymbolFlags {
     bits: u32,
@@ -21,13 +21,13 @@ impl SymbolFlags {
     /// A lexical variable that is not assigned.
     pub const ConstVariable: SymbolFlags = SymbolFlags { bits: 1 << 2 };
 
-    /// A class.
+    /// Declared by `class`, as a declaration or as the own name of an expression.
     pub const Class: SymbolFlags = SymbolFlags { bits: 1 << 3 };
 
     /// A name of a catch clause.
     pub const CatchVariable: SymbolFlags = SymbolFlags { bits: 1 << 4 };
 
-    /// A function.
+    /// Declared by `function`, as a declaration or as the own name of an expression.
     pub const Function: SymbolFlags = SymbolFlags { bits: 1 << 5 };
 
     /// An import by value.
@@ -36,22 +36,22 @@ impl SymbolFlags {
     /// An import of a type.
     pub const TypeImport: SymbolFlags = SymbolFlags { bits: 1 << 7 };
 
-    /// A type alias.
+    /// Declared by `type T = ..`.
     pub const TypeAlias: SymbolFlags = SymbolFlags { bits: 1 << 8 };
 
-    /// An interface.
+    /// Declared by `interface`, as often as one likes.
     pub const Interface: SymbolFlags = SymbolFlags { bits: 1 << 9 };
 
-    /// An enum.
+    /// Declared by `enum` without `const`.
     pub const RegularEnum: SymbolFlags = SymbolFlags { bits: 1 << 10 };
 
-    /// A `const` enum.
+    /// Declared by `const enum`.
     pub const ConstEnum: SymbolFlags = SymbolFlags { bits: 1 << 11 };
 
     /// A member of an enum.
     pub const EnumMember: SymbolFlags = SymbolFlags { bits: 1 << 12 };
 
-    /// A type parameter.
+    /// Declared as `<T>`, by `infer T`, or as the key of a mapped type.
     pub const TypeParameter: SymbolFlags = SymbolFlags { bits: 1 << 13 };
 
     /// A namespace without values.

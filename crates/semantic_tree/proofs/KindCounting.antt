@@ -51,7 +51,6 @@ kinds-renamed k f s (tree role kind span text marks below id after) =
 pub counts_one : (k : AstType) (node : Node) (before now after : ℕ) → now ≡ before + cond (same_kind k node.kind) 1 0 → after ≡ now + kind_count k node.children → after ≡ before + kind_count k (single roles.Root node)
 counts_one k node before now after e f = omega arith
 
--- one more is within one more
 pub one_more_within : (b : Bool) (before now n : ℕ) → before ≤ n → now ≡ before + cond b 1 0 → now ≤ n + 1
 one_more_within b before now n h e = omega (arith, at_most_one b)
 

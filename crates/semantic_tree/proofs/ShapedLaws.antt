@@ -87,7 +87,6 @@ form_passes place node h =
     let fits = Fit-fit (parts node.kind) (trees node.children) (own_roles node.kind) h.children in
     rw (h.rooted, h.text, h.marks, fits, h.rules, h.named) refl
 
--- the comments
 comments_hold : (source : List ℕ) (last i : ℕ) (cs : List Comment) → first_bad_comment source last i cs ≡ None → AreInOrder source last cs
 comments_hold source last i [] h = tt
 comments_hold source last i (c ∷ cs) h =

@@ -18,7 +18,7 @@ pub struct StaticPropertyName<'a> {
 }
 
 impl<'a> StaticPropertyName<'a> {
-    /// The name.
+    /// The name as a text that lives as long as the tree.
     pub fn as_str(self) -> &'a str
         ensures { result.now ≡ self.entry.text.now }
     {

@@ -26,7 +26,7 @@ impl<'a> AstKind<'a> {
         AstKind { node }
     }
 
-    /// The kind.
+    /// The kind of the node, such as `CallExpression`.
     pub fn ty(self) -> AstType
         ensures { result ≡ self.entry.node.now.kind }
     {
@@ -47,7 +47,7 @@ impl<'a> AstKind<'a> {
         self.node.node_id
     }
 
-    /// The text.
+    /// What the kind tells by a text: a name, an operator, a literal's value; else it is empty.
     pub fn text(self) -> Ident<'a>
         ensures { chars result.text.now ≡ self.entry.node.now.text }
     {

@@ -129,7 +129,6 @@ pub on_err : {T E P : Type 0} (r : Result T E) → P → OnErr r P
 on_err (Ok x) p = tt
 on_err (Err e) p = p
 
--- and of success
 pub on_success : {T E P : Type 0} (r : Result T E) → P → OnOk r P
 on_success (Ok x) p = p
 on_success (Err e) p = tt

@@ -60,8 +60,8 @@ fn run<'a, L>(
 /// Analyses a program, keeps its nodes, notes its classes and tells early errors by the settings. The only error is want of
 /// memory.
 ///
-/// A step is taken for each scope that a look-up asks: of each reference the scopes from its own outward, each once,
-/// up to the one that ties it or ends its look-up. After want of memory at most as many steps have been taken.
+/// `steps` counts the probes, one for each scope that a look-up asks: of each reference those from its own outward,
+/// once, up to the one that ties it or ends its look-up. After want of memory no more probes than these were made.
 pub fn analyse<'a, L>(
     alloc: Global,
     program: &'a Program,

@@ -343,7 +343,7 @@ impl<'a> Walk<'a> {
         }
     }
 
-    /// The flags of the next reference, as the walk stands.
+    /// The cursor, as the walk stands.
     fn cursor(&self) -> ReferenceFlags
         ensures { result.bits ≡ self.now.cursor }
     {

@@ -76,7 +76,7 @@ pub struct Walk<'a> {
     /// The nodes from the root to the one that is visited, and all that the walk has entered, if they are kept.
     pub(crate) path: Path<'a>,
     pub(crate) current_scope: ScopeId,
-    /// The flags of the next reference.
+    /// The cursor: the way of the next reference, as the walk stands.
     pub(crate) cursor: ReferenceFlags,
     /// Whether the code where the walk stands is ambient.
     pub(crate) is_ambient: bool,

@@ -19,7 +19,7 @@ remember_turn w x y items i here h e = rw (drop_here items i here h e) refl
 pub remember_end : (w : Standing) (x : Name) (y : ℕ) (items : List ℕ) (i : ℕ) → length items ≤ i → remember_all w (drop i items) x y ≡ w
 remember_end w x y items i h = rw (drop_of_length-le items h) refl
 
--- conflicts don't change what is hit
+-- conflicts don't change which passed symbol is found
 hit-against : (w : Standing) (d : Naming) (o : Option ℕ) (ss : List ℕ) (x : Name) → hit (against_found w d o) ss x ≡ hit w ss x
 hit-against w d None ss x = refl
 hit-against w d (Some y) [] x = refl

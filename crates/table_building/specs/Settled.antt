@@ -29,14 +29,14 @@ outcome_of (Pending s) = model.waits s
 abbrev pub no_pending : model.Pending
 no_pending = record { name = []; reference = 0; lookup_scope = 0 }
 
--- the references that wait from a place on get their outcomes; the others wait on
+-- the references that wait from a position on get their outcomes; the others wait on
 abbrev pub settled_from : Standing → ℕ → List model.Outcome → Standing
 settled_from w start outcomes = record w {
   tables = settle w.tables (drop start w.waiting) outcomes;
   waiting = take start w.waiting ++ staying (drop start w.waiting) outcomes;
 }
 
--- how many scopes the end of the scope's header asks for the references that wait from a place on
+-- how many scopes the end of the scope's header asks for the references that wait from a position on
 abbrev pub asked_from : Standing → (start scope : ℕ) → ℕ
 asked_from w start c = sum_by (model.header_asks (source_of w.tables) c) (drop start w.waiting)
 

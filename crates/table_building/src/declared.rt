@@ -278,7 +278,7 @@ impl<'a> Declared<'a> {
         Ok(())
     }
 
-    /// Adds to what the symbol is.
+    /// Adds the flags of one more declaration to the symbol's.
     fn add_flags(&mut self, symbol: SymbolId, flags: SymbolFlags)
         requires { symbol < length self.old.tables.symbols }
         ensures made { self.new ≡ walked.add_flags self.old symbol flags.bits }

@@ -11,7 +11,8 @@ use semantic_syntax::{Ident, ScopeId, SymbolId};
 use std::alloc::{AllocError, Global};
 use std::marker::Model;
 
-/// The names that scopes remember, each with its symbol.
+/// The names that scopes remember, each with its symbol. Contracts see the triples that the definitions call
+/// `remembered`.
 #[derive(Drop)]
 pub struct Remembered {
     names: NameTable,

@@ -66,7 +66,7 @@ impl<'a> Declared<'a> {
         }
     }
 
-    /// Gives the reference at the place its outcome.
+    /// Gives the reference at the position its outcome.
     fn settle_at(&mut self, place: usize, outcome: Outcome) -> Result<(), AllocError>
         requires place { place < length self.old.waiting }
         requires outcome { IsOutcomeWithin (length self.old.tables.symbols) (length self.old.tables.scopes) outcome }
@@ -79,7 +79,7 @@ impl<'a> Declared<'a> {
         }
     }
 
-    /// Gives the references from the place `start` on their outcomes, in the tables.
+    /// Gives the references from the position `start` on their outcomes, in the tables.
     fn settle_all(&mut self, start: usize, outcomes: &Outcomes) -> Result<(), AllocError>
         requires count { start + length outcomes.now ≡ length self.old.waiting }
         requires outcomes { All (IsOutcomeWithin (length self.old.tables.symbols) (length self.old.tables.scopes)) outcomes.now }
@@ -93,7 +93,7 @@ impl<'a> Declared<'a> {
         Ok(())
     }
 
-    /// Gives the references from the place `start` on their outcomes.
+    /// Gives the references from the position `start` on their outcomes.
     fn settle(&mut self, start: usize, outcomes: &Outcomes) -> Result<(), AllocError>
         requires count { start + length outcomes.now ≡ length self.old.waiting }
         requires outcomes { All (IsOutcomeWithin (length self.old.tables.symbols) (length self.old.tables.scopes)) outcomes.now }
@@ -150,7 +150,7 @@ impl<'a> Declared<'a> {
     /// see what the body declares (ECMAScript 10.2.11, FunctionDeclarationInstantiation; 14.15.2,
     /// CatchClauseEvaluation).
     ///
-    /// A step is taken for each scope that is asked. After want of memory at most as many steps have been taken.
+    /// Each scope that is asked is one probe, which `steps` counts. After want of memory no more than these were made.
     #[tactic(auto, using(crate::proofs::Growing::growing, crate::proofs::Outside::outside))]
     pub fn end_header<L>(
         &mut self,
@@ -174,7 +174,7 @@ impl<'a> Declared<'a> {
 
     /// After the walk every reference that waits is settled.
     ///
-    /// A step is taken for each scope that is asked. After want of memory at most as many steps have been taken.
+    /// Each scope that is asked is one probe, which `steps` counts. After want of memory no more than these were made.
     pub fn settle_rest<L>(&mut self, steps: &mut Steps<L>) -> Result<(), AllocError>
         ensures made { OnOk result (self.new ≡ walked.settle_rest self.old) }
         ensures grows { Grows self.old.tables self.new.tables }

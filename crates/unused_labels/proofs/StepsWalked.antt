@@ -75,7 +75,6 @@ steps_walked (tree r k span text marks below id after) p own n cursor w =
     ∙ ap (λ x. labelling_all x later) (all_append (node_entered here w) inner (leaving child ∷ []) ∙ ap (node_left here) (steps_walked below child None next (on_entering k child.cursor) (node_entered here w)))
     ∙ steps_walked after p scope (next + cond (opens k) 1 0 + scopes_in below) (cursor_past p r cursor child) (node_left here (walked_below below (node_entered here w)))
 
--- the steps of a node
 pub node_steps_walked : (p : Place) (n : ℕ) (w : LabelLists) → labelling_all w (steps_of p n) ≡ node_left p.node (walked_below p.node.children (node_entered p.node w))
 node_steps_walked p n w =
     let into : LabelLists = node_entered p.node w in

@@ -28,7 +28,6 @@ pub used_alike : (s t : Name → Bool) (ls : List Labelled) → ((label : Name) 
 used_alike s t [] h = refl
 used_alike s t (l ∷ ls) h = λ i. marked l (l.used || (not (list_any (is_of l.name) ls) && h l.name i)) ∷ used_alike s t ls h i
 
--- the labels stay
 pub labels_stay : (name : Name) (test : Name → Bool) (ls : List Labelled) → list_any (is_of name) (used_where test ls) ≡ list_any (is_of name) ls
 labels_stay name test [] = refl
 labels_stay name test (l ∷ ls) = ap (λ b. is_of name l || b) (labels_stay name test ls)

@@ -12,7 +12,7 @@ use std::alloc::{AllocError, Global};
 use std::collections::HashMap;
 use std::marker::Model;
 
-/// An open label.
+/// A label whose statement the walk is in.
 #[derive(Clone, Copy)]
 struct OpenLabel<'a> {
     name: &'a str,

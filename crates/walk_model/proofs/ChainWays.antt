@@ -95,7 +95,6 @@ pub flags_at : (t : Tables) (bits : ℕ) (chain : List OpenScope) → IsOther bi
 flags_at t bits [] o h f = absurd (f refl)
 flags_at t bits (s ∷ ss) o h f = h.0.flags bits o
 
--- and of the way from there
 pub way_at : (t : Tables) (bits : ℕ) (chain : List OpenScope) → IsOther bits → ShowsChain t chain → (chain ≡ [] → ⊥)
     → SameWay (outward_to (has bits) (map (open_row t) (reading.chain t.scopes (innermost chain).number))) (outward_to (has bits) chain)
 way_at t bits [] o h f = absurd (f refl)

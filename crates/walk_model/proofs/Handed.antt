@@ -138,7 +138,6 @@ module _ (P : OpenScope → Type 0) (t : SourceType) where
       (held-append (xs ++ zs) es (held-append xs zs (opening_held p r own n h first) (child_is, held-append ys (leaving child ∷ []) inside (tt, tt))) (ending_held p r scope after))
       rest
 
--- so it is in a program
 pub program_held : (P : OpenScope → Type 0) (program : Tree) → PassesHeaders P program.source_type → AllHanded P program.source_type (steps program) → AllHeld P program.source_type (steps program)
 program_held P program pass h =
     let below : List Step = steps_below (root_place program) None 0 (on_entering program.root.kind 0) program.root.children in (

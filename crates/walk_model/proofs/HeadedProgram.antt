@@ -159,7 +159,6 @@ program_awaits p h =
     let led : LeadsOn [] [] [] below = headed_below (root_place p) None 0 (on_entering p.root.kind 0) p.root.children [] [] refl tt tt tt (inr tt) tt refl shaped in
     awaiting-append [] below (leaving (root_place p) ∷ []) ∙ ap (λ l. awaiting_after l (leaving (root_place p) ∷ [])) led.is
 
--- so it is in a program
 pub program_headed : (p : Tree) → first_fault p ≡ None → AreHeaded [] [] (steps p)
 program_headed p h =
     let below : List Step = steps_below (root_place p) None 0 (on_entering p.root.kind 0) p.root.children in

@@ -189,7 +189,6 @@ header_none c (s ∷ ss) n = by (s.number == c) (header_none c ss n.1)
     by true h = first_none (s ∷ ss) n
     by false h = h
 
--- the moment of an answer
 pub moment_answered : (l : Lookup) (chain : List OpenScope) (c : ℕ) → answered_in l ≡ Some c → moment_by l chain ≡ header_from c chain
 moment_answered (tied d s f) chain c h = let e : d ≡ c = cc in ap (λ n. header_from n chain) e
 moment_answered (barred d) chain c h = let e : d ≡ c = cc in ap (λ n. header_from n chain) e

@@ -101,7 +101,6 @@ parameter_beyond p own cursor r node o h f = by (is_inside p.node.kind r) (is_pa
     by false true e g m = absurd cc
     by false false e g m = f.beyond (ap (λ b. b || is_parameter p.node.kind) h) ∙ ap (λ c. (innermost (outside c)).opener) (sym (without_own p r own e))
 
--- so they are at each child
 pub child_fits : (p : Place) (own : Option OpenScope) (cursor : ℕ) (r : Role) (node : Node) (o : Openers) → IsOwn p own → (is_inside p.node.kind r ≡ true → own ≡ None → ⊥) → FitOpeners p o → stands_under p.node.kind r node.kind ≡ true
     → FitOpeners (child_place p own cursor r node) (openers_at p.node r o)
 child_fits p own cursor r node o own_is opened f s = record {

@@ -77,7 +77,7 @@ move_symbol_as n w st from to y x l k apart h = rw (bound_as n w st to x h.shows
     by None = represents_rebind n w st x y from to l k apart h
     by (Some z) = h
 
--- a standing in which a declaration got a symbol, by whether it is pure
+-- a state of the walk in which a declaration got a symbol, by whether it is pure
 abbrev got : Bool → Standing → ℕ → Declaration → Standing
 got b w y d = record w { nodes = (writes.gets w y (naming_of d)).nodes; tables = cond b (writes.pure_with w.tables y) w.tables }
 

@@ -131,7 +131,7 @@ grow_lists done k m t u added e f g a q h =
       free = q ∙ h.free;
     }
 
--- the standing before a step's events, by its references alone
+-- the state of the walk before a step's events, by its references alone
 pub record SameReferences (v u : Standing) : Type 0 where
   pub references : u.tables.references ≡ v.tables.references
   pub waiting : u.waiting ≡ v.waiting

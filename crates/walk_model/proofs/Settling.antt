@@ -41,7 +41,6 @@ pub data IsRight (W : Tie → Pending → Type 0) (ys : List Symbol) (now : Tie 
   frees : now t ≡ true → symbol_tied t ≡ None → final_flags t ≡ t.reference.way → IsRight W ys now t e is_free
   goes_on : (s : ℕ) → now t ≡ false → W t (record e { lookup_scope = s }) → IsRight W ys now t e (waits s)
 
--- numbered one by one
 abbrev pub AreNumbered : ℕ → List Tie → Type 0
 AreNumbered n [] = Unit {0}
 AreNumbered n (t ∷ ts) = (t.number ≡ n) × AreNumbered (suc n) ts

@@ -54,7 +54,7 @@ redeclare w y d = record w { tables = with_symbol w.tables y (redeclared d (symb
 abbrev pub with_flags : ℕ → Symbol → Symbol
 with_flags flags y = record y { flags = record { bits = bit_or y.flags.bits flags } }
 
--- what the symbol is grows
+-- the flags of one more declaration are added to the symbol's
 abbrev pub add_flags : Standing → ℕ → ℕ → Standing
 add_flags w y flags = record w { tables = with_symbol w.tables y (with_flags flags (symbol_of w.tables y)) }
 
@@ -80,7 +80,7 @@ symbol_by w s d (Some y) = unite w y d
 abbrev pub with_symbol_in : Standing → ℕ → Naming → Standing
 with_symbol_in w s d = symbol_by w s d (found w s d.name)
 
--- its symbol
+-- the symbol that the name has then: the one that is found, else the new one
 abbrev pub symbol_in : Standing → ℕ → Naming → ℕ
 symbol_in w s d = unwrap_or (found w s d.name) (length w.tables.symbols)
 

@@ -74,7 +74,7 @@ abbrev pub hoisted_by : Standing → ℕ → Naming → Option Hit → Standing
 hoisted_by w target d None = with_symbol_in w target d
 hoisted_by w target d (Some h) = move_symbol (redeclare w h.symbol d) h.scope target h.symbol d.name
 
--- its symbol
+-- the symbol that the variable has then
 abbrev pub hoisted_symbol : Standing → ℕ → Naming → Option Hit → ℕ
 hoisted_symbol w target d None = symbol_in w target d
 hoisted_symbol w target d (Some h) = h.symbol

@@ -94,7 +94,7 @@ impl Scoping {
         Bindings::new(&self.names, &self.bindings, scope)
     }
 
-    /// Binds the name to the symbol. A new name goes last, a bound one keeps its place.
+    /// Binds the name to the symbol. A new name goes last, a bound one keeps its position.
     pub fn add_binding(
         &mut self,
         scope: ScopeId,

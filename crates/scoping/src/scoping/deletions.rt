@@ -13,7 +13,7 @@ use crate::places::take_out;
 use semantic_syntax::{Ident, ReferenceId, SymbolId};
 
 impl Scoping {
-    /// Takes the reference out of the symbol's uses. The last use takes its place.
+    /// Takes the reference out of the symbol's uses. The last use takes its position.
     pub fn delete_resolved_reference(&mut self, symbol: SymbolId, reference: ReferenceId)
         requires { symbol < length self.old.symbols }
         ensures { self.new ≡ without_use self.old symbol reference }
@@ -32,7 +32,7 @@ impl Scoping {
         }
     }
 
-    /// Takes the reference out of the free list of the name. The last one takes its place, and an empty list goes.
+    /// Takes the reference out of the free list of the name. The last one takes its position, and an empty list goes.
     pub fn delete_root_unresolved_reference(&mut self, name: Ident<'_>, reference: ReferenceId)
         ensures { self.new ≡ record self.old { free = delisted (bytes_eq (name_of name.entry)) reference self.old.free } }
     {

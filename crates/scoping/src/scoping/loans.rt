@@ -17,7 +17,7 @@ impl Scoping {
         &mut self.references[reference.index()]
     }
 
-    /// What the scope is, to be changed.
+    /// The flags of the scope, to be changed. Nothing else follows.
     pub fn scope_flags_mut(&mut self, scope: ScopeId) -> &mut ScopeFlags
         requires { scope < length self.old.scopes }
         ensures* writes_back { sem 𝓛 (LendsScopeFlags self.entry scope result) }
@@ -27,7 +27,7 @@ impl Scoping {
         &mut row.flags
     }
 
-    /// What the symbol is, to be changed.
+    /// The flags of the symbol, to be changed. Nothing else follows.
     pub fn symbol_flags_mut(&mut self, symbol: SymbolId) -> &mut SymbolFlags
         requires { symbol < length self.old.symbols }
         ensures* writes_back { sem 𝓛 (LendsSymbolFlags self.entry symbol result) }

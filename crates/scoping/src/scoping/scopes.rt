@@ -38,7 +38,7 @@ impl Scoping {
         Ok(id)
     }
 
-    /// What the scope is.
+    /// Which kind of node opened the scope, and whether its code is strict.
     pub fn scope_flags(&self, scope: ScopeId) -> ScopeFlags
         requires { scope < length self.now.scopes }
         ensures { result ≡ (scope_of self.now scope).flags }

@@ -69,7 +69,7 @@ impl Scoping {
         Ident::new(self.symbol_name(symbol))
     }
 
-    /// What the symbol is.
+    /// By which declarations the symbol is declared, united over all of them.
     pub fn symbol_flags(&self, symbol: SymbolId) -> SymbolFlags
         requires { symbol < length self.now.symbols }
         ensures { result ≡ (symbol_of self.now symbol).flags }
@@ -153,7 +153,7 @@ impl Scoping {
         self.symbols[symbol.index()].set_scope(scope);
     }
 
-    /// Adds to what the symbol is.
+    /// Adds the flags of one more declaration to the symbol's.
     pub fn union_symbol_flag(&mut self, symbol: SymbolId, includes: SymbolFlags)
         requires { symbol < length self.old.symbols }
         ensures { self.new ≡ with_symbol self.old symbol (record (symbol_of self.old symbol) { flags = record { bits = bit_or (symbol_of self.old symbol).flags.bits includes.bits } }) }
