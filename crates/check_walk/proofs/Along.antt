@@ -11,9 +11,9 @@ use Rattle.semantic_model.specs.Cursor.{on_entering}
 use Rattle.semantic_model.specs.Declaration.{Declaration}
 use Rattle.semantic_model.specs.ScopeKind.{opened_scope}
 use Rattle.semantic_model.specs.Step.{Step, entering, opening, header_ending, closing, leaving, scope_at, next_at, opening_at, ending_after, opening_last, child_place, cursor_past, steps_below, steps_of}
-use Rattle.walk_model.specs.Standing.{Standing}
+use Rattle.walk_model.specs.WalkState.{WalkState}
 use Rattle.walk_model.specs.Walks as walk
-use Rattle.walk_model.proofs.Turned.{after-append}
+use Rattle.walk_model.proofs.turns.ChildTurns.{after-append}
 use Rattle.check_model.specs.DiagnosticsOf.{told}
 use Rattle.check_model.proofs.ConflictsGrow.{More}
 use Rattle.check_walk.specs.Telling.{IsQuiet, noted_since, told_over}
@@ -32,7 +32,7 @@ past_makes false source ds t step = refl
 
 pub along_makes : (checks : Bool) (source : List ℕ) (ds : List Declaration) (t : Telling) (ss : List Step) → (telling_along checks source ds t ss).made ≡ walk.after_all ds t.made ss
 along_makes checks source ds t [] = refl
-along_makes checks source ds t (s ∷ ss) = along_makes checks source ds (telling_past checks source ds t s) ss ∙ ap (λ (w : Standing). walk.after_all ds w ss) (past_makes checks source ds t s)
+along_makes checks source ds t (s ∷ ss) = along_makes checks source ds (telling_past checks source ds t s) ss ∙ ap (λ (w : WalkState). walk.after_all ds w ss) (past_makes checks source ds t s)
 
 -- what is made may be said by the steps alone
 pub along_parts : (checks : Bool) (source : List ℕ) (ds : List Declaration) (t : Telling) (ss : List Step) → record (telling_along checks source ds t ss) { made = walk.after_all ds t.made ss } ≡ telling_along checks source ds t ss
@@ -54,7 +54,7 @@ along-append checks source ds t [] ys = refl
 along-append checks source ds t (x ∷ xs) ys = along-append checks source ds (telling_past checks source ds t x) xs ys
 
 -- conflicts that are told stay
-grown : (t : Telling) (now : Standing) → IsCounted t → More t.made.conflicts now.conflicts → t.counted ≤ length now.conflicts
+grown : (t : Telling) (now : WalkState) → IsCounted t → More t.made.conflicts now.conflicts → t.counted ≤ length now.conflicts
 grown t now c h = omega (arith, c, ap length h.is, length-append t.made.conflicts h.more)
 
 pub past_counts : (checks : Bool) (source : List ℕ) (ds : List Declaration) (t : Telling) (step : Step) → IsCounted t → IsCounted (telling_past checks source ds t step)
@@ -87,7 +87,7 @@ along_tells checks source ds t (s ∷ ss) c =
     along_tells checks source ds past ss (past_counts checks source ds t s c)
     ∙ ap (λ l. l ++ told_over checks source ds past.made ss) (past_tells checks source ds t s c)
     ∙ append_assoc (so_far t) (told_over checks source ds t.made (s ∷ [])) (told_over checks source ds past.made ss)
-    ∙ ap (λ (w : Standing). so_far t ++ (told_over checks source ds t.made (s ∷ []) ++ told_over checks source ds w ss)) (past_makes checks source ds t s)
+    ∙ ap (λ (w : WalkState). so_far t ++ (told_over checks source ds t.made (s ∷ []) ++ told_over checks source ds w ss)) (past_makes checks source ds t s)
     ∙ ap (λ l. so_far t ++ l) (sym (told-append checks source ds (s ∷ []) ss t.made))
 
 -- steps that leave no node
@@ -104,7 +104,7 @@ two_untold xs ys h k checks source ds t =
     along-append checks source ds t xs ys
     ∙ ap (λ (u : Telling). telling_along checks source ds u ys) (h checks source ds t)
     ∙ k checks source ds (making ds t xs)
-    ∙ ap (λ (w : Standing). record t { made = w }) (sym (after-append ds t.made xs ys))
+    ∙ ap (λ (w : WalkState). record t { made = w }) (sym (after-append ds t.made xs ys))
 
 none_untold : AreUntold []
 none_untold checks source ds t = refl

@@ -23,9 +23,9 @@ use Rattle.semantic_tree.specs.Place.{root_place, child_place, placed_below}
 use Rattle.semantic_tree.specs.Faults.{first_fault}
 use Rattle.semantic_tree.specs.declared.node.Node.{Node}
 use Rattle.semantic_tree.specs.declared.place.Place.{Place}
-use Rattle.semantic_model.proofs.Clauses.{kind_is, role_is, first_holds, second_holds, both_hold}
-use Rattle.semantic_model.proofs.ParameterShape.{lead_in_role}
-use Rattle.semantic_model.proofs.Shape.{NoneMisshapen, first_formed, rest_formed, table_kept, fit_kept, none_misshapen}
+use Rattle.semantic_model.proofs.form.Clauses.{kind_is, role_is, first_holds, second_holds, both_hold}
+use Rattle.semantic_model.proofs.form.ParameterShape.{lead_in_role}
+use Rattle.semantic_model.proofs.form.Shape.{NoneMisshapen, first_formed, rest_formed, table_kept, fit_kept, none_misshapen}
 use Rattle.class_table.specs.Bodies.{end_rightly, all_end_rightly}
 use Rattle.class_table.proofs.BodiesStand.{bodies_stand}
 use Rattle.check_walk.specs.Shaped.{has_own_role, have_own_role, is_class_shape, are_class_shapes}

@@ -23,7 +23,7 @@ use Rattle.semantic_tree.proofs.ShapedLaws.{no_fault-IsShaped}
 use Rattle.semantic_model.specs.Element.{Element, element_of, element_with, elements_of}
 use Rattle.semantic_tree.specs.KeyNames.{key_name}
 use Rattle.semantic_tree.specs.Views.{child_of}
-use Rattle.semantic_model.proofs.Clauses.{first_holds}
+use Rattle.semantic_model.proofs.form.Clauses.{first_holds}
 use Rattle.class_table.specs.Building.{with_body, with_use_under, use_in}
 use Rattle.class_table.specs.Lists.{with_class, with_use}
 use Rattle.class_table.specs.Outward.{parent_in}

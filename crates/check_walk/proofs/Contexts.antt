@@ -5,17 +5,17 @@ use Rattle.semantic_syntax.specs.Tables.{Tables}
 use Rattle.semantic_syntax.specs.declared.scope_flags.TheConstants.ScopeFlags as scope
 use Rattle.semantic_kinds.specs.declared.kind.AstType.{AstType}
 use Rattle.semantic_kinds.specs.declared.kind.AstType.TheVariants as kind
-use Rattle.semantic_model.proofs.Clauses.{kind_is}
+use Rattle.semantic_model.proofs.form.Clauses.{kind_is}
 use Rattle.semantic_tree.specs.Views.{is}
 use Rattle.semantic_model.specs.Element.{Element}
 use Rattle.semantic_model.specs.Class.{PrivateUse}
 use Rattle.semantic_model.specs.Place.{Place, OpenScope, innermost}
 use Rattle.semantic_syntax.specs.Reading.{chain, bindings_of}
-use Rattle.walk_model.specs.Standing.{Standing}
+use Rattle.walk_model.specs.WalkState.{WalkState}
 use Rattle.walk_model.specs.Shown.{ShowsScope, ShowsChain}
 use Rattle.walk_model.specs.Walks.{numbers}
-use Rattle.walk_model.proofs.ChainWays.{rows_chain}
-use Rattle.check_model.specs.SightOf.{seen_scope, or_own, standing_in, scopes_at, elements_at, elements_if, elements_in_case, uses_at, uses_if, uses_in_case, list_if, cut}
+use Rattle.walk_model.proofs.turns.ChainWays.{rows_chain}
+use Rattle.check_model.specs.SightOf.{seen_scope, or_own, scopes_it_stands_in, scopes_at, elements_at, elements_if, elements_in_case, uses_at, uses_if, uses_in_case, list_if, cut}
 use Rattle.check_model.specs.Rows.{rows_by, rows_of}
 use Rattle.check_model.specs.Sight.{Sight}
 use Rattle.check_model.proofs.Cuts.{rows_cut}
@@ -53,7 +53,7 @@ list_case : (b : Bool) (xs ys : List ℕ) → (b ≡ true → xs ≡ ys) → lis
 list_case true xs ys h = h refl
 list_case false xs ys h = refl
 
-stands_somewhere : (p : Place) → standing_in p ≡ [] → ⊥
+stands_somewhere : (p : Place) → scopes_it_stands_in p ≡ [] → ⊥
 stands_somewhere p e = by p.chain e
   where
     by : (ss : List OpenScope) → or_own p ss ≡ [] → ⊥
@@ -61,11 +61,11 @@ stands_somewhere p e = by p.chain e
     by (s ∷ ss) q = absurd cc
 
 -- of any node but a class body
-pub shown_cut : (c : Context) (source : List ℕ) (w : Standing) (p : Place) → is kind.ClassBody p.node ≡ false → IsContextAt c source w p → cut p.node.kind (sight_shown p.node c) ≡ sight_in source w p
+pub shown_cut : (c : Context) (source : List ℕ) (w : WalkState) (p : Place) → is kind.ClassBody p.node ≡ false → IsContextAt c source w p → cut p.node.kind (sight_shown p.node c) ≡ sight_in source w p
 shown_cut c source w p other h =
     let scopes : map (seen_row c.tables) (chain c.tables.scopes c.current_scope) ≡ scopes_at p =
     ap (λ t. map (seen_row t) (chain t.scopes c.current_scope)) h.tables ∙ ap (λ n. map (seen_row w.tables) (chain w.tables.scopes n)) h.current
-    ∙ scopes_shown w.tables (standing_in p) (stands_somewhere p) h.chain_shown in
+    ∙ scopes_shown w.tables (scopes_it_stands_in p) (stands_somewhere p) h.chain_shown in
     let uses : uses_in_case (is kind.Class p.node) _ ≡ uses_at p.node = uses_case (is kind.Class p.node) p _ h.classes.uses in
     let elements : elements_in_case (is kind.Program p.node) c.classes.elements ≡ elements_at p.node = elements_case (is kind.Program p.node) p c.classes.elements h.elements in
     let free : list_if (is kind.Program p.node) (unresolved_by c.nodes c.tables) ≡ list_if (is kind.Program p.node) (unresolved_in w.tables) =
@@ -91,7 +91,7 @@ body_rows : (s : Sight) (k : AstType) → k ≡ kind.ClassBody → rows_by k s �
 body_rows s k is = ap (λ q. rows_by q s) is
 
 -- so the rows of the context are those of the walk
-pub shown_rows : (c : Context) (source : List ℕ) (w : Standing) (p : Place) → IsContextAt c source w p → rows_of (sight_shown p.node c) ≡ rows_of (sight_in source w p)
+pub shown_rows : (c : Context) (source : List ℕ) (w : WalkState) (p : Place) → IsContextAt c source w p → rows_of (sight_shown p.node c) ≡ rows_of (sight_in source w p)
 shown_rows c source w p h = elim (cases_Bool (is kind.ClassBody p.node)) [
   | inl q ↦
       (let body : p.node.kind ≡ kind.ClassBody = kind_is p.node.kind kind.ClassBody q in

@@ -19,8 +19,8 @@ use Rattle.semantic_model.specs.TablesOf.{entry_of}
 use Rattle.semantic_model.specs.Tie.{ties}
 use Rattle.walk_model.specs.Noted.{pairs_of}
 use Rattle.walk_model.specs.Walks.{walked}
-use Rattle.walk_model.proofs.GivesTables.{has_referred}
-use Rattle.walk_model.proofs.NotedOnce.{notes_once}
+use Rattle.walk_model.proofs.refers.GivesTables.{has_referred}
+use Rattle.walk_model.proofs.once.NotedOnce.{notes_once}
 use Rattle.check_model.specs.SightOf.{free_by}
 use Rattle.check_walk.specs.WalkSight.{unresolved_in}
 use Rattle.check_model.specs.Context.{free_entry, unresolved_by}

@@ -6,8 +6,8 @@ use Rattle.semantic_tree.specs.Faults.{first_fault}
 use Rattle.semantic_tree.specs.Tree.{Tree, IsNumbered}
 use Rattle.semantic_model.specs.Place.{Place}
 use Rattle.semantic_model.specs.Step.{root_place}
-use Rattle.semantic_model.proofs.Clauses.{kind_is}
-use Rattle.walk_model.specs.Standing.{Standing}
+use Rattle.semantic_model.proofs.form.Clauses.{kind_is}
+use Rattle.walk_model.specs.WalkState.{WalkState}
 use Rattle.walk_model.specs.Shown.{ShowsChain, HasVar}
 use Rattle.walk_model.specs.Walks.{walked}
 use Rattle.check_model.specs.Context.{Context, sight_shown}
@@ -21,7 +21,7 @@ use Rattle.check_walk.proofs.FreeEntries.{free_entries}
 use Rattle.check_walk.proofs.WalkConditions.{stands_inside, root_stands_inside}
 
 -- below the root
-pub handed_inside : (c : Context) (source : List ℕ) (w : Standing) (p : Place) → IsHandedAt c source w p → HasVar p.chain → ShowsChain w.tables p.chain → (p.node.kind ≡ kind.Program → ⊥) → IsContextAt c source w p
+pub handed_inside : (c : Context) (source : List ℕ) (w : WalkState) (p : Place) → IsHandedAt c source w p → HasVar p.chain → ShowsChain w.tables p.chain → (p.node.kind ≡ kind.Program → ⊥) → IsContextAt c source w p
 handed_inside c source w p h v s other =
     let stands = stands_inside w.tables p v s in
     record {
@@ -55,7 +55,7 @@ handed_last c p h e k s = record {
   elements = λ q. s;
 }
 
-pub rows_inside : (c : Context) (source : List ℕ) (w : Standing) (p : Place) → IsHandedAt c source w p → HasVar p.chain → ShowsChain w.tables p.chain → (p.node.kind ≡ kind.Program → ⊥) → rows_of (sight_shown p.node c) ≡ rows_of (sight_in source w p)
+pub rows_inside : (c : Context) (source : List ℕ) (w : WalkState) (p : Place) → IsHandedAt c source w p → HasVar p.chain → ShowsChain w.tables p.chain → (p.node.kind ≡ kind.Program → ⊥) → rows_of (sight_shown p.node c) ≡ rows_of (sight_in source w p)
 rows_inside c source w p h v s other = shown_rows c source w p (handed_inside c source w p h v s other)
 
 pub rows_last : (c : Context) (p : Tree) → first_fault p ≡ None → IsNumbered p.root → IsHandedAt c (encode_utf8_all p.source) (walked p) (root_place p) → c.classes.elements ≡ elements_at p.root

@@ -12,7 +12,7 @@ use Rattle.semantic_tree.specs.declared.node.Node.{Node}
 use Rattle.semantic_tree.proofs.Preorder.{root_in_preorder}
 use Rattle.semantic_model.specs.Place.{Place}
 use Rattle.semantic_model.specs.Step.{root_place}
-use Rattle.walk_model.specs.Standing.{Standing}
+use Rattle.walk_model.specs.WalkState.{WalkState}
 use Rattle.class_table.specs.Noted.{begun, entered, left, noted_below}
 use Rattle.class_table.specs.NotedSteps.{entered_under}
 use Rattle.class_table.specs.declared.builder.ClassTableBuilder.{ClassTableBuilder}
@@ -25,12 +25,12 @@ use Rattle.check_walk.proofs.ShownClasses.{begins, comes, turns, child_comes}
 below_same : {role : Role} {kind : AstType} {span : Span} {text : List ℕ} {marks : Marks} {b b' : Forest} {n n' : ℕ} {a a' : Forest} → tree role kind span text marks b n a ≡ tree role kind span text marks b' n' a' → (b ≡ b') × (n ≡ n') × (a ≡ a')
 below_same h = (cc, cc, cc)
 
-pub ready_begins : (p : Tree) → first_fault p ≡ None → IsNumbered p.root → (w : Standing) → HasApart w → IsReadyAt (encode_utf8_all p.source) w begun (root_place p)
+pub ready_begins : (p : Tree) → first_fault p ≡ None → IsNumbered p.root → (w : WalkState) → HasApart w → IsReadyAt (encode_utf8_all p.source) w begun (root_place p)
 ready_begins p h e w a =
     let formed = classes_formed p h in
     record { around = begins; shape = formed.0; below = formed.1; in_source = program_in_source p h; order = root_in_preorder p.root e; apart = a; elements = tt }
 
-pub ready_enters : (source : List ℕ) (w v : Standing) (b : ClassTableBuilder) (p : Place) → IsReadyAt source w b p → HasApart v → IsReadyBetween source v (entered_under p.path p.node b) p p.node.children
+pub ready_enters : (source : List ℕ) (w v : WalkState) (b : ClassTableBuilder) (p : Place) → IsReadyAt source w b p → HasApart v → IsReadyBetween source v (entered_under p.path p.node b) p p.node.children
 ready_enters source w v b p h a = record {
   classes = comes b p h.shape h.below h.around;
   spans = h.in_source.below;
@@ -40,7 +40,7 @@ ready_enters source w v b p h a = record {
   elements = entered_sound source p.path p.node b h.in_source.below h.elements;
 }
 
-module _ (source : List ℕ) (w v : Standing) (b : ClassTableBuilder) (p : Place) (r : Role) (here : Node) (after : Forest) where
+module _ (source : List ℕ) (w v : WalkState) (b : ClassTableBuilder) (p : Place) (r : Role) (here : Node) (after : Forest) where
   abbrev Left : Type 0
   Left = IsReadyBetween source w b p (tree r here.kind here.span here.text here.marks here.children here.node_id after)
 

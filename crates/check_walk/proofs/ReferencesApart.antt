@@ -12,7 +12,7 @@ use Rattle.semantic_model.specs.NodeTable.{Belongs, node_tables}
 use Rattle.semantic_model.specs.Step.{steps}
 use Rattle.walk_model.specs.Noted.{with_entry, entries_of}
 use Rattle.walk_model.specs.Walks.{walked}
-use Rattle.walk_model.proofs.GivesTables.{has_referred}
+use Rattle.walk_model.proofs.refers.GivesTables.{has_referred}
 
 -- a key that is apart from all stays so from one more
 others : (q k v : ℕ) (es : List (ℕ × ℕ)) → nat_eq q k ≡ false → AllByRecursion (λ y. nat_eq q y ≡ false) (keys_of es) → AllByRecursion (λ y. nat_eq q y ≡ false) (keys_of (insert_entry nat_eq es k v))

@@ -17,7 +17,7 @@ use Rattle.semantic_tree.specs.Views.{is, children_of}
 use Rattle.semantic_model.specs.Place.{Place}
 use Rattle.semantic_model.specs.Element.{Element, elements_of}
 use Rattle.semantic_model.specs.Class.{Class, PrivateUse, uses_under, uses_below, classes_below}
-use Rattle.semantic_model.proofs.Clauses.{kind_is, first_holds, second_holds, both_hold}
+use Rattle.semantic_model.proofs.form.Clauses.{kind_is, first_holds, second_holds, both_hold}
 use Rattle.class_table.specs.Lists.{ClassLists, IsInside, uses_in, with_class, with_use}
 use Rattle.class_table.specs.Building.{with_body, with_use_under, use_in}
 use Rattle.class_table.specs.Bodies.{is_nothing, ends_with_body, has_no_body, end_rightly}

@@ -2,12 +2,12 @@
 use Rattle.std.specs.Prelude.{◌≡◌, ℕ, List}
 use Rattle.semantic_model.specs.Ambient.{ambient_inside}
 use Rattle.semantic_model.specs.Place.{Place, at}
-use Rattle.walk_model.specs.Standing.{Standing}
+use Rattle.walk_model.specs.WalkState.{WalkState}
 use Rattle.check_model.specs.Context.{Context}
 use Rattle.check_walk.specs.Showing.{ShowsClasses}
 
 -- the walk's own fields, at the place
-pub record IsHandedAt (c : Context) (source : List ℕ) (w : Standing) (p : Place) : Type 0 where
+pub record IsHandedAt (c : Context) (source : List ℕ) (w : WalkState) (p : Place) : Type 0 where
   pub source_is : c.source ≡ source
   pub source_type : c.source_type ≡ p.source_type
   pub tables : c.tables ≡ w.tables

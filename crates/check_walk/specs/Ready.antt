@@ -3,7 +3,7 @@ use Rattle.std.specs.Prelude.{◌≡◌, ℕ, List, true}
 use Rattle.semantic_tree.specs.Forest.{Forest, numbered}
 use Rattle.semantic_tree.specs.Tree.{IsPreorder}
 use Rattle.semantic_model.specs.Place.{Place}
-use Rattle.walk_model.specs.Standing.{Standing}
+use Rattle.walk_model.specs.WalkState.{WalkState}
 use Rattle.class_table.specs.declared.builder.ClassTableBuilder.{ClassTableBuilder}
 use Rattle.check_model.specs.SightOf.{classes_around}
 use Rattle.check_walk.specs.Apart.{HasApart}
@@ -12,7 +12,7 @@ use Rattle.check_walk.specs.Showing.{IsInClasses, ShowsBetween}
 use Rattle.check_walk.specs.Sound.{HaveGoodSpans, IsInSource, AreAllSound}
 
 -- it has come to a place: the classes are those around it, and the node and all below it are as they should be
-pub record IsReadyAt (source : List ℕ) (w : Standing) (b : ClassTableBuilder) (p : Place) : Type 0 where
+pub record IsReadyAt (source : List ℕ) (w : WalkState) (b : ClassTableBuilder) (p : Place) : Type 0 where
   pub around : IsInClasses b (classes_around p.path)
   pub shape : is_class_shape p.node.kind p.node.children ≡ true
   pub below : are_class_shapes p.node.children ≡ true
@@ -22,7 +22,7 @@ pub record IsReadyAt (source : List ℕ) (w : Standing) (b : ClassTableBuilder) 
   pub elements : AreAllSound source b.classes.elements
 
 -- it stands between two children of the place, with those that are left
-pub record IsReadyBetween (source : List ℕ) (w : Standing) (b : ClassTableBuilder) (p : Place) (f : Forest) : Type 0 where
+pub record IsReadyBetween (source : List ℕ) (w : WalkState) (b : ClassTableBuilder) (p : Place) (f : Forest) : Type 0 where
   pub classes : ShowsBetween b p f
   pub spans : HaveGoodSpans source f
   -- the id of the first that is left

@@ -8,7 +8,7 @@ use Rattle.semantic_model.specs.Event.{written_declarations}
 use Rattle.semantic_model.specs.Place.{Place}
 use Rattle.semantic_model.specs.ScopeKind.{opened_scope}
 use Rattle.semantic_model.specs.Step.{Step, entering, leaving, steps, steps_below, root_place}
-use Rattle.walk_model.specs.Standing.{Standing, nothing_made}
+use Rattle.walk_model.specs.WalkState.{WalkState, nothing_made}
 use Rattle.walk_model.specs.Opens.{open_scope}
 use Rattle.walk_model.specs.Walks.{after, after_all}
 use Rattle.check_walk.specs.SoFar.{Telling, telling}
@@ -57,6 +57,6 @@ telling_within checks program =
     telling_along checks (encode_utf8_all program.source) ds (record t { made = after ds t.made (entering p) }) (steps_below p (Some (opened_scope p 0)) 1 (on_entering program.root.kind 0) program.root.children)
 
 -- then what waits is settled, and the root is left
-abbrev pub telling_whole : (checks : Bool) → Tree → (settled : Standing) → Telling
+abbrev pub telling_whole : (checks : Bool) → Tree → (settled : WalkState) → Telling
 telling_whole checks program settled =
     telling_past checks (encode_utf8_all program.source) (written_declarations (steps program)) (record (telling_within checks program) { made = settled }) (leaving (root_place program))

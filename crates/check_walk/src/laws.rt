@@ -18,7 +18,7 @@ ghost use Rattle.semantic_model.specs.Step.{Step, leaving, steps, root_place, st
 ghost use Rattle.semantic_syntax.specs.Tables.{Tables};
 ghost use Rattle.walk_model.specs.Settles.{settle_rest};
 ghost use Rattle.walk_model.specs.Shown.{ShowsChain, HasVar};
-ghost use Rattle.walk_model.specs.Standing.{Standing, nothing_made};
+ghost use Rattle.walk_model.specs.WalkState.{WalkState, nothing_made};
 ghost use Rattle.walk_model.specs.Walks.{after, after_all, walked};
 ghost use Rattle.class_table.specs.Noted.{begun, entered, left, noted_below};
 ghost use Rattle.class_table.specs.NotedSteps.{entered_under, noting_all};
@@ -26,7 +26,7 @@ ghost use Rattle.class_table.specs.declared.builder.ClassTableBuilder.{ClassTabl
 ghost use Rattle.check_model.specs.DiagnosticsOf.{diagnostics_of};
 ghost use Rattle.check_model.specs.Rows.{rows_of};
 ghost use Rattle.check_model.specs.Context.{Context, sight_shown, unresolved_by};
-ghost use Rattle.check_model.specs.SightOf.{classes_around, elements_at, standing_in};
+ghost use Rattle.check_model.specs.SightOf.{classes_around, elements_at, scopes_it_stands_in};
 ghost use Rattle.check_walk.specs.Context.{IsContextAt};
 ghost use Rattle.check_walk.specs.Leaving.{IsHandedAt};
 ghost use Rattle.check_walk.specs.Ready.{IsReadyAt, IsReadyBetween};
@@ -46,7 +46,7 @@ pub fn walk_tells()
 
 /// What is told over lists of steps is told over one and then the other.
 pub fn lists_compose()
-    ensures { (checks : Bool) (source : List ℕ) (ds : List Declaration) (xs ys : List Step) (w : Standing) →
+    ensures { (checks : Bool) (source : List ℕ) (ds : List Declaration) (xs ys : List Step) (w : WalkState) →
         told_over checks source ds w (xs ++ ys) ≡ told_over checks source ds w xs ++ told_over checks source ds (after_all ds w xs) ys }
 {}
 
@@ -64,7 +64,7 @@ pub fn leaving_tells()
 
 /// The rows of a context are those of the walk at its place.
 pub fn context_shows_rows()
-    ensures { (c : Context) (source : List ℕ) (w : Standing) (p : Place) → IsContextAt c source w p → rows_of (sight_shown p.node c) ≡ rows_of (sight_in source w p) }
+    ensures { (c : Context) (source : List ℕ) (w : WalkState) (p : Place) → IsContextAt c source w p → rows_of (sight_shown p.node c) ≡ rows_of (sight_in source w p) }
 {}
 
 /// In the end the entries of nodes tell the free references as the tables do.
@@ -139,26 +139,26 @@ pub fn nodes_and_elements_are_sound()
 /// No node has two references, whatever the walk does.
 pub fn references_stay_apart()
     ensures first { HasApart nothing_made }
-    ensures step { (ds : List Declaration) (w : Standing) (step : Step) → HasApart w → HasApart (after ds w step) }
-    ensures steps { (ds : List Declaration) (w : Standing) (ss : List Step) → HasApart w → HasApart (after_all ds w ss) }
-    ensures settled { (w : Standing) → HasApart w → HasApart (settle_rest w) }
+    ensures step { (ds : List Declaration) (w : WalkState) (step : Step) → HasApart w → HasApart (after ds w step) }
+    ensures steps { (ds : List Declaration) (w : WalkState) (ss : List Step) → HasApart w → HasApart (after_all ds w ss) }
+    ensures settled { (w : WalkState) → HasApart w → HasApart (settle_rest w) }
 {}
 
 /// The tables show the scopes where a place stands: those of its chain and, where the root is left in the end, the
 /// root's own.
 pub fn scopes_are_shown_where_a_place_stands()
-    ensures inside { (t : Tables) (p : Place) → HasVar p.chain → ShowsChain t p.chain → ShowsChain t (standing_in p) × ((innermost (standing_in p)).number ≡ at p) }
-    ensures root { (p : Tree) → first_fault p ≡ None → ShowsChain (walked p).tables (standing_in (root_place p)) }
+    ensures inside { (t : Tables) (p : Place) → HasVar p.chain → ShowsChain t p.chain → ShowsChain t (scopes_it_stands_in p) × ((innermost (scopes_it_stands_in p)).number ≡ at p) }
+    ensures root { (p : Tree) → first_fault p ≡ None → ShowsChain (walked p).tables (scopes_it_stands_in (root_place p)) }
 {}
 
 /// What checks ask beside the tables, for each turn of a recursion over a program: it holds at the root, comes down to
 /// each child, and stays behind it. Once no child is left, it is what the check of the place asks.
 pub fn a_recursion_meets_what_checks_ask()
-    ensures begins { (p : Tree) → first_fault p ≡ None → IsNumbered p.root → (w : Standing) → HasApart w → IsReadyAt (encode_utf8_all p.source) w begun (root_place p) }
-    ensures enters { (source : List ℕ) (w v : Standing) (b : ClassTableBuilder) (p : Place) → IsReadyAt source w b p → HasApart v → IsReadyBetween source v (entered_under p.path p.node b) p p.node.children }
-    ensures child { (source : List ℕ) (w v : Standing) (b : ClassTableBuilder) (p : Place) (r : Role) (here : Node) (after : Forest) (child : Place) → child.node ≡ here → child.path ≡ p.node ∷ p.path →
+    ensures begins { (p : Tree) → first_fault p ≡ None → IsNumbered p.root → (w : WalkState) → HasApart w → IsReadyAt (encode_utf8_all p.source) w begun (root_place p) }
+    ensures enters { (source : List ℕ) (w v : WalkState) (b : ClassTableBuilder) (p : Place) → IsReadyAt source w b p → HasApart v → IsReadyBetween source v (entered_under p.path p.node b) p p.node.children }
+    ensures child { (source : List ℕ) (w v : WalkState) (b : ClassTableBuilder) (p : Place) (r : Role) (here : Node) (after : Forest) (child : Place) → child.node ≡ here → child.path ≡ p.node ∷ p.path →
         IsReadyBetween source w b p (tree r here.kind here.span here.text here.marks here.children here.node_id after) → HasApart v → IsReadyAt source v b child }
-    ensures behind { (source : List ℕ) (w v : Standing) (b : ClassTableBuilder) (p : Place) (r : Role) (here : Node) (after : Forest) →
+    ensures behind { (source : List ℕ) (w v : WalkState) (b : ClassTableBuilder) (p : Place) (r : Role) (here : Node) (after : Forest) →
         IsReadyBetween source w b p (tree r here.kind here.span here.text here.marks here.children here.node_id after) → HasApart v →
         IsReadyBetween source v (left here.kind (noted_below here.kind here.node_id here.children (entered p.node.kind p.node.node_id here b))) p after }
 {}
@@ -166,7 +166,7 @@ pub fn a_recursion_meets_what_checks_ask()
 /// What a walk hands to a check when it leaves a node shows the rows of the walk: below the root from the scopes that
 /// the recursion knows, and at the root once all references are settled.
 pub fn a_walk_hands_what_its_rows_look_at()
-    ensures inside { (c : Context) (source : List ℕ) (w : Standing) (p : Place) → IsHandedAt c source w p → HasVar p.chain → ShowsChain w.tables p.chain → (p.node.kind ≡ program_kind → ⊥) →
+    ensures inside { (c : Context) (source : List ℕ) (w : WalkState) (p : Place) → IsHandedAt c source w p → HasVar p.chain → ShowsChain w.tables p.chain → (p.node.kind ≡ program_kind → ⊥) →
         rows_of (sight_shown p.node c) ≡ rows_of (sight_in source w p) }
     ensures root { (c : Context) (p : Tree) → first_fault p ≡ None → IsNumbered p.root → IsHandedAt c (encode_utf8_all p.source) (walked p) (root_place p) → c.classes.elements ≡ elements_at p.root →
         rows_of (sight_shown p.root c) ≡ rows_of (sight_in (encode_utf8_all p.source) (walked p) (root_place p)) }

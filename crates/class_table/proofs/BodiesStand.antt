@@ -22,9 +22,9 @@ use Rattle.semantic_tree.specs.Place.{root_place, child_place, placed_below}
 use Rattle.semantic_tree.specs.Faults.{first_fault}
 use Rattle.semantic_tree.specs.declared.node.Node.{Node}
 use Rattle.semantic_tree.specs.declared.place.Place.{Place}
-use Rattle.semantic_model.proofs.Clauses.{kind_is, first_holds, second_holds, both_hold}
-use Rattle.semantic_model.proofs.Orders.{HasForm}
-use Rattle.semantic_model.proofs.Shape.{NoneMisshapen, first_formed, rest_formed, table_kept, fit_kept, none_misshapen, has_form}
+use Rattle.semantic_model.proofs.form.Clauses.{kind_is, first_holds, second_holds, both_hold}
+use Rattle.semantic_model.proofs.fold.Orders.{HasForm}
+use Rattle.semantic_model.proofs.form.Shape.{NoneMisshapen, first_formed, rest_formed, table_kept, fit_kept, none_misshapen, has_form}
 use Rattle.class_table.specs.Bodies.{is_nothing, ends_with_body, has_no_body, end_rightly, all_end_rightly}
 
 -- the last of the children is a class body, and no other is

@@ -9,7 +9,7 @@ use Rattle.semantic_tree.specs.Forest.{Forest, nothing, tree, count}
 use Rattle.semantic_tree.specs.declared.node.Node.{Node}
 use Rattle.semantic_model.specs.Element.{Element, elements_of, element_ids}
 use Rattle.semantic_model.specs.Class.{Class, PrivateUse, uses_under, uses_below, body_count, classes_below, classes}
-use Rattle.semantic_model.proofs.Clauses.{kind_is}
+use Rattle.semantic_model.proofs.form.Clauses.{kind_is}
 use Rattle.class_table.specs.Lists.{ClassLists, no_classes, with_class, with_use}
 use Rattle.class_table.specs.Building.{with_body, with_use_under, use_in, popped}
 use Rattle.class_table.specs.Outward.{parent_in}

@@ -7,7 +7,7 @@ use Rattle.semantic_kinds.specs.declared.kind.AstType.TheVariants as kind
 use Rattle.semantic_tree.specs.Forest.{Forest, nothing, tree}
 use Rattle.semantic_tree.specs.declared.node.Node.{Node}
 use Rattle.semantic_model.specs.Class.{uses_below, body_count, classes_below}
-use Rattle.semantic_model.proofs.Clauses.{kind_is, first_holds, second_holds}
+use Rattle.semantic_model.proofs.form.Clauses.{kind_is, first_holds, second_holds}
 use Rattle.class_table.specs.Lists.{ClassLists}
 use Rattle.class_table.specs.Building.{popped}
 use Rattle.class_table.specs.Noted.{noting_in, entered, left, noted_below}

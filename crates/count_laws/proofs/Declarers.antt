@@ -14,7 +14,7 @@ use Rattle.semantic_model.specs.Namespace.{InstanceState, non_instantiated, cons
 use Rattle.semantic_model.specs.Place.{Place, OpenScope, parent_holds}
 use Rattle.semantic_model.specs.Declaration.{Declaration, here}
 use Rattle.semantic_model.specs.Binder.{declare, declare_here, variable_row, variables_under, function_row, own_function_row, class_row, is_pure_declarator, ids, marked_ambient, is_statement, parameter_excluded, parameters_under, catch_names, import_flags, enums, member_names, named_member, member_named, namespace_row, type_parameter_route, type_parameter_row, declared_by, declared_inside}
-use Rattle.walk_model.proofs.NameTimes.{name_times, declared_times, names_append, declared_append, row_times, here_times}
+use Rattle.walk_model.proofs.once.NameTimes.{name_times, declared_times, names_append, declared_append, row_times, here_times}
 use Rattle.count_laws.proofs.SymbolNodes.{symbol_times, node_symbols, names_symbols, role_symbols, at_symbols}
 
 module _ (x : ℕ) where

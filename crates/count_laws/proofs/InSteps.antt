@@ -9,8 +9,8 @@ use Rattle.semantic_model.specs.Event.{Event, declares, takes_over, ends_header,
 use Rattle.semantic_model.specs.Fold.{State, Made, start}
 use Rattle.semantic_model.specs.Hoist.{act, run}
 use Rattle.semantic_tree.specs.Tree.{Tree}
-use Rattle.semantic_model.proofs.Opened.{openings}
-use Rattle.semantic_model.proofs.Orders.{Adds, adds}
+use Rattle.semantic_model.proofs.steps.Opened.{openings}
+use Rattle.semantic_model.proofs.fold.Orders.{Adds, adds}
 use Rattle.count_laws.specs.Room.{opened_by, declared_by, in_all}
 
 pub all-append : (by : Step → ℕ) (xs ys : List Step) → in_all by (xs ++ ys) ≡ in_all by xs + in_all by ys

@@ -16,9 +16,9 @@ use Rattle.semantic_model.specs.Binder.{declared_on_entering, declared_on_openin
 use Rattle.semantic_model.specs.Event.{Event, declares, takes_over, ends_header, is_barred, staying, placed_by, is_catch_body, taken_over, declares_all, events_of, events, written_declarations}
 use Rattle.semantic_model.specs.Fold.{State, Made, start}
 use Rattle.semantic_model.specs.Hoist.{act, run}
-use Rattle.semantic_model.proofs.Orders.{Adds, adds}
-use Rattle.walk_model.proofs.NameTimes.{declared_times}
-use Rattle.walk_model.proofs.DeclaredBelow.{step_times}
+use Rattle.semantic_model.proofs.fold.Orders.{Adds, adds}
+use Rattle.walk_model.proofs.once.NameTimes.{declared_times}
+use Rattle.walk_model.proofs.once.DeclaredBelow.{step_times}
 use Rattle.count_laws.proofs.SymbolNodes.{symbol_times, node_symbols}
 use Rattle.count_laws.proofs.Declarers.{entered_within, opened_within}
 

@@ -11,8 +11,8 @@ use Rattle.semantic_tree.proofs.ShapedLaws.{no_fault-IsShaped}
 use Rattle.semantic_model.specs.Event.{written_declarations}
 use Rattle.semantic_model.specs.Inside.{opens, scopes_in}
 use Rattle.semantic_model.specs.Step.{Step, root_place, steps}
-use Rattle.semantic_model.proofs.Opened.{opened_by_node}
-use Rattle.walk_model.specs.Standing.{no_tables, nothing_made}
+use Rattle.semantic_model.proofs.steps.Opened.{opened_by_node}
+use Rattle.walk_model.specs.WalkState.{no_tables, nothing_made}
 use Rattle.walk_model.specs.Walks.{after_all}
 use Rattle.semantic_tree.specs.KindCounts.{how_many}
 use Rattle.count_laws.specs.Counted.{is_symbol, is_reference}

@@ -3,7 +3,7 @@ use Rattle.std.proofs.Common.{List, [], ◌∷◌, ◌++◌, arith}
 use Rattle.semantic_syntax.specs.Tables.{Tables}
 use Rattle.semantic_model.specs.Declaration.{Declaration}
 use Rattle.semantic_model.specs.Step.{Step}
-use Rattle.walk_model.specs.Standing.{Standing}
+use Rattle.walk_model.specs.WalkState.{WalkState}
 use Rattle.walk_model.specs.Walks.{after, after_all}
 use Rattle.count_laws.specs.Room.{opened_by, declared_by, referred_by, HasRoom}
 use Rattle.count_laws.proofs.InSteps.{all-append}
@@ -17,10 +17,10 @@ room_once t u step more h a = record {
   references = omega (arith, h.references, a.of_references);
 }
 
-pub room_after : (ds : List Declaration) (w : Standing) (step : Step) (more : List Step) → HasRoom w.tables (step ∷ more) → HasRoom (after ds w step).tables more
+pub room_after : (ds : List Declaration) (w : WalkState) (step : Step) (more : List Step) → HasRoom w.tables (step ∷ more) → HasRoom (after ds w step).tables more
 room_after ds w step more h = room_once w.tables (after ds w step).tables step more h (step_adds ds w step)
 
-pub room_past : (ds : List Declaration) (w : Standing) (xs ys : List Step) → HasRoom w.tables (xs ++ ys) → HasRoom (after_all ds w xs).tables ys
+pub room_past : (ds : List Declaration) (w : WalkState) (xs ys : List Step) → HasRoom w.tables (xs ++ ys) → HasRoom (after_all ds w xs).tables ys
 room_past ds w [] ys h = h
 room_past ds w (x ∷ xs) ys h = room_past ds (after ds w x) xs ys (room_after ds w x (xs ++ ys) h)
 

@@ -6,7 +6,7 @@ use Rattle.semantic_tree.specs.Tree.{Tree}
 use Rattle.semantic_model.specs.Inside.{scopes_in}
 use Rattle.semantic_model.specs.Step.{Step, entering, opening, header_ending, closing, leaving, root_place, steps}
 use Rattle.semantic_model.specs.TablesOf.{opened_entry, tables_of, evals}
-use Rattle.semantic_model.proofs.Opened.{openings, opened_by_node}
+use Rattle.semantic_model.proofs.steps.Opened.{openings, opened_by_node}
 
 opened : (calls : List (List ℕ)) (ss : List Step) → length (filter_map (opened_entry calls) ss) ≡ openings ss
 opened calls [] = refl

@@ -11,7 +11,7 @@ use Rattle.semantic_tree.specs.declared.node.Node.{Node}
 use Rattle.semantic_model.specs.Entries.{times}
 use Rattle.semantic_tree.specs.Views.{is_role_of, children_of}
 use Rattle.semantic_model.specs.Names.{binding_roles, bound_below, bound_names, names_at}
-use Rattle.walk_model.proofs.NameTimes.{name_times, names_append}
+use Rattle.walk_model.proofs.once.NameTimes.{name_times, names_append}
 use Rattle.semantic_tree.specs.KindCounts.{how_many}
 use Rattle.count_laws.specs.Counted.{is_symbol}
 

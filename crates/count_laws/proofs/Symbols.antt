@@ -11,13 +11,13 @@ use Rattle.semantic_model.specs.Entries.{times}
 use Rattle.semantic_model.specs.Declaration.{Declaration, How, plain, hoisted, moved, caught, stands_in}
 use Rattle.semantic_model.specs.Step.{steps}
 use Rattle.semantic_model.specs.Event.{Event, declares, takes_over, ends_header, events}
-use Rattle.semantic_model.specs.Fold.{State, Made, start, found, update, united, redeclared, in_scope, gets, make, against, declare_in, chosen, new_symbol}
+use Rattle.semantic_model.specs.Fold.{State, Made, start, found, update, united, redeclared, in_scope, note_symbol, make, against, declare_in, chosen, new_symbol}
 use Rattle.semantic_model.specs.Binding.{get, bound_by}
-use Rattle.semantic_model.specs.Hoist.{Hit, hit, asked, against_all, move_symbol, hoist_by, move_out, move_function, declare_by, rescoped, act, run}
+use Rattle.semantic_model.specs.Hoist.{PassedSymbol, passed_symbol, asked_symbols, against_all, move_symbol, hoist_by, move_out, move_function, declare_by, rescoped, act, run}
 use Rattle.semantic_model.specs.NodeTable.{belonging}
 use Rattle.semantic_model.specs.TablesOf.{tables_of}
-use Rattle.semantic_model.proofs.Bounds.{update_length}
-use Rattle.walk_model.proofs.SymbolsOnce.{symbols_times}
+use Rattle.semantic_model.proofs.lists.Bounds.{update_length}
+use Rattle.walk_model.proofs.once.SymbolsOnce.{symbols_times}
 use Rattle.semantic_tree.specs.KindCounts.{how_many}
 use Rattle.count_laws.specs.Counted.{is_symbol}
 use Rattle.count_laws.proofs.Fewer.{no_longer}
@@ -31,11 +31,11 @@ Covers old new = length new.symbols + length old.made ≤ length old.symbols + l
 covers : (a b c : State) → Covers a b → Covers b c → Covers a c
 covers a b c h k = omega (arith, h, k)
 
-gets_length : (st : State) (d : Declaration) (s : ℕ) → length (gets st d s).made ≡ length st.made + 1
-gets_length st d s = length-append st.made (record { declaration = d; symbol = s } ∷ [])
+note_symbol_length : (st : State) (d : Declaration) (s : ℕ) → length (note_symbol st d s).made ≡ length st.made + 1
+note_symbol_length st d s = length-append st.made (record { declaration = d; symbol = s } ∷ [])
 
 made_covers : (st : State) (c : ℕ) (d : Declaration) → Covers st (make st c d)
-made_covers st c d = omega (arith, gets_length st d (length st.symbols), length-append st.symbols (new_symbol c d ∷ []))
+made_covers st c d = omega (arith, note_symbol_length st d (length st.symbols), length-append st.symbols (new_symbol c d ∷ []))
 
 -- where no symbol is made
 kept_covers : (old new : State) → length new.symbols ≡ length old.symbols → length old.made ≤ length new.made → Covers old new
@@ -43,7 +43,7 @@ kept_covers old new h k = omega (arith, h, k)
 
 declared_covers : (st : State) (c : ℕ) (d : Declaration) (s : Option ℕ) → Covers st (declare_in st c d s)
 declared_covers st c d None = made_covers st c d
-declared_covers st c d (Some s) = omega (arith, update_length (λ y. united d.flags (redeclared d y)) st.symbols s, gets_length (record (against st d s) { symbols = update (λ y. united d.flags (redeclared d y)) st.symbols s }) d s)
+declared_covers st c d (Some s) = omega (arith, update_length (λ y. united d.flags (redeclared d y)) st.symbols s, note_symbol_length (record (against st d s) { symbols = update (λ y. united d.flags (redeclared d y)) st.symbols s }) d s)
 
 against_same : (st : State) (d : Declaration) (ss : List ℕ) → ((against_all st d ss).symbols ≡ st.symbols) × ((against_all st d ss).made ≡ st.made)
 against_same st d [] = (refl, refl)
@@ -53,12 +53,12 @@ moved_covers : (st : State) (c t : ℕ) (x : Name) (s : ℕ) (o : Option ℕ) �
 moved_covers st c t x s (Some r) = omega arith
 moved_covers st c t x s None = omega (arith, update_length (in_scope t) st.symbols s)
 
-hoisted_covers : (st : State) (d : Declaration) (o : Option Hit) → Covers st (hoist_by st d o)
+hoisted_covers : (st : State) (d : Declaration) (o : Option PassedSymbol) → Covers st (hoist_by st d o)
 hoisted_covers st d None = declared_covers st d.target.number d (found st d.target.number d.name)
 hoisted_covers st d (Some h) =
-    let st1 : State = gets (record st { symbols = update (redeclared d) st.symbols h.symbol }) d h.symbol in
+    let st1 : State = note_symbol (record st { symbols = update (redeclared d) st.symbols h.symbol }) d h.symbol in
     covers st st1 (move_symbol st1 h.scope d.target.number d.name h.symbol (get st1.bindings d.target.number d.name))
-    (omega (arith, update_length (redeclared d) st.symbols h.symbol, gets_length (record st { symbols = update (redeclared d) st.symbols h.symbol }) d h.symbol))
+    (omega (arith, update_length (redeclared d) st.symbols h.symbol, note_symbol_length (record st { symbols = update (redeclared d) st.symbols h.symbol }) d h.symbol))
     (moved_covers st1 h.scope d.target.number d.name h.symbol (get st1.bindings d.target.number d.name))
 
 out_covers : (st : State) (c t : ℕ) (x : Name) (s : ℕ) (o : Option ℕ) → Covers st (move_out st c t x s o)
@@ -68,9 +68,9 @@ out_covers st c t x s None = omega (arith, update_length (in_scope t) st.symbols
 by_covers : (how : How) (st : State) (d : Declaration) → Covers st (declare_by how st d)
 by_covers plain st d = declared_covers st d.target.number d (found st d.target.number d.name)
 by_covers hoisted st d =
-    let noted : State = against_all st d (asked st d.passed d.name) in
-    let same = against_same st d (asked st d.passed d.name) in
-    let later = hoisted_covers noted d (hit st d.passed d.name) in
+    let noted : State = against_all st d (asked_symbols st d.passed d.name) in
+    let same = against_same st d (asked_symbols st d.passed d.name) in
+    let later = hoisted_covers noted d (passed_symbol st d.passed d.name) in
     omega (arith, later, ap length same.0, ap length same.1)
 by_covers moved st d =
     let c : ℕ = stands_in d in

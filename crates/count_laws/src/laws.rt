@@ -8,7 +8,7 @@ ghost use Rattle.semantic_model.specs.Inside.{scopes_in};
 ghost use Rattle.semantic_model.specs.Event.{written_declarations};
 ghost use Rattle.semantic_model.specs.Step.{Step, steps};
 ghost use Rattle.semantic_model.specs.TablesOf.{tables_of};
-ghost use Rattle.walk_model.specs.Standing.{nothing_made};
+ghost use Rattle.walk_model.specs.WalkState.{nothing_made};
 ghost use Rattle.walk_model.specs.Walks.{after_all};
 ghost use Rattle.semantic_tree.specs.KindCounts.{how_many};
 ghost use Rattle.count_laws.specs.Counted.{is_symbol, is_reference};

@@ -14,19 +14,19 @@ use Rattle.semantic_model.specs.Reference.{Occurrence}
 use Rattle.semantic_model.specs.Event.{Event}
 use Rattle.semantic_model.specs.Fold.{State, start}
 use Rattle.semantic_model.specs.Hoist.{run}
-use Rattle.semantic_syntax.specs.Lookup.{Lookup, tied, barred, unanswered, lookup, scopes_asked}
+use Rattle.semantic_syntax.specs.Lookup.{Lookup, tied, barred, unanswered, lookup, probes_in}
 use Rattle.semantic_model.specs.Tie.{Tie, until_end_of, seen_as, answer}
-use Rattle.semantic_model.specs.Outcome.{Pending, Outcome, is_free, waits, up_to, answer as source_answer, outcome_or, waits_outside, header_outcome, header_asks, last_asks}
-use Rattle.semantic_model.proofs.Members.{contains_first}
-use Rattle.walk_model.specs.Standing.{Standing}
+use Rattle.semantic_model.specs.Outcome.{Pending, Outcome, is_free, waits, up_to, answer as source_answer, outcome_or, waits_outside, header_outcome, header_probes, last_probes}
+use Rattle.semantic_model.proofs.lists.Members.{contains_first}
+use Rattle.walk_model.specs.WalkState.{WalkState}
 use Rattle.walk_model.specs.Walks.{numbers}
-use Rattle.walk_model.proofs.Nested.{AreLinked, Descends}
-use Rattle.walk_model.proofs.Headed.{AllMatch, AreFlagged, AllLess}
-use Rattle.walk_model.proofs.Lookups.{answered_in, lookup_alike, AreAlike, NoneInHeader}
-use Rattle.walk_model.proofs.Frozen.{Frozen}
-use Rattle.walk_model.proofs.Sources.{chain_is, parent_is, up_to_is, AllViewed, viewed-append, all_alike, viewed_ending}
-use Rattle.walk_model.proofs.HeaderEnds.{At, Waits, looked_up, answers_of, descends_right, Parts, parted, match_right, linked_right, flagged_prefix, seg_none, seg_viewed}
-use Rattle.count_model.proofs.LookupCosts.{asked_first, asked_through, asked_alike}
+use Rattle.walk_model.proofs.places.Nested.{AreLinked, Descends}
+use Rattle.walk_model.proofs.headers.Headed.{AllMatch, AreFlagged, AllLess}
+use Rattle.walk_model.proofs.refers.Lookups.{answered_in, lookup_alike, AreAlike, NoneInHeader}
+use Rattle.walk_model.proofs.headers.Frozen.{Frozen}
+use Rattle.walk_model.proofs.refers.Sources.{chain_is, parent_is, up_to_is, AllViewed, viewed-append, all_alike, viewed_ending}
+use Rattle.walk_model.proofs.refers.HeaderEnds.{At, Waits, looked_up, answers_of, descends_right, Parts, parted, match_right, linked_right, flagged_prefix, seg_none, seg_viewed}
+use Rattle.count_model.proofs.LookupCosts.{probes_first, probes_through, probes_alike}
 use Rattle.count_model.proofs.LeftToAsk.{scopes_from, cost, left_for, left_of, left_then, from_there}
 
 -- an answer leaves nothing to ask
@@ -40,7 +40,7 @@ unanswered_other other (tied c s f) h = absurd cc
 unanswered_other other (barred c) h = absurd cc
 unanswered_other other unanswered h = refl
 
-module _ (w : Standing) (st final : State) (es : List Event) (rs : List Occurrence) (stack : List ℕ) (seen calls : List (List ℕ)) (bare : List Scope) (fs : List ℕ) (now_at : At w st stack seen calls bare fs) where
+module _ (w : WalkState) (st final : State) (es : List Event) (rs : List Occurrence) (stack : List ℕ) (seen calls : List (List ℕ)) (bare : List Scope) (fs : List ℕ) (now_at : At w st stack seen calls bare fs) where
   -- what is left to ask stands in the tables
   left_chain : (awaiting : List ℕ) (t : Tie) (e : Pending) (h : Waits awaiting seen fs final es t e) → chain (source_of w.tables) e.lookup_scope ≡ numbers (h.next ∷ h.rest)
   left_chain awaiting t e h =
@@ -78,7 +78,7 @@ module _ (w : Standing) (st final : State) (es : List Event) (rs : List Occurren
     -- the header's scope is among those left
     pays_inside : (t : Tie) (e : Pending) (h : Waits (c ∷ aw) seen fs final es t e) → Parts c (h.next ∷ h.rest) → slice_get rs e.reference ≡ Some t.reference
         → cost final es t.reference (h.next ∷ h.rest)
-        ≡ scopes_asked t.reference.name t.reference.way (map (source_answer (source_of w.tables) t.reference.name) (up_to c (numbers (h.next ∷ h.rest))))
+        ≡ probes_in t.reference.name t.reference.way (map (source_answer (source_of w.tables) t.reference.name) (up_to c (numbers (h.next ∷ h.rest))))
         + left_then left e (outcome_or (waits_outside (source_of w.tables) c) (lookup t.reference.name t.reference.way (map (source_answer (source_of w.tables) t.reference.name) (up_to c (numbers (h.next ∷ h.rest))))))
     pays_inside t e h p there =
         let x : Name = t.reference.name in
@@ -94,48 +94,48 @@ module _ (w : Standing) (st final : State) (es : List Event) (rs : List Occurren
         let same : AreAlike x way (map (source_answer (source_of w.tables) x) (numbers (p.seg ++ p.own ∷ []))) (answers_of final es t (p.seg ++ p.own ∷ [])) =
         all_alike (length seen) w st final es x way stack seen calls bare fs (p.seg ++ p.own ∷ []) now_at.shows now_at.scopes now_at.flags (flagged_prefix fs p.seg p.own p.tail f) views in
         let upto : up_to c (numbers (h.next ∷ h.rest)) ≡ numbers (p.seg ++ p.own ∷ []) = ap (λ l. up_to c (numbers l)) p.is ∙ up_to_is c p.seg p.own p.tail p.number p.apart in
-        let paid : scopes_asked x way (map (source_answer (source_of w.tables) x) (up_to c (numbers (h.next ∷ h.rest)))) ≡ cost final es t.reference (p.seg ++ p.own ∷ []) =
-        ap (λ l. scopes_asked x way (map (source_answer (source_of w.tables) x) l)) upto
-        ∙ asked_alike x way (map (source_answer (source_of w.tables) x) (numbers (p.seg ++ p.own ∷ []))) (answers_of final es t (p.seg ++ p.own ∷ [])) same in
+        let paid : probes_in x way (map (source_answer (source_of w.tables) x) (up_to c (numbers (h.next ∷ h.rest)))) ≡ cost final es t.reference (p.seg ++ p.own ∷ []) =
+        ap (λ l. probes_in x way (map (source_answer (source_of w.tables) x) l)) upto
+        ∙ probes_alike x way (map (source_answer (source_of w.tables) x) (numbers (p.seg ++ p.own ∷ []))) (answers_of final es t (p.seg ++ p.own ∷ [])) same in
         let told : lookup x way (map (source_answer (source_of w.tables) x) (up_to c (numbers (h.next ∷ h.rest)))) ≡ looked_up final es t (p.seg ++ p.own ∷ []) =
         ap (λ l. lookup x way (map (source_answer (source_of w.tables) x) l)) upto
         ∙ lookup_alike x way (map (source_answer (source_of w.tables) x) (numbers (p.seg ++ p.own ∷ []))) (answers_of final es t (p.seg ++ p.own ∷ [])) same in
-        let split : cost final es t.reference (h.next ∷ h.rest) ≡ scopes_asked x way (answers_of final es t (p.seg ++ p.own ∷ []) ++ answers_of final es t p.tail) =
-        ap (cost final es t.reference) (p.is ∙ sym (append_assoc p.seg (p.own ∷ []) p.tail)) ∙ ap (scopes_asked x way) (map-append (answer final es x) (p.seg ++ p.own ∷ []) p.tail) in
+        let split : cost final es t.reference (h.next ∷ h.rest) ≡ probes_in x way (answers_of final es t (p.seg ++ p.own ∷ []) ++ answers_of final es t p.tail) =
+        ap (cost final es t.reference) (p.is ∙ sym (append_assoc p.seg (p.own ∷ []) p.tail)) ∙ ap (probes_in x way) (map-append (answer final es x) (p.seg ++ p.own ∷ []) p.tail) in
         split ∙ by (answered_in (looked_up final es t (p.seg ++ p.own ∷ []))) refl
         ∙ (λ i. sym paid i + left_then left e (outcome_or (waits_outside (source_of w.tables) c) (sym told i)))
       where
         by : (o : Option ℕ) → answered_in (looked_up final es t (p.seg ++ p.own ∷ [])) ≡ o
-            → scopes_asked t.reference.name t.reference.way (answers_of final es t (p.seg ++ p.own ∷ []) ++ answers_of final es t p.tail)
+            → probes_in t.reference.name t.reference.way (answers_of final es t (p.seg ++ p.own ∷ []) ++ answers_of final es t p.tail)
             ≡ cost final es t.reference (p.seg ++ p.own ∷ []) + left_then left e (outcome_or (waits_outside (source_of w.tables) c) (looked_up final es t (p.seg ++ p.own ∷ [])))
         by None a = omega (
           arith,
-          asked_through t.reference.name t.reference.way (answers_of final es t (p.seg ++ p.own ∷ [])) (answers_of final es t p.tail) a,
+          probes_through t.reference.name t.reference.way (answers_of final es t (p.seg ++ p.own ∷ [])) (answers_of final es t p.tail) a,
           ap (left_then left e) (unanswered_other (waits_outside (source_of w.tables) c) (looked_up final es t (p.seg ++ p.own ∷ [])) a),
           left_outside t e h p.seg p.own p.tail p.is p.number there,
         )
         by (Some d) a = omega (
           arith,
-          asked_first t.reference.name t.reference.way (answers_of final es t (p.seg ++ p.own ∷ [])) (answers_of final es t p.tail) d a,
+          probes_first t.reference.name t.reference.way (answers_of final es t (p.seg ++ p.own ∷ [])) (answers_of final es t p.tail) d a,
           answered_spares left e (waits_outside (source_of w.tables) c) (looked_up final es t (p.seg ++ p.own ∷ [])) d a,
         )
 
     pub pays_at_end : (t : Tie) (e : Pending) → Waits (c ∷ aw) seen fs final es t e → way_of w.tables e.reference ≡ t.reference.way → slice_get rs e.reference ≡ Some t.reference
-        → left e ≡ header_asks (source_of w.tables) c e + left_then left e (header_outcome (source_of w.tables) c e)
+        → left e ≡ header_probes (source_of w.tables) c e + left_then left e (header_outcome (source_of w.tables) c e)
     pays_at_end t e h way there =
         let x : Name = t.reference.name in
         let source = source_of w.tables in
         let ch : chain source e.lookup_scope ≡ numbers (h.next ∷ h.rest) = left_chain (c ∷ aw) t e h in
         let first : left e ≡ cost final es t.reference (h.next ∷ h.rest) = left_at t e h.asked h.next h.rest h.chain_is h.descends h.scope there in
-        let asks : header_asks source c e ≡ cond (contains (numbers (h.next ∷ h.rest)) c) (scopes_asked x t.reference.way (map (source_answer source x) (up_to c (numbers (h.next ∷ h.rest))))) 0 =
-        λ i. cond (contains (ch i) c) (scopes_asked (h.name i) (way i) (map (source_answer source (h.name i)) (up_to c (ch i)))) 0 in
+        let asks : header_probes source c e ≡ cond (contains (numbers (h.next ∷ h.rest)) c) (probes_in x t.reference.way (map (source_answer source x) (up_to c (numbers (h.next ∷ h.rest))))) 0 =
+        λ i. cond (contains (ch i) c) (probes_in (h.name i) (way i) (map (source_answer source (h.name i)) (up_to c (ch i)))) 0 in
         let outcome : header_outcome source c e ≡ cond (contains (numbers (h.next ∷ h.rest)) c) (outcome_or (waits_outside source c) (lookup x t.reference.way (map (source_answer source x) (up_to c (numbers (h.next ∷ h.rest)))))) (waits e.lookup_scope) =
         λ i. cond (contains (ch i) c) (outcome_or (waits_outside source c) (lookup (h.name i) (way i) (map (source_answer source (h.name i)) (up_to c (ch i))))) (waits e.lookup_scope) in
         first ∙ by (contains (numbers (h.next ∷ h.rest)) c) refl first ∙ (λ i. sym asks i + left_then left e (sym outcome i))
       where
         by : (b : Bool) → contains (numbers (h.next ∷ h.rest)) c ≡ b → left e ≡ cost final es t.reference (h.next ∷ h.rest)
             → cost final es t.reference (h.next ∷ h.rest)
-            ≡ cond b (scopes_asked t.reference.name t.reference.way (map (source_answer (source_of w.tables) t.reference.name) (up_to c (numbers (h.next ∷ h.rest))))) 0
+            ≡ cond b (probes_in t.reference.name t.reference.way (map (source_answer (source_of w.tables) t.reference.name) (up_to c (numbers (h.next ∷ h.rest))))) 0
             + left_then left e (cond b (outcome_or (waits_outside (source_of w.tables) c) (lookup t.reference.name t.reference.way (map (source_answer (source_of w.tables) t.reference.name) (up_to c (numbers (h.next ∷ h.rest)))))) (waits e.lookup_scope))
         by true q first = pays_inside t e h (parted c (h.next ∷ h.rest) q) there
         by false q first = sym first ∙ omega arith
@@ -150,13 +150,13 @@ module _ (w : Standing) (st final : State) (es : List Event) (rs : List Occurren
   end_viewed x (s ∷ ss) e n = (rw n.0 (ap (λ (v : State). seen_as v (get v.bindings s.number x)) (sym e)), end_viewed x ss e n.1)
 
   pub pays_last : (t : Tie) (e : Pending) → final ≡ st → Waits [] seen fs final es t e → way_of w.tables e.reference ≡ t.reference.way → slice_get rs e.reference ≡ Some t.reference
-      → left_for final es rs e ≡ last_asks (source_of w.tables) e
+      → left_for final es rs e ≡ last_probes (source_of w.tables) e
   pays_last t e fin h way there =
       let x : Name = t.reference.name in
       let left : List OpenScope = h.next ∷ h.rest in
       let source = source_of w.tables in
       let ch : chain source e.lookup_scope ≡ numbers left = left_chain [] t e h in
-      let asks : last_asks source e ≡ scopes_asked x t.reference.way (map (source_answer source x) (numbers left)) = λ i. scopes_asked (h.name i) (way i) (map (source_answer source (h.name i)) (ch i)) in
+      let asks : last_probes source e ≡ probes_in x t.reference.way (map (source_answer source x) (numbers left)) = λ i. probes_in (h.name i) (way i) (map (source_answer source (h.name i)) (ch i)) in
       left_at t e h.asked h.next h.rest h.chain_is h.descends h.scope there
-      ∙ sym (asks ∙ asked_alike x t.reference.way (map (source_answer source x) (numbers left)) (answers_of final es t left)
+      ∙ sym (asks ∙ probes_alike x t.reference.way (map (source_answer source x) (numbers left)) (answers_of final es t left)
       (all_alike (length seen) w st final es x t.reference.way stack seen calls bare fs left now_at.shows now_at.scopes now_at.flags h.flagged (end_viewed x left fin (none_left left h.matches))))

@@ -13,9 +13,9 @@ use Rattle.semantic_tree.specs.Tree.{Tree, numbered_tree}
 use Rattle.semantic_model.specs.Step.{steps}
 use Rattle.semantic_model.specs.Event.{written_declarations}
 use Rattle.semantic_model.specs.TablesOf.{tables_of}
-use Rattle.semantic_model.proofs.SmallPrograms.{use_before_var, default_sees_outside, nested_headers, arguments_outside}
-use Rattle.walk_model.specs.Standing.{nothing_made}
-use Rattle.count_model.specs.Asks.{asked, asked_by_steps, depths}
+use Rattle.semantic_model.proofs.examples.SmallPrograms.{use_before_var, default_sees_outside, nested_headers, arguments_outside}
+use Rattle.walk_model.specs.WalkState.{nothing_made}
+use Rattle.count_model.specs.Probes.{probes, probes_of_steps, depths}
 
 abbrev node : Role → AstType → List ℕ → Forest → Forest
 node r k text below = tree r k (record { start = 0; end = 0 }) text no_marks below 0 nothing
@@ -54,22 +54,22 @@ empty_bodies =
     })
 
 -- a name in the root's scope asks that scope alone
-use_before_var_asks : asked use_before_var ≡ 1
+use_before_var_asks : probes use_before_var ≡ 1
 use_before_var_asks = refl
 
 -- a default asks the function's scope and the root's
-default_asks : asked default_sees_outside ≡ 2
+default_asks : probes default_sees_outside ≡ 2
 default_asks = refl
 
 -- a default in a default asks each scope around it once, whatever the bodies declare
-nested_asks : asked nested_headers ≡ 3
+nested_asks : probes nested_headers ≡ 3
 nested_asks = refl
 
-empty_asks : asked empty_bodies ≡ 3
+empty_asks : probes empty_bodies ≡ 3
 empty_asks = refl
 
 -- two of them are asked at the ends of the headers, and the root's in the end
-empty_on_the_way : asked_by_steps (written_declarations (steps empty_bodies)) nothing_made (steps empty_bodies) ≡ 2
+empty_on_the_way : probes_of_steps (written_declarations (steps empty_bodies)) nothing_made (steps empty_bodies) ≡ 2
 unfolding chain_within
 empty_on_the_way = refl
 
@@ -79,5 +79,5 @@ unfolding chain_within
 empty_depths = refl
 
 -- `arguments` isn't looked up past its function
-arguments_asks : asked arguments_outside ≡ 1
+arguments_asks : probes arguments_outside ≡ 1
 arguments_asks = refl

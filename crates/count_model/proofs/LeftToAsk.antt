@@ -10,12 +10,12 @@ use Rattle.semantic_model.specs.Place.{OpenScope}
 use Rattle.semantic_model.specs.Reference.{Occurrence}
 use Rattle.semantic_model.specs.Event.{Event}
 use Rattle.semantic_model.specs.Fold.{State}
-use Rattle.semantic_syntax.specs.Lookup.{scopes_asked}
+use Rattle.semantic_syntax.specs.Lookup.{probes_in}
 use Rattle.semantic_model.specs.Outcome.{Pending, Outcome, means, is_free, waits}
 use Rattle.semantic_model.specs.Tie.{Tie, ties, answer}
 use Rattle.walk_model.specs.Settles.{staying, waiting_on}
-use Rattle.walk_model.proofs.Nested.{Descends}
-use Rattle.walk_model.proofs.Settling.{Tracks, none, is_done, is_open, AreNumbered}
+use Rattle.walk_model.proofs.places.Nested.{Descends}
+use Rattle.walk_model.proofs.refers.Settling.{Tracks, none, is_done, is_open, AreNumbered}
 
 -- the scopes of a chain from the one of the number on
 abbrev pub scopes_from : ℕ → List OpenScope → List OpenScope
@@ -24,7 +24,7 @@ scopes_from c (s ∷ ss) = cond (s.number == c) (s ∷ ss) (scopes_from c ss)
 
 -- how many of the scopes a reference asks
 abbrev pub cost : State → List Event → Occurrence → List OpenScope → ℕ
-cost final es r ss = scopes_asked r.name r.way (map (answer final es r.name) ss)
+cost final es r ss = probes_in r.name r.way (map (answer final es r.name) ss)
 
 -- how many scopes it asks in all
 abbrev pub cost_of : State → List Event → Occurrence → ℕ

@@ -19,31 +19,31 @@ use Rattle.semantic_model.specs.Step.{Step, entering, opening, header_ending, cl
 use Rattle.semantic_model.specs.Event.{Event, ends_header, events_of, events, written_declarations}
 use Rattle.semantic_model.specs.Fold.{State, start}
 use Rattle.semantic_model.specs.Hoist.{run}
-use Rattle.semantic_syntax.specs.Lookup.{scopes_asked}
+use Rattle.semantic_syntax.specs.Lookup.{probes_in}
 use Rattle.semantic_model.specs.Tie.{Tie, ties, answers, until_end_of}
-use Rattle.semantic_model.specs.Outcome.{Pending, header_outcome, header_asks, last_asks}
+use Rattle.semantic_model.specs.Outcome.{Pending, header_outcome, header_probes, last_probes}
 use Rattle.semantic_model.specs.TablesOf.{is_direct_eval}
-use Rattle.semantic_model.proofs.Compose.{run-append}
-use Rattle.semantic_model.proofs.Growth.{start_is_sound}
-use Rattle.walk_model.specs.Standing.{Standing, nothing_made}
+use Rattle.semantic_model.proofs.steps.Compose.{run-append}
+use Rattle.semantic_model.proofs.lists.Growth.{start_is_sound}
+use Rattle.walk_model.specs.WalkState.{WalkState, nothing_made}
 use Rattle.walk_model.specs.Opens.{note_reference, refer}
 use Rattle.walk_model.specs.Walks as walk
-use Rattle.walk_model.proofs.Nested.{AreNested, open_past, seen_past}
-use Rattle.walk_model.proofs.Grounds.{AllGrounded, all_grounded}
-use Rattle.walk_model.proofs.Simulated.{nothing_as, program_nested}
-use Rattle.walk_model.proofs.Touched.{AllTouch}
-use Rattle.walk_model.proofs.Untouched.{acts_untouched}
-use Rattle.walk_model.proofs.OpenedAll.{nothing_opened}
-use Rattle.walk_model.proofs.OpenedScopes.{bare_past, calls_past, entering_declares, opening_declares}
-use Rattle.walk_model.proofs.Headed.{AllLess, awaiting_past, awaiting_after, flags_past, AreHeaded}
-use Rattle.walk_model.proofs.HeadedProgram.{program_headed, program_awaits}
-use Rattle.walk_model.proofs.Frozen.{Frozen, frozen, between, between_low, between_high, later_touch}
-use Rattle.walk_model.proofs.HeaderEnds.{At, Waits}
-use Rattle.walk_model.proofs.Settling.{none}
-use Rattle.walk_model.proofs.Tracked.{numbered, with_ways, tracks_length, ties_length, IsDone, until_is}
-use Rattle.walk_model.proofs.Referred.{Inv, referred_past, referred_next, same_eval, same_closing}
-use Rattle.walk_model.proofs.ReferredSteps.{inv_step}
-use Rattle.count_model.specs.Asks.{asked, asked_by_step, asked_by_steps, asked_in_end}
+use Rattle.walk_model.proofs.places.Nested.{AreNested, open_past, seen_past}
+use Rattle.walk_model.proofs.places.Grounds.{AllGrounded, all_grounded}
+use Rattle.walk_model.proofs.declares.Simulated.{nothing_as, program_nested}
+use Rattle.walk_model.proofs.headers.TouchedScopes.{AllTouch}
+use Rattle.walk_model.proofs.opens.LeftByDeclaring.{acts_untouched}
+use Rattle.walk_model.proofs.opens.OpenedAll.{nothing_opened}
+use Rattle.walk_model.proofs.opens.OpenedScopes.{bare_past, calls_past, entering_declares, opening_declares}
+use Rattle.walk_model.proofs.headers.Headed.{AllLess, awaiting_past, awaiting_after, flags_past, AreHeaded}
+use Rattle.walk_model.proofs.headers.HeadedProgram.{program_headed, program_awaits}
+use Rattle.walk_model.proofs.headers.Frozen.{Frozen, frozen, between, between_low, between_high, later_touch}
+use Rattle.walk_model.proofs.refers.HeaderEnds.{At, Waits}
+use Rattle.walk_model.proofs.refers.Settling.{none}
+use Rattle.walk_model.proofs.refers.TrackedReferences.{numbered, with_ways, tracks_length, ties_length, IsDone, until_is}
+use Rattle.walk_model.proofs.refers.Referred.{Inv, referred_past, referred_next, same_eval, same_closing}
+use Rattle.walk_model.proofs.refers.ReferredSteps.{inv_step}
+use Rattle.count_model.specs.Probes.{probes, probes_of_step, probes_of_steps, probes_in_end}
 use Rattle.count_model.proofs.LeftToAsk.{scopes_from, cost, cost_of, left_for, left_of, all_pay, all_pay_last, HasTie, among_ties, each, reference_at_tie, more_at, next_at}
 use Rattle.count_model.proofs.EndCosts.{pays_at_end, pays_last}
 
@@ -69,7 +69,7 @@ first_most c cs x l h = elim (eqb_tells c x) [ inl q ↦ omega (arith, q.1) | in
 
 module _ (ds : List Declaration) (final : State) (es : List Event) (final_is : final ≡ run start es) (whole : List Occurrence) where
   -- how many scopes are left to ask
-  abbrev left : Standing → ℕ
+  abbrev left : WalkState → ℕ
   left w = sum_by (left_for final es whole) w.waiting
 
   abbrev costs : List Occurrence → ℕ
@@ -94,7 +94,7 @@ module _ (ds : List Declaration) (final : State) (es : List Event) (final_is : f
   costs_next (closing p s) ss = omega arith
   costs_next (leaving p) ss = omega arith
 
-  module _ (stack : List ℕ) (seen calls : List (List ℕ)) (bare : List Scope) (awaiting fs : List ℕ) (rs : List Occurrence) (done : List Event) (w : Standing) (st : State)
+  module _ (stack : List ℕ) (seen calls : List (List ℕ)) (bare : List Scope) (awaiting fs : List ℕ) (rs : List Occurrence) (done : List Event) (w : WalkState) (st : State)
       (i : Inv (ties final es 0 whole) final es stack seen calls bare awaiting fs rs done w st) where
     -- all of a new reference's scopes are left
     left_new : (p : Place) (ss : List Step) → whole ≡ rs ++ references (entering p ∷ ss) → is kind.IdentifierReference p.node ≡ true
@@ -109,7 +109,7 @@ module _ (ds : List Declaration) (final : State) (es : List Event) (final_is : f
 
     pays_entering : (p : Place) (ss : List Step) → whole ≡ rs ++ references (entering p ∷ ss) → 0 + left (walk.after ds w (entering p)) ≡ left w + new_cost (entering p)
     pays_entering p ss e =
-        let v : Standing = walk.prepare w (entering p) in
+        let v : WalkState = walk.prepare w (entering p) in
         let waited : (walk.after ds w (entering p)).waiting ≡ (note_reference w p).waiting =
         (acts_untouched v (events_of ds (entering p)) (entering_declares ds p)).waiting ∙ (same_eval (is_direct_eval p.node) (note_reference w p) (at p)).waiting in
         omega (arith, ap (sum_by (left_for final es whole)) waited, by (is kind.IdentifierReference p.node) refl)
@@ -148,16 +148,16 @@ module _ (ds : List Declaration) (final : State) (es : List Event) (final_is : f
     now_at = record { shows = i.represents.shows; scopes = i.scopes; flags = i.flags; sound = i.sound }
 
     -- in the end
-    pays_rest : whole ≡ rs ++ [] → final ≡ st → awaiting ≡ [] → left w ≡ asked_in_end w
+    pays_rest : whole ≡ rs ++ [] → final ≡ st → awaiting ≡ [] → left w ≡ probes_in_end w
     pays_rest e fin none_awaits =
-        all_pay_last (left_for final es whole) (last_asks (source_of w.tables)) w.waiting
+        all_pay_last (left_for final es whole) (last_probes (source_of w.tables)) w.waiting
         (each (λ x h. pays_last w st final es whole stack seen calls bare fs now_at h.tie x fin (subst (λ l. Waits l seen fs final es h.tie x) none_awaits h.waits_so.0) (way_is x h) (stands_there x [] e h)) w.waiting tied)
 
   -- the end of a header
-  pays_ending : (around aw : List ℕ) (seen calls : List (List ℕ)) (bare : List Scope) (fs : List ℕ) (rs : List Occurrence) (done : List Event) (w : Standing) (st : State) (p : Place) (s : OpenScope) (ss : List Step)
+  pays_ending : (around aw : List ℕ) (seen calls : List (List ℕ)) (bare : List Scope) (fs : List ℕ) (rs : List Occurrence) (done : List Event) (w : WalkState) (st : State) (p : Place) (s : OpenScope) (ss : List Step)
       → whole ≡ rs ++ references ss → es ≡ done ++ ends_header s.number ∷ flat_map (events_of ds) ss → st ≡ run start done → AreNested (s.number ∷ around) seen ss → AllGrounded ss
       → Inv (ties final es 0 whole) final es (s.number ∷ around) seen calls bare (s.number ∷ aw) fs rs done w st
-      → asked_by_step w (header_ending p s) + left (walk.after ds w (header_ending p s)) ≡ left w + 0
+      → probes_of_step w (header_ending p s) + left (walk.after ds w (header_ending p s)) ≡ left w + 0
   pays_ending around aw seen calls bare fs rs done w st p s ss whole_is es_is st_is nested grounded i =
       let c : ℕ = s.number in
       let n : ℕ = length seen in
@@ -169,17 +169,17 @@ module _ (ds : List Declaration) (final : State) (es : List Event) (final_is : f
       later_touch (between c n) ds stack seen ss nested grounded (λ x h. between_low c n x (first_most c around x i.order.0 h)) (λ x l. between_high c n x l) in
       let still : Frozen c n st final = subst (Frozen c n st) (sym final_run) (frozen c n st evs i.sided.0 i.within i.sound touch) in
       let view_is : run start (until_end_of c es) ≡ st = ap (λ l. run start (until_end_of c l)) es_is ∙ ap (run start) (until_is aw n c done evs i.ends) ∙ sym st_is in
-      let paid : left w ≡ asked_by_step w (header_ending p s) + left (walk.after ds w (header_ending p s)) =
-      all_pay (left_for final es whole) (header_asks (source_of w.tables) c) (header_outcome (source_of w.tables) c) w.waiting
+      let paid : left w ≡ probes_of_step w (header_ending p s) + left (walk.after ds w (header_ending p s)) =
+      all_pay (left_for final es whole) (header_probes (source_of w.tables) c) (header_outcome (source_of w.tables) c) w.waiting
       (each (λ x h. pays_at_end w st final es whole stack seen calls bare fs (now_at stack seen calls bare (c ∷ aw) fs rs done w st i) c aw still view_is i.old.0 h.tie x h.waits_so.0
       (way_is stack seen calls bare (c ∷ aw) fs rs done w st i x h) (stands_there stack seen calls bare (c ∷ aw) fs rs done w st i x (references ss) whole_is h))
       w.waiting (tied stack seen calls bare (c ∷ aw) fs rs done w st i)) in
       omega (arith, paid)
 
-  step_pays : (stack : List ℕ) (seen calls : List (List ℕ)) (bare : List Scope) (awaiting fs : List ℕ) (rs : List Occurrence) (done : List Event) (w : Standing) (st : State) (step : Step) (ss : List Step)
+  step_pays : (stack : List ℕ) (seen calls : List (List ℕ)) (bare : List Scope) (awaiting fs : List ℕ) (rs : List Occurrence) (done : List Event) (w : WalkState) (st : State) (step : Step) (ss : List Step)
       → whole ≡ rs ++ references (step ∷ ss) → es ≡ done ++ (events_of ds step ++ flat_map (events_of ds) ss) → st ≡ run start done → AreNested stack seen (step ∷ ss) → AllGrounded (step ∷ ss) → AreHeaded awaiting fs (step ∷ ss)
       → Inv (ties final es 0 whole) final es stack seen calls bare awaiting fs rs done w st
-      → asked_by_step w step + left (walk.after ds w step) ≡ left w + new_cost step
+      → probes_of_step w step + left (walk.after ds w step) ≡ left w + new_cost step
   step_pays stack seen calls bare awaiting fs rs done w st (entering p) ss a b c k g h i = pays_entering stack seen calls bare awaiting fs rs done w st i p ss a
   step_pays stack seen calls bare awaiting fs rs done w st (opening p s) ss a b c k g h i = pays_opening stack seen calls bare awaiting fs rs done w st i p s
   step_pays stack seen calls bare awaiting fs rs done w st (header_ending p s) ss a b c k g h i =
@@ -191,10 +191,10 @@ module _ (ds : List Declaration) (final : State) (es : List Event) (final_is : f
   step_pays stack seen calls bare awaiting fs rs done w st (leaving p) ss a b c k g h i = omega arith
 
   -- what steps ask, and what is asked in the end, is what is left and what the references that follow ask
-  steps_pay : (stack : List ℕ) (seen calls : List (List ℕ)) (bare : List Scope) (awaiting fs : List ℕ) (rs : List Occurrence) (done : List Event) (w : Standing) (st : State) (ss : List Step)
+  steps_pay : (stack : List ℕ) (seen calls : List (List ℕ)) (bare : List Scope) (awaiting fs : List ℕ) (rs : List Occurrence) (done : List Event) (w : WalkState) (st : State) (ss : List Step)
       → whole ≡ rs ++ references ss → es ≡ done ++ flat_map (events_of ds) ss → st ≡ run start done → length fs ≡ length seen → AreNested stack seen ss → AllGrounded ss → AreHeaded awaiting fs ss → awaiting_after awaiting ss ≡ []
       → Inv (ties final es 0 whole) final es stack seen calls bare awaiting fs rs done w st
-      → asked_by_steps ds w ss + asked_in_end (walk.after_all ds w ss) ≡ left w + costs (references ss)
+      → probes_of_steps ds w ss + probes_in_end (walk.after_all ds w ss) ≡ left w + costs (references ss)
   steps_pay stack seen calls bare awaiting fs rs done w st [] a b c e k g h none_awaits i =
       let fin : final ≡ st = final_is ∙ ap (run start) (b ∙ append-nil done) ∙ sym c in
       omega (arith, pays_rest stack seen calls bare awaiting fs rs done w st i a fin none_awaits)
@@ -203,7 +203,7 @@ module _ (ds : List Declaration) (final : State) (es : List Event) (final_is : f
       let rest : List Event = flat_map (events_of ds) ss in
       let next : Inv (ties final es 0 whole) final es (open_past stack step) (seen_past seen step) (calls_past calls step) (bare_past bare step) (awaiting_past awaiting step) (flags_past fs step) (referred_past rs step) (done ++ evs) (walk.after ds w step) (run st evs) =
       inv_step ds (ties final es 0 whole) final es stack seen calls bare awaiting fs rs done w st step ss (ap (ties final es 0) a) b c final_is e k g h i in
-      let later : asked_by_steps ds (walk.after ds w step) ss + asked_in_end (walk.after_all ds w (step ∷ ss)) ≡ left (walk.after ds w step) + costs (references ss) =
+      let later : probes_of_steps ds (walk.after ds w step) ss + probes_in_end (walk.after_all ds w (step ∷ ss)) ≡ left (walk.after ds w step) + costs (references ss) =
       steps_pay (open_past stack step) (seen_past seen step) (calls_past calls step) (bare_past bare step) (awaiting_past awaiting step) (flags_past fs step) (referred_past rs step) (done ++ evs) (walk.after ds w step) (run st evs) ss
       (a ∙ referred_next rs step ss) (b ∙ sym (append_assoc done evs rest)) (ap (λ x. run x evs) c ∙ sym (run-append done evs start)) (same_count fs seen step e) k.1 g.1 h.1 none_awaits next in
       omega (arith, later, step_pays stack seen calls bare awaiting fs rs done w st step ss a b c k g h i, costs_next step ss)
@@ -226,21 +226,21 @@ module _ (ds : List Declaration) (final : State) (es : List Event) (final_is : f
     nodes = refl;
   }
 
-abbrev asked_by : State → List Event → List Occurrence → ℕ
-asked_by final es [] = 0
-asked_by final es (r ∷ rs) = scopes_asked r.name r.way (answers final es r) + asked_by final es rs
+abbrev probes_by : State → List Event → List Occurrence → ℕ
+probes_by final es [] = 0
+probes_by final es (r ∷ rs) = probes_in r.name r.way (answers final es r) + probes_by final es rs
 
-asked_is : (final : State) (es : List Event) (rs : List Occurrence) → sum_by (cost_of final es) rs ≡ asked_by final es rs
-asked_is final es [] = refl
-asked_is final es (r ∷ rs) = omega (arith, sum_by-cons (cost_of final es) r rs, asked_is final es rs)
+probes_is : (final : State) (es : List Event) (rs : List Occurrence) → sum_by (cost_of final es) rs ≡ probes_by final es rs
+probes_is final es [] = refl
+probes_is final es (r ∷ rs) = omega (arith, sum_by-cons (cost_of final es) r rs, probes_is final es rs)
 
 -- a walk asks what the look-ups of its program ask
-pub asked_once : (p : Tree) → first_fault p ≡ None → asked_by_steps (written_declarations (steps p)) nothing_made (steps p) + asked_in_end (walk.after_all (written_declarations (steps p)) nothing_made (steps p)) ≡ asked p
-asked_once p h =
+pub probes_once : (p : Tree) → first_fault p ≡ None → probes_of_steps (written_declarations (steps p)) nothing_made (steps p) + probes_in_end (walk.after_all (written_declarations (steps p)) nothing_made (steps p)) ≡ probes p
+probes_once p h =
     let ds : List Declaration = written_declarations (steps p) in
     let es : List Event = events (steps p) in
     let final : State = run start es in
     let rs : List Occurrence = references (steps p) in
-    let paid : asked_by_steps ds nothing_made (steps p) + asked_in_end (walk.after_all ds nothing_made (steps p)) ≡ 0 + sum_by (cost_of final es) rs =
+    let paid : probes_of_steps ds nothing_made (steps p) + probes_in_end (walk.after_all ds nothing_made (steps p)) ≡ 0 + sum_by (cost_of final es) rs =
     steps_pay ds final es refl rs [] [] [] [] [] [] [] [] nothing_made start (steps p) refl refl refl refl (program_nested p) (all_grounded p h) (program_headed p h) (program_awaits p h) (inv_nothing ds final es refl rs) in
-    omega (arith, paid, asked_is final es rs)
+    omega (arith, paid, probes_is final es rs)

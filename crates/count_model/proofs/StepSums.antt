@@ -3,13 +3,13 @@ use Rattle.std.proofs.Common.{◌≡◌, ℕ, ◌+◌, ◌≤◌, List, [], ◌�
 use Rattle.semantic_syntax.specs.Counts.{raised}
 use Rattle.semantic_model.specs.Declaration.{Declaration}
 use Rattle.semantic_model.specs.Step.{Step}
-use Rattle.walk_model.specs.Standing.{Standing}
+use Rattle.walk_model.specs.WalkState.{WalkState}
 use Rattle.walk_model.specs.Walks.{after, after_all}
-use Rattle.count_model.specs.Asks.{asked_by_steps}
+use Rattle.count_model.specs.Probes.{probes_of_steps}
 
-pub asked-append : (ds : List Declaration) (w : Standing) (xs ys : List Step) → asked_by_steps ds w (xs ++ ys) ≡ asked_by_steps ds w xs + asked_by_steps ds (after_all ds w xs) ys
-asked-append ds w [] ys = omega arith
-asked-append ds w (x ∷ xs) ys = omega (arith, asked-append ds (after ds w x) xs ys)
+pub probes-append : (ds : List Declaration) (w : WalkState) (xs ys : List Step) → probes_of_steps ds w (xs ++ ys) ≡ probes_of_steps ds w xs + probes_of_steps ds (after_all ds w xs) ys
+probes-append ds w [] ys = omega arith
+probes-append ds w (x ∷ xs) ys = omega (arith, probes-append ds (after ds w x) xs ys)
 
 -- some steps and then more are taken at once
 pub raised_then : (count first more : ℕ) → raised (raised count first) more ≡ raised count (first + more)

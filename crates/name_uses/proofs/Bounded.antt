@@ -22,11 +22,11 @@ use Rattle.semantic_model.specs.NodeTable.{belonging, number_of}
 use Rattle.semantic_model.specs.Reference.{reference_at, references}
 use Rattle.semantic_model.specs.Step.{Step, entering, opening, header_ending, closing, leaving, steps}
 use Rattle.semantic_model.specs.TablesOf.{tables_of, is_symbol}
-use Rattle.semantic_model.proofs.Afterwards.{uses_are_ties}
-use Rattle.semantic_model.proofs.Changes.{HasName}
-use Rattle.semantic_model.proofs.Orders.{HasForm, sound_program}
-use Rattle.semantic_model.proofs.Shape.{has_form}
-use Rattle.semantic_model.proofs.Whole.{tables_fit}
+use Rattle.semantic_model.proofs.fits.Afterwards.{uses_are_ties}
+use Rattle.semantic_model.proofs.fold.Changes.{HasName}
+use Rattle.semantic_model.proofs.fold.Orders.{HasForm, sound_program}
+use Rattle.semantic_model.proofs.form.Shape.{has_form}
+use Rattle.semantic_model.proofs.fits.TablesFit.{tables_fit}
 use Rattle.program_names.specs.Analysis.{Analysis, analysis_of, symbol_at}
 use Rattle.name_uses.specs.Uses.{owner_of, owner_on, owners, is_counted, used_symbol, use_of, uses_by}
 use Rattle.name_uses.specs.Live.{is_sure, sure_from, free_use, owned_use, exports}

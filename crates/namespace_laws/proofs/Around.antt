@@ -9,7 +9,7 @@ use Rattle.semantic_model.specs.Entries.{Among}
 use Rattle.semantic_model.specs.Place.{Place}
 use Rattle.semantic_model.specs.Step.{entering, steps}
 use Rattle.semantic_model.specs.Namespace.{Item, is_list, statements, nodes_around}
-use Rattle.namespace_laws.specs.Reaches.{standing_at}
+use Rattle.namespace_laws.specs.Reaches.{statement_at}
 use Rattle.namespace_laws.specs.Statements.{lists_inside, items_from}
 use Rattle.namespace_laws.specs.Descents.{StandsBelow}
 use Rattle.namespace_laws.proofs.Closed.{closed}
@@ -43,7 +43,7 @@ stands-in program root lists (x ∷ above) node a s =
     let found = stands-in program child (lists_inside root lists) above node ((closed program first a).below child b) more in
     subst (λ (y : Node). Among (record { node = node; lists = lists_along (lists_inside y lists) above }) (items_from program)) (sym s.0) found
 
-pub place-in : (program : Tree) (p : Place) → Among (entering p) (steps program) → Among (standing_at p) (items_from program.root)
+pub place-in : (program : Tree) (p : Place) → Among (entering p) (steps program) → Among (statement_at p) (items_from program.root)
 place-in program p a =
     subst (λ (ls : List (List Node)). Among (record { node = p.node; lists = ls }) (items_from program.root)) (along-path p.path)
     (stands-in program.root program.root [] (reverse p.path) p.node (inl refl) (entered-placed program p a))

@@ -6,7 +6,7 @@ use Rattle.semantic_model.specs.Entries.{Among}
 use Rattle.semantic_model.specs.Place.{Place}
 use Rattle.semantic_model.specs.Step.{entering, steps}
 use Rattle.semantic_model.specs.Namespace.{InstanceState, non_instantiated, const_enum_only, instantiated, greater, greatest, Item, reach, reached_within, instance_state, nodes_around}
-use Rattle.namespace_laws.specs.Reaches.{Reaches, IsGreatestReached, CountsAs, standing_at}
+use Rattle.namespace_laws.specs.Reaches.{Reaches, IsGreatestReached, CountsAs, statement_at}
 use Rattle.namespace_laws.specs.Statements.{items_from}
 use Rattle.namespace_laws.proofs.Lists.{among-flat, among-flattened}
 use Rattle.namespace_laws.proofs.Standing.{below_count, apart}
@@ -70,11 +70,11 @@ greatest-of-reached i found sound complete = record {
 }
 
 -- the search of a place's state finds the greatest that is reached
-pub searched : (program : Tree) (p : Place) → IsNumbered program.root → Among (entering p) (steps program) → IsGreatestReached (standing_at p) (instance_state p.node p.path (nodes_around p.node p.path))
+pub searched : (program : Tree) (p : Place) → IsNumbered program.root → Among (entering p) (steps program) → IsGreatestReached (statement_at p) (instance_state p.node p.path (nodes_around p.node p.path))
 searched program p h a =
     let all : List Item = items_from program.root in
     let bound : ℕ = node_count program.root in
-    let start : Item = standing_at p in
+    let start : Item = statement_at p in
     let found = all-reached all bound start (λ i b. below_count program.root i h b) (λ i j b c e. apart program.root i j h b c e) (λ i j b l. leads-within all (λ k c. closed program.root k c) i j b l) (place-in program p a) in
     subst (λ n. IsGreatestReached start (instance_state p.node p.path n)) (sym (around-place program p a))
     (greatest-of-reached start (reached_within bound [] (start ∷ [])) found.sound found.complete)

@@ -23,5 +23,5 @@ pub record IsGreatestReached (i : Item) (s : InstanceState) : Type 0 where
   pub reached : (s ≡ non_instantiated) ⊎ ((j : Item) × (Reaches i j × CountsAs j s))
 
 -- a node as a statement, in the statement lists around it
-abbrev pub standing_at : Place → Item
-standing_at p = record { node = p.node; lists = map statements (filter is_list p.path) }
+abbrev pub statement_at : Place → Item
+statement_at p = record { node = p.node; lists = map statements (filter is_list p.path) }

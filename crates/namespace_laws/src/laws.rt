@@ -6,12 +6,12 @@ ghost use Rattle.semantic_model.specs.Entries.{Among};
 ghost use Rattle.semantic_model.specs.Place.{Place};
 ghost use Rattle.semantic_model.specs.Step.{entering, steps};
 ghost use Rattle.semantic_model.specs.Namespace.{InstanceState, Item, instance_state, nodes_around};
-ghost use Rattle.namespace_laws.specs.Reaches.{IsGreatestReached, standing_at};
+ghost use Rattle.namespace_laws.specs.Reaches.{IsGreatestReached, statement_at};
 
 /// The search by rounds, bounded by the nodes of the program, finds the greatest state that is reached in any number
 /// of steps.
 pub fn searched_states_are_greatest()
-    ensures { (program : Tree) (p : Place) → IsNumbered program.root → Among (entering p) (steps program) → IsGreatestReached (standing_at p) (instance_state p.node p.path (nodes_around p.node p.path)) }
+    ensures { (program : Tree) (p : Place) → IsNumbered program.root → Among (entering p) (steps program) → IsGreatestReached (statement_at p) (instance_state p.node p.path (nodes_around p.node p.path)) }
 {}
 
 /// Only one state is the greatest that is reached.

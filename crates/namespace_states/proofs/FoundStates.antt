@@ -13,7 +13,7 @@ use Rattle.semantic_tree.specs.Tree.{Tree, IsNumbered}
 use Rattle.semantic_tree.specs.declared.node.Node.{Node}
 use Rattle.semantic_model.specs.Entries.{Among}
 use Rattle.semantic_model.specs.Namespace.{InstanceState, non_instantiated, const_enum_only, instantiated, Item, greater, instance_state, nodes_around}
-use Rattle.namespace_laws.specs.Reaches.{Reaches, itself, onward, LeadsTo, CountsAs, IsGreatestReached, standing_at}
+use Rattle.namespace_laws.specs.Reaches.{Reaches, itself, onward, LeadsTo, CountsAs, IsGreatestReached, statement_at}
 use Rattle.namespace_laws.specs.Statements.{items_from}
 use Rattle.namespace_laws.proofs.Standing.{apart, below_count}
 use Rattle.namespace_laws.proofs.Closed.{closed, leads-within}
@@ -152,11 +152,11 @@ made_within n rows pairs e h k = subst (λ m. AreWithin m (lists rows)) (sym (ma
 
 -- the nodes of a program are entered at its places
 pub states_placed : {E : Type 0} (r : Result (List InstanceState) E) (program : Tree) → IfOk r (λ made. (i : Item) → Among i (items_from program.root) → IsGreatestReached i (state_in made i.node.node_id)) → IfOk r (λ made. AreStatesOf program made)
-states_placed (Ok made) program h = λ p a. h (standing_at p) (place-in program p a)
+states_placed (Ok made) program h = λ p a. h (statement_at p) (place-in program p a)
 states_placed (Err e) program h = tt
 
 pub states_searched : {E : Type 0} (r : Result (List InstanceState) E) (program : Tree) → IsNumbered program.root → IfOk r (λ made. AreStatesOf program made) → IfOk r (λ made. AreSearched program made)
-states_searched (Ok made) program n h = λ p a. only-one (standing_at p) (state_in made p.node.node_id) (instance_state p.node p.path (nodes_around p.node p.path)) (h p a) (searched program p n a)
+states_searched (Ok made) program n h = λ p a. only-one (statement_at p) (state_in made p.node.node_id) (instance_state p.node p.path (nodes_around p.node p.path)) (h p a) (searched program p n a)
 states_searched (Err e) program n h = tt
 
 -- the state at a place

@@ -14,8 +14,8 @@ use Rattle.semantic_tree.specs.Views.{is}
 use Rattle.semantic_model.specs.Place.{Place}
 use Rattle.semantic_model.specs.Step.{entering, steps}
 use Rattle.semantic_model.specs.Namespace.{Item}
-use Rattle.semantic_model.proofs.Follows.{kind_flips}
-use Rattle.namespace_laws.specs.Reaches.{standing_at}
+use Rattle.semantic_model.proofs.alone.BodyFollows.{kind_flips}
+use Rattle.namespace_laws.specs.Reaches.{statement_at}
 use Rattle.namespace_laws.specs.Statements.{lists_inside, items_below, items_from}
 use Rattle.namespace_laws.proofs.Lists.{among-append}
 use Rattle.namespace_laws.proofs.Around.{place-in}
@@ -50,7 +50,7 @@ none-from root none i a = elim a [
 
 -- no place of it is one
 pub no-namespace : (program : Tree) → kind_count kind.TSNamespaceDeclaration (single role.Root program.root) ≡ 0 → (p : Place) → Among (entering p) (steps program) → is kind.TSNamespaceDeclaration p.node ≡ true → ⊥
-no-namespace program h p a t = clash (is kind.TSNamespaceDeclaration p.node) t (none-from program.root h (standing_at p) (place-in program p a))
+no-namespace program h p a t = clash (is kind.TSNamespaceDeclaration p.node) t (none-from program.root h (statement_at p) (place-in program p a))
   where
     clash : (b : Bool) → b ≡ true → b ≡ false → ⊥
     clash true p q = cc

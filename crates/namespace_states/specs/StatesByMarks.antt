@@ -5,7 +5,7 @@ use Rattle.semantic_model.specs.Entries.{Among}
 use Rattle.semantic_model.specs.Place.{Place}
 use Rattle.semantic_model.specs.Step.{entering, steps}
 use Rattle.semantic_model.specs.Namespace.{InstanceState, non_instantiated, instantiated, const_enum_only, instance_state, nodes_around}
-use Rattle.namespace_laws.specs.Reaches.{IsGreatestReached, standing_at}
+use Rattle.namespace_laws.specs.Reaches.{IsGreatestReached, statement_at}
 
 -- the state of what reaches a value, or a `const` enum
 abbrev pub state_by : Bool → Bool → InstanceState
@@ -22,7 +22,7 @@ state_in states n = slice_index_or states n non_instantiated
 
 -- each node that is entered has the greatest state that it reaches as a statement
 abbrev pub AreStatesOf : Tree → List InstanceState → Type 0
-AreStatesOf program states = (p : Place) → Among (entering p) (steps program) → IsGreatestReached (standing_at p) (state_in states p.node.node_id)
+AreStatesOf program states = (p : Place) → Among (entering p) (steps program) → IsGreatestReached (statement_at p) (state_in states p.node.node_id)
 
 -- the search of the definition finds them, too
 abbrev pub AreSearched : Tree → List InstanceState → Type 0

@@ -5,7 +5,7 @@ ghost use Rattle.semantic_model.specs.Entries.{Among};
 ghost use Rattle.semantic_model.specs.Place.{Place};
 ghost use Rattle.semantic_model.specs.Step.{entering, steps};
 ghost use Rattle.semantic_model.specs.Namespace.{instance_state, nodes_around};
-ghost use Rattle.namespace_laws.specs.Reaches.{IsGreatestReached, standing_at};
+ghost use Rattle.namespace_laws.specs.Reaches.{IsGreatestReached, statement_at};
 ghost use Rattle.namespace_states.specs.InstanceStates.{state_of};
 
 use crate::states::NamespaceStates;
@@ -33,7 +33,7 @@ pub fn module_instance_state(
     n: NodeId,
 ) -> Result<ModuleInstanceState, AllocError>
     ensures reached { (place : Place) → Among (entering place) (steps p.now) → place.node.node_id ≡ n →
-        IfOk result (λ s. IsGreatestReached (standing_at place) (state_of s)) }
+        IfOk result (λ s. IsGreatestReached (statement_at place) (state_of s)) }
     ensures searched { (place : Place) → Among (entering place) (steps p.now) → place.node.node_id ≡ n →
         IfOk result (λ s. state_of s ≡ instance_state place.node place.path (nodes_around place.node place.path)) }
 {

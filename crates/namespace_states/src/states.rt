@@ -9,7 +9,7 @@ ghost use Rattle.semantic_tree.specs.Views.{is};
 ghost use Rattle.semantic_model.specs.Place.{Place};
 ghost use Rattle.semantic_model.specs.Step.{entering, steps};
 ghost use Rattle.semantic_model.specs.Namespace.{Item, instance_state, nodes_around};
-ghost use Rattle.namespace_laws.specs.Reaches.{IsGreatestReached, standing_at};
+ghost use Rattle.namespace_laws.specs.Reaches.{IsGreatestReached, statement_at};
 ghost use Rattle.namespace_laws.specs.Statements.{items_from};
 ghost use Rattle.namespace_leads.specs.Led.{nothing_led, led_from};
 ghost use Rattle.namespace_states.specs.InstanceStates.{state_of};
@@ -105,7 +105,7 @@ impl NamespaceStates {
 
     /// The states of the namespaces of a program. Takes no memory where there are none.
     pub fn of_namespaces(alloc: Global, program: &Program) -> Result<NamespaceStates, AllocError>
-        ensures reached { IfOk result (λ made. (p : Place) → Among (entering p) (steps program.now) → is namespace_declaration p.node ≡ true → IsGreatestReached (standing_at p) (state_in made p.node.node_id)) }
+        ensures reached { IfOk result (λ made. (p : Place) → Among (entering p) (steps program.now) → is namespace_declaration p.node ≡ true → IsGreatestReached (statement_at p) (state_in made p.node.node_id)) }
         ensures searched { IfOk result (λ made. (p : Place) → Among (entering p) (steps program.now) → is namespace_declaration p.node ≡ true → state_in made p.node.node_id ≡ instance_state p.node p.path (nodes_around p.node p.path)) }
     {
         if 0 < program.count_of(AstType::TSNamespaceDeclaration) {

@@ -14,7 +14,7 @@ use Rattle.semantic_tree.specs.Views.{is, has_role, children_of}
 use Rattle.semantic_model.specs.Place.{Place, OpenScope}
 use Rattle.semantic_model.specs.ScopeKind.{opened_scope}
 use Rattle.semantic_model.specs.Step.{Step, entering, opening, header_ending, closing, leaving, steps_below, steps, opening_at, ending_after, opening_last, scope_at, next_at, child_place, cursor_past, root_place}
-use Rattle.semantic_model.proofs.Compose.{flat-append}
+use Rattle.semantic_model.proofs.steps.Compose.{flat-append}
 use Rattle.program_names.specs.Exported.{is_default_declaration, exported_names, default_exported_names}
 use Rattle.node_symbols.specs.declared.exports.Export.{Export}
 use Rattle.node_symbols.specs.declared.exports.Export.TheVariants as export

@@ -24,7 +24,7 @@ use Rattle.program_laws.proofs.Children.{children_same, child_holds}
 use Rattle.program_laws.proofs.NameMarks.{bound_same, names_same, simple_same}
 use Rattle.program_laws.proofs.NamespaceMarks.{state_same}
 use Rattle.program_laws.proofs.ScopeMarks.{remarked_place}
-use Rattle.semantic_model.proofs.Alike.{map_append}
+use Rattle.semantic_model.proofs.swapped.Alike.{map_append}
 use Rattle.program_laws.specs.Remarked.{remarked_node}
 
 module _ (f : Node → Marks) where

@@ -19,8 +19,8 @@ use Rattle.semantic_model.specs.Namespace.{InstanceState, non_instantiated, cons
 use Rattle.semantic_tree.specs.Views.{is, has, is_role_of, children_of}
 use Rattle.semantic_model.specs.Place.{Place, OpenScope, innermost, outside}
 use Rattle.semantic_model.specs.Step.{Step, entering, opening, header_ending, closing, leaving, steps}
-use Rattle.semantic_model.proofs.Clauses.{kind_is}
-use Rattle.semantic_model.proofs.Members.{among_left, among_right, among_cases}
+use Rattle.semantic_model.proofs.form.Clauses.{kind_is}
+use Rattle.semantic_model.proofs.lists.Members.{among_left, among_right, among_cases}
 use Rattle.program_laws.proofs.TreeNodes.{nodes_below, nodes_from, child_in}
 use Rattle.program_laws.proofs.Walked.{node_at, steps_within}
 

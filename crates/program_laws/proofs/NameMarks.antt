@@ -13,7 +13,7 @@ use Rattle.semantic_tree.specs.BoundNames.{is_plain_parameter, is_simple_paramet
 use Rattle.semantic_tree.specs.Views.{is, is_role_of, children_of}
 use Rattle.program_laws.specs.Remarked.{remarked_node, remarked}
 use Rattle.program_laws.proofs.Children.{children_same, child_holds, there_same}
-use Rattle.semantic_model.proofs.Alike.{map_append}
+use Rattle.semantic_model.proofs.swapped.Alike.{map_append}
 
 module _ (f : Node → Marks) where
   below_same : (parent : AstType) (g : Forest) → bound_below parent (remarked f g) ≡ map (remarked_node f) (bound_below parent g)

@@ -16,7 +16,7 @@ use Rattle.semantic_tree.specs.Views.{is, has_text, children_of, child_of}
 use Rattle.program_laws.specs.ReadMarks.{KeepsRead}
 use Rattle.program_laws.proofs.Children.{children_same, child_same, any_same, count_same}
 use Rattle.program_laws.proofs.NameMarks.{bound_same}
-use Rattle.semantic_model.proofs.Alike.{map_append}
+use Rattle.semantic_model.proofs.swapped.Alike.{map_append}
 use Rattle.program_laws.specs.Remarked.{remarked_node}
 
 module _ (f : Node → Marks) where

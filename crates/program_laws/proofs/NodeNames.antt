@@ -15,10 +15,10 @@ use Rattle.semantic_model.specs.Place as model
 use Rattle.semantic_model.specs.Reference.{Occurrence, reference_at, entered_reference, references}
 use Rattle.semantic_model.specs.Step.{Step, entering, opening, header_ending, closing, leaving, steps}
 use Rattle.semantic_model.specs.TablesOf.{tables_of, entry_of}
-use Rattle.semantic_model.proofs.Clauses.{kind_is}
-use Rattle.semantic_model.proofs.Invented.{made_declared}
-use Rattle.semantic_model.proofs.Orders.{HasForm}
-use Rattle.semantic_model.proofs.Settled.{tie_reference}
+use Rattle.semantic_model.proofs.form.Clauses.{kind_is}
+use Rattle.semantic_model.proofs.fits.NothingInvented.{made_declared}
+use Rattle.semantic_model.proofs.fold.Orders.{HasForm}
+use Rattle.semantic_model.proofs.once.SettledOnce.{tie_reference}
 use Rattle.program_laws.specs.SymbolNames.{IsNamed, NodesHaveNames, TiedNodesHaveNames}
 use Rattle.program_laws.proofs.DeclaredNodes.{among_map, IsOf, of_name, of_member, declaration_of}
 use Rattle.program_laws.proofs.TiedNames.{all_ties, tie_named, declarations_have_names}

@@ -16,7 +16,7 @@ use Rattle.program_laws.specs.Remarked.{remarked_node, remarked, remarked_tree}
 use Rattle.program_laws.proofs.Children.{roles_same, insides_same, scopes_same}
 use Rattle.program_laws.proofs.CursorMarks.{round_ambient, coming_same, after_same}
 use Rattle.program_laws.proofs.ScopeMarks.{remarked_place, opened_same}
-use Rattle.semantic_model.proofs.Alike.{map_append}
+use Rattle.semantic_model.proofs.swapped.Alike.{map_append}
 
 module _ (f : Node → Marks) where
   abbrev pub remarked_step : Step → Step

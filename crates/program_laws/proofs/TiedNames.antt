@@ -11,14 +11,14 @@ use Rattle.semantic_model.specs.Reference.{Occurrence, references}
 use Rattle.semantic_model.specs.Step.{steps}
 use Rattle.semantic_model.specs.TablesOf.{tables_of}
 use Rattle.semantic_model.specs.Tie.{Tie, ties, answers, symbol_of, symbol_by}
-use Rattle.semantic_model.proofs.Changes.{HasName}
-use Rattle.semantic_model.proofs.Lists.{IsBelow}
-use Rattle.semantic_model.proofs.Members.{among_at}
-use Rattle.semantic_model.proofs.Named.{tied_name}
-use Rattle.semantic_model.proofs.Orders.{HasForm, table_of, orderly_events, sound_program}
-use Rattle.semantic_model.proofs.StandOnce.{ties_below}
-use Rattle.semantic_model.proofs.Standing.{entry_is}
-use Rattle.semantic_model.proofs.Under.{tie_for, nth_tie}
+use Rattle.semantic_model.proofs.fold.Changes.{HasName}
+use Rattle.semantic_model.proofs.once.UseLists.{IsBelow}
+use Rattle.semantic_model.proofs.lists.Members.{among_at}
+use Rattle.semantic_model.proofs.once.TiedByName.{tied_name}
+use Rattle.semantic_model.proofs.fold.Orders.{HasForm, table_of, orderly_events, sound_program}
+use Rattle.semantic_model.proofs.once.StandOnce.{ties_below}
+use Rattle.semantic_model.proofs.once.ReferencesStand.{entry_is}
+use Rattle.semantic_model.proofs.once.ListedUnder.{tie_for, nth_tie}
 use Rattle.program_laws.specs.SymbolNames.{IsNamed, TiesHaveNames, DeclarationsHaveNames}
 
 -- below the length there is an entry

@@ -12,7 +12,7 @@ use Rattle.semantic_tree.specs.declared.node.Node.{Node}
 use Rattle.semantic_tree.specs.declared.place.Place.{Place}
 use Rattle.semantic_model.specs.Entries.{Among}
 use Rattle.semantic_tree.specs.Views.{children_of}
-use Rattle.semantic_model.proofs.Members.{among_left, among_right, among_cases}
+use Rattle.semantic_model.proofs.lists.Members.{among_left, among_right, among_cases}
 
 abbrev pub nodes_below : Forest → List Node
 nodes_below nothing = []

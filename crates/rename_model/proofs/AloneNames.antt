@@ -33,13 +33,13 @@ use Rattle.semantic_tree.specs.Views.{is, children_of}
 use Rattle.semantic_model.specs.Place.{parent_holds}
 use Rattle.semantic_model.specs.Step.{entering, steps}
 use Rattle.semantic_model.specs.TablesOf.{tables_of}
-use Rattle.semantic_model.proofs.Changes.{HasName}
-use Rattle.semantic_model.proofs.Clauses.{kind_is, first_holds, second_holds}
-use Rattle.semantic_model.proofs.Invented.{made_declared, belongs_made}
-use Rattle.semantic_model.proofs.Members.{among_left, among_right}
-use Rattle.semantic_model.proofs.Orders.{HasForm, sound_program}
-use Rattle.semantic_model.proofs.Shape.{has_form}
-use Rattle.semantic_model.proofs.Under.{name_tells}
+use Rattle.semantic_model.proofs.fold.Changes.{HasName}
+use Rattle.semantic_model.proofs.form.Clauses.{kind_is, first_holds, second_holds}
+use Rattle.semantic_model.proofs.fits.NothingInvented.{made_declared, belongs_made}
+use Rattle.semantic_model.proofs.lists.Members.{among_left, among_right}
+use Rattle.semantic_model.proofs.fold.Orders.{HasForm, sound_program}
+use Rattle.semantic_model.proofs.form.Shape.{has_form}
+use Rattle.semantic_model.proofs.once.ListedUnder.{name_tells}
 use Rattle.program_laws.specs.SymbolNames.{IsNamed}
 use Rattle.rename_model.specs.WithName.{is_identifier, AreIdentifiers}
 use Rattle.program_laws.proofs.DeclaredNodes.{IsOf, of_name, of_member, declaration_of}

@@ -8,8 +8,8 @@ use Rattle.semantic_tree.specs.Tree.{Tree, IsNumbered}
 use Rattle.semantic_model.specs.Step.{steps}
 use Rattle.semantic_model.specs.Swap.{IsSwappable}
 use Rattle.semantic_model.specs.TablesOf.{tables_of}
-use Rattle.semantic_model.proofs.Shape.{has_form}
-use Rattle.semantic_model.proofs.Under.{name_tells}
+use Rattle.semantic_model.proofs.form.Shape.{has_form}
+use Rattle.semantic_model.proofs.once.ListedUnder.{name_tells}
 use Rattle.rename_model.proofs.NameShape.{no_fault_made, numbers_kept}
 use Rattle.program_names.specs.Analysis.{analysis_of}
 use Rattle.program_names.specs.Exported.{exported_names}

@@ -11,7 +11,7 @@ use Rattle.semantic_model.specs.Entries.{Among}
 use Rattle.semantic_model.specs.Inside.{opens, scopes_in}
 use Rattle.semantic_model.specs.Place.{Place, OpenScope}
 use Rattle.semantic_model.specs.Step.{Step, entering, leaving, steps_below, steps, opening_at, ending_after, scope_at, next_at, child_place, cursor_past, root_place}
-use Rattle.semantic_model.proofs.Members.{among_left, among_right, among_cases}
+use Rattle.semantic_model.proofs.lists.Members.{among_left, among_right, among_cases}
 use Rattle.program_laws.proofs.TreeNodes.{nodes_below, nodes_from}
 
 -- a step that enters the node

@@ -39,12 +39,12 @@ use Rattle.semantic_tree.specs.declared.place.Place.{Place}
 use Rattle.semantic_tree.proofs.ShapedLaws.{no_fault-IsShaped, IsShaped-no_fault}
 use Rattle.semantic_model.specs.Entries.{Among}
 use Rattle.semantic_tree.specs.Views.{children_of}
-use Rattle.semantic_model.proofs.Clauses.{kind_is}
-use Rattle.semantic_model.proofs.Members.{among_left, among_right}
+use Rattle.semantic_model.proofs.form.Clauses.{kind_is}
+use Rattle.semantic_model.proofs.lists.Members.{among_left, among_right}
 use Rattle.program_laws.specs.ReadMarks.{without_mark, without_where}
 use Rattle.rename_model.specs.WithName.{is_named_value, sheds, with_name, with_name_in, is_identifier, AreIdentifiers}
 use Rattle.program_laws.proofs.TreeNodes.{below_same}
-use Rattle.semantic_model.proofs.Alike.{map_append}
+use Rattle.semantic_model.proofs.swapped.Alike.{map_append}
 
 -- ---- identifiers
 

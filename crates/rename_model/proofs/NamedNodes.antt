@@ -16,9 +16,9 @@ use Rattle.semantic_model.specs.NodeTable.{Belongs, number_of, numbered_from}
 use Rattle.semantic_model.specs.Reference.{Occurrence, references}
 use Rattle.semantic_model.specs.Step.{steps}
 use Rattle.semantic_model.specs.TablesOf.{is_symbol, tables_of}
-use Rattle.semantic_model.proofs.Fitting.{stands}
-use Rattle.semantic_model.proofs.Members.{among_at}
-use Rattle.walk_model.proofs.SymbolsOnce.{symbols_times}
+use Rattle.semantic_model.proofs.fits.FitParts.{stands}
+use Rattle.semantic_model.proofs.lists.Members.{among_at}
+use Rattle.walk_model.proofs.once.SymbolsOnce.{symbols_times}
 use Rattle.program_names.specs.Analysis.{Analysis, symbol_at, tied_at, analysis_of}
 use Rattle.rename_model.specs.Renamed.{bears_name}
 

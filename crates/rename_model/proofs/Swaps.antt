@@ -17,9 +17,9 @@ use Rattle.semantic_model.specs.NodeTable.{NodeTables, node_tables}
 use Rattle.semantic_model.specs.Step.{steps}
 use Rattle.semantic_model.specs.Swap.{IsSwappable, swapped_tables}
 use Rattle.semantic_model.specs.TablesOf.{tables_of}
-use Rattle.semantic_model.proofs.AlikeNodes.{node_tables_renamed}
-use Rattle.semantic_model.proofs.AlikeProgram.{Keeps, swap_keeps}
-use Rattle.semantic_model.proofs.AlikeTies.{tables_renamed}
+use Rattle.semantic_model.proofs.swapped.AlikeNodes.{node_tables_renamed}
+use Rattle.semantic_model.proofs.swapped.AlikeProgram.{Keeps, swap_keeps}
+use Rattle.semantic_model.proofs.swapped.AlikeTies.{tables_renamed}
 use Rattle.program_laws.specs.ReadMarks.{without_where, unmarked_tree}
 use Rattle.program_laws.specs.Remarked.{remarked}
 use Rattle.program_laws.specs.SameAnalysis.{HaveSameAnalysis}

@@ -23,7 +23,7 @@ use Rattle.semantic_tree.specs.Tree.{Tree}
 use Rattle.semantic_tree.specs.declared.node.Node.{Node}
 use Rattle.semantic_tree.specs.declared.place.Place.{Place}
 use Rattle.semantic_tree.proofs.Fits.{drop_here}
-use Rattle.semantic_model.proofs.Clauses.{kind_is}
+use Rattle.semantic_model.proofs.form.Clauses.{kind_is}
 use Rattle.program_laws.specs.ReadMarks.{without_mark}
 use Rattle.rename_passes.specs.Renaming.{IsKnown, AreKnown, is_kept, with_kept}
 

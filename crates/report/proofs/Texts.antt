@@ -35,13 +35,13 @@ parts_same options x y listed noted counted =
     ∙ ap (λ text. listed_text options y ++ (noted_text options y ++ text)) counted
 
 module _ (options : Options) (nodes : NodeList) (tables : Tables) (lists : ClassLists) (labels : List ℕ) (count : ℕ) (diagnostics : List Diagnostic) (p : Tree) where
-  abbrev pub standing : Found
-  standing = record { nodes = nodes; tables = tables; classes = lists; labels = labels; count = count; diagnostics = diagnostics }
+  abbrev pub found_here : Found
+  found_here = record { nodes = nodes; tables = tables; classes = lists; labels = labels; count = count; diagnostics = diagnostics }
 
   pub text_same : (make : Option ℕ) (checks : Bool) → nodes ≡ kept_nodes options.nodes p → lists ≡ classes_noted (options.classes || checks) p → labels ≡ unused_labels p.root → count ≡ node_count p.root
-      → text_by make options standing ≡ text_by make options (found_of p tables diagnostics)
+      → text_by make options found_here ≡ text_by make options (found_of p tables diagnostics)
   text_same None checks n c l k =
-      parts_same options standing (found_of p tables diagnostics)
+      parts_same options found_here (found_of p tables diagnostics)
       (ap (λ text. text ++ table_lines tables) (nodes_same options.nodes nodes p n))
       (ap (λ text. text ++ flat_map label_line labels) (classes_same options.classes checks lists p c)
       ∙ ap (λ ls. where_asked options.classes (all_class_lines (lists_told (classes p.root))) ++ flat_map label_line ls) l)

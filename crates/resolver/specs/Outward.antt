@@ -26,9 +26,9 @@ answer ties ends [] = None
 answer ties ends (s ∷ ss) = option_map_or (λ y. Some (Tied y)) (ties s) (if ends s then Some Free else answer ties ends ss)
 
 -- how many scopes are asked until then
-unfoldable pub asked : (ℕ → Option ℕ) → (ℕ → Bool) → List ℕ → ℕ
-asked ties ends [] = 0
-asked ties ends (s ∷ ss) = option_map_or (λ y. 1) (ties s) (if ends s then 1 else 1 + asked ties ends ss)
+unfoldable pub probes : (ℕ → Option ℕ) → (ℕ → Bool) → List ℕ → ℕ
+probes ties ends [] = 0
+probes ties ends (s ∷ ss) = option_map_or (λ y. 1) (ties s) (if ends s then 1 else 1 + probes ties ends ss)
 
 -- whether the scope is the last one
 abbrev pub ends_at : Option ℕ → ℕ → Bool

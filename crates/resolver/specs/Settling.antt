@@ -7,7 +7,7 @@ use Rattle.semantic_syntax.specs.Source.{Source, chain}
 use Rattle.resolver.specs.declared.outcomes.Outcome.{Outcome}
 use Rattle.resolver.specs.declared.outcomes.Outcome.TheVariants.{Tied, Free, Pending}
 use Rattle.resolver.specs.declared.pending.UnresolvedReference.{UnresolvedReference}
-use Rattle.resolver.specs.Outward.{tie, ends_after, answer, asked, up_to_last}
+use Rattle.resolver.specs.Outward.{tie, ends_after, answer, probes, up_to_last}
 
 -- what the scopes give from the reference's look-up scope to the last one, or to one without a parent
 abbrev pub answer_of : Source → Option ℕ → UnresolvedReference → Option Outcome
@@ -17,11 +17,11 @@ answer_of source last u =
     answer (tie source x w) (ends_after source x w) (up_to_last last (chain source u.lookup_scope_id))
 
 -- how many of these scopes are asked
-abbrev pub asked_of : Source → Option ℕ → UnresolvedReference → ℕ
-asked_of source last u =
+abbrev pub probes_of : Source → Option ℕ → UnresolvedReference → ℕ
+probes_of source last u =
     let x = chars u.name.text.now in
     let w = source.way u.reference_id in
-    asked (tie source x w) (ends_after source x w) (up_to_last last (chain source u.lookup_scope_id))
+    probes (tie source x w) (ends_after source x w) (up_to_last last (chain source u.lookup_scope_id))
 
 abbrev pub answered_or : Outcome → Option Outcome → Outcome
 answered_or other None = other
@@ -41,16 +41,16 @@ header_outcome source scope u =
     if waits_within source scope u then answered_or (outside source scope) (answer_of source (Some scope) u) else Pending u.lookup_scope_id
 
 -- how many scopes that asks
-abbrev pub header_asks : Source → ℕ → UnresolvedReference → ℕ
-header_asks source scope u = if waits_within source scope u then asked_of source (Some scope) u else 0
+abbrev pub header_probes : Source → ℕ → UnresolvedReference → ℕ
+header_probes source scope u = if waits_within source scope u then probes_of source (Some scope) u else 0
 
 -- in the end: what isn't tied is free
 abbrev pub last_outcome : Source → UnresolvedReference → Outcome
 last_outcome source u = answered_or Free (answer_of source None u)
 
 -- how many scopes that asks
-abbrev pub last_asks : Source → UnresolvedReference → ℕ
-last_asks source u = asked_of source None u
+abbrev pub last_probes : Source → UnresolvedReference → ℕ
+last_probes source u = probes_of source None u
 
 -- whether the outcome lets nothing wait on
 abbrev pub is_settled : Outcome → Bool

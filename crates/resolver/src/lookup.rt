@@ -7,7 +7,7 @@ ghost use Rattle.semantic_syntax.specs.Counts.{raised};
 ghost use Rattle.semantic_syntax.specs.Source.{Source, IsSource, TellsName, chain};
 ghost use Rattle.semantic_syntax.specs.Lookup.{is_arguments, fits};
 ghost use Rattle.resolver.specs.Outward.{tie, ends_at, ends_after};
-ghost use Rattle.resolver.specs.Settling.{answer_of, asked_of};
+ghost use Rattle.resolver.specs.Settling.{answer_of, probes_of};
 
 use crate::outcomes::Outcome;
 use crate::pending::UnresolvedReference;
@@ -96,7 +96,7 @@ pub fn look_up<L, B: BindingSource<L>>(
     requires scope { pending.now.lookup_scope_id < (B.meaning source.now).scopes }
     requires reference { pending.now.reference_id < (B.meaning source.now).references }
     ensures answer { result ≡ answer_of (B.meaning source.now) last pending.now }
-    ensures cost { steps.new ≡ raised steps.old (asked_of (B.meaning source.now) last pending.now) }
+    ensures cost { steps.new ≡ raised steps.old (probes_of (B.meaning source.now) last pending.now) }
 {
     let way = source.way(pending.reference_id);
     let bound = source.bound_name(pending.name);

@@ -82,10 +82,10 @@ impl<'a> UnresolvedReferences<'a> {
     }
 
     /// The reference at a position, if there is one.
-    pub fn get(&self, place: usize) -> Option<UnresolvedReference<'a>>
-        ensures { result ≡ slice_get self.now place }
+    pub fn get(&self, position: usize) -> Option<UnresolvedReference<'a>>
+        ensures { result ≡ slice_get self.now position }
     {
-        let entry = self.entries.get(place)?;
+        let entry = self.entries.get(position)?;
         Some(UnresolvedReference {
             name: entry.name,
             reference_id: entry.reference_id,
@@ -112,11 +112,11 @@ impl<'a> UnresolvedReferences<'a> {
         ensures { self.new ≡ take start self.old ++ staying (drop start self.old) outcomes.now }
     {
         let mut kept = start;
-        let mut place = start;
+        let mut position = start;
         for outcome in outcomes.as_slice() {
             match *outcome {
                 Outcome::Pending(scope) => {
-                    let entry = &self.entries[place];
+                    let entry = &self.entries[position];
                     self.entries[kept] = UnresolvedReference {
                         name: entry.name,
                         reference_id: entry.reference_id,
@@ -127,7 +127,7 @@ impl<'a> UnresolvedReferences<'a> {
                 Outcome::Tied(_) => {}
                 Outcome::Free => {}
             }
-            place += 1;
+            position += 1;
         }
         self.entries.truncate(kept);
     }

@@ -3,7 +3,7 @@ ghost use Rattle.std.specs.Prelude.{◌≡◌, ◌<◌, ◌≤◌, map, drop, If
 ghost use Rattle.std.specs.List.{sum_by};
 ghost use Rattle.semantic_syntax.specs.Counts.{raised};
 ghost use Rattle.semantic_syntax.specs.Source.{Source};
-ghost use Rattle.resolver.specs.Settling.{outside as pending_outside, header_outcome, header_asks, last_outcome, last_asks, is_settled};
+ghost use Rattle.resolver.specs.Settling.{outside as pending_outside, header_outcome, header_probes, last_outcome, last_probes, is_settled};
 
 use crate::lookup::{is_within, look_up};
 use crate::outcomes::{Outcome, Outcomes};
@@ -35,7 +35,7 @@ fn resolve_in_header<L, B: BindingSource<L>>(
     requires lookup_scope { entry.now.lookup_scope_id < (B.meaning source.now).scopes }
     requires reference { entry.now.reference_id < (B.meaning source.now).references }
     ensures outcome { result ≡ header_outcome (B.meaning source.now) scope entry.now }
-    ensures cost { steps.new ≡ raised steps.old (header_asks (B.meaning source.now) scope entry.now) }
+    ensures cost { steps.new ≡ raised steps.old (header_probes (B.meaning source.now) scope entry.now) }
 {
     if !is_within(entry.lookup_scope_id, scope, source) {
         return Outcome::Pending(entry.lookup_scope_id);
@@ -55,7 +55,7 @@ fn resolve_last<L, B: BindingSource<L>>(
     requires lookup_scope { entry.now.lookup_scope_id < (B.meaning source.now).scopes }
     requires reference { entry.now.reference_id < (B.meaning source.now).references }
     ensures outcome { result ≡ last_outcome (B.meaning source.now) entry.now }
-    ensures cost { steps.new ≡ raised steps.old (last_asks (B.meaning source.now) entry.now) }
+    ensures cost { steps.new ≡ raised steps.old (last_probes (B.meaning source.now) entry.now) }
 {
     match look_up(entry, None, source, steps) {
         Some(outcome) => outcome,
@@ -80,9 +80,9 @@ pub fn resolve_header<L, B: BindingSource<L>>(
     requires lookup_scopes { All (λ u. u.lookup_scope_id < (B.meaning source.now).scopes) (drop start pending.now) }
     requires references { All (λ u. u.reference_id < (B.meaning source.now).references) (drop start pending.now) }
     ensures outcomes { IfOk result (λ v. v ≡ map (header_outcome (B.meaning source.now) scope) (drop start pending.now)) }
-    ensures cost { OnOk result (steps.new ≡ raised steps.old (sum_by (header_asks (B.meaning source.now) scope) (drop start pending.now))) }
+    ensures cost { OnOk result (steps.new ≡ raised steps.old (sum_by (header_probes (B.meaning source.now) scope) (drop start pending.now))) }
     ensures risen { steps.old ≤ steps.new }
-    ensures given_up { OnErr result (steps.new ≤ raised steps.old (sum_by (header_asks (B.meaning source.now) scope) (drop start pending.now))) }
+    ensures given_up { OnErr result (steps.new ≤ raised steps.old (sum_by (header_probes (B.meaning source.now) scope) (drop start pending.now))) }
 {
     let mut outcomes = Outcomes::new(alloc);
     for entry in pending.entries_from(start) {
@@ -106,9 +106,9 @@ pub fn resolve_all<L, B: BindingSource<L>>(
     requires references { All (λ u. u.reference_id < (B.meaning source.now).references) pending.now }
     ensures outcomes { IfOk result (λ v. v ≡ map (last_outcome (B.meaning source.now)) pending.now) }
     ensures settled { IfOk result (All (λ o. IsTrue (is_settled o))) }
-    ensures cost { OnOk result (steps.new ≡ raised steps.old (sum_by (last_asks (B.meaning source.now)) pending.now)) }
+    ensures cost { OnOk result (steps.new ≡ raised steps.old (sum_by (last_probes (B.meaning source.now)) pending.now)) }
     ensures risen { steps.old ≤ steps.new }
-    ensures given_up { OnErr result (steps.new ≤ raised steps.old (sum_by (last_asks (B.meaning source.now)) pending.now)) }
+    ensures given_up { OnErr result (steps.new ≤ raised steps.old (sum_by (last_probes (B.meaning source.now)) pending.now)) }
 {
     let mut outcomes = Outcomes::new(alloc);
     for entry in pending.entries_from(0) {

@@ -35,8 +35,8 @@ behind : (x : Option (ℕ × ℕ)) (xs : SlotList) (n : ℕ) → StandsAt (x ∷
 behind x xs n h i = sym (suc_zero i) ∙ h (suc i)
 
 -- the slot at the place binds the number
-pub at_place : (xs : SlotList) (n i : ℕ) → StandsAt xs n (Some i) → holds n (get_or xs i None) ≡ true
-at_place xs n i h = sym (h i) ∙ eq-eqb i i refl
+pub at_position : (xs : SlotList) (n i : ℕ) → StandsAt xs n (Some i) → holds n (get_or xs i None) ≡ true
+at_position xs n i h = sym (h i) ∙ eq-eqb i i refl
 
 lookup_skips : (n : ℕ) (x : Option (ℕ × ℕ)) (xs : SlotList) → holds n x ≡ false → lookup (nat_eq n) (filled (x ∷ xs)) ≡ lookup (nat_eq n) (filled xs)
 lookup_skips n None xs other = refl
@@ -48,7 +48,7 @@ lookup_filled n [] None h = refl
 lookup_filled n [] (Some i) h = refl
 lookup_filled n (x ∷ xs) None h = lookup_skips n x xs (sym (h 0)) ∙ lookup_filled n xs None (past x xs n h)
 lookup_filled n (x ∷ xs) (Some (suc j)) h = lookup_skips n x xs (sym (h 0) ∙ zero_suc j) ∙ lookup_filled n xs (Some j) (later x xs n j h)
-lookup_filled n (x ∷ xs) (Some zero) h = by x (at_place (x ∷ xs) n zero h)
+lookup_filled n (x ∷ xs) (Some zero) h = by x (at_position (x ∷ xs) n zero h)
   where
     by : (x : Option (ℕ × ℕ)) → holds n x ≡ true → lookup (nat_eq n) (filled (x ∷ xs)) ≡ option_map (λ b. b.1) x
     by None e = absurd (cc)
@@ -56,8 +56,8 @@ lookup_filled n (x ∷ xs) (Some zero) h = by x (at_place (x ∷ xs) n zero h)
 
 -- a number bound again keeps its slot
 pub filled-fill : (n y i : ℕ) (xs : SlotList) → StandsAt xs n (Some i) → filled (set xs i (Some (n, y))) ≡ insert_entry nat_eq (filled xs) n y
-filled-fill n y i [] h = let e = at_place [] n i h in absurd (cc)
-filled-fill n y zero (x ∷ xs) h = by x (at_place (x ∷ xs) n zero h)
+filled-fill n y i [] h = let e = at_position [] n i h in absurd (cc)
+filled-fill n y zero (x ∷ xs) h = by x (at_position (x ∷ xs) n zero h)
   where
     by : (x : Option (ℕ × ℕ)) → holds n x ≡ true → (n, y) ∷ filled xs ≡ insert_entry nat_eq (filled (x ∷ xs)) n y
     by None e = absurd (cc)
@@ -71,8 +71,8 @@ filled-fill n y (suc i) (x ∷ xs) h = by x (sym (h 0) ∙ zero_suc i) (filled-f
 
 -- a number unbound leaves its slot
 pub filled-clear : (n i : ℕ) (xs : SlotList) → StandsAt xs n (Some i) → filled (set xs i None) ≡ shift_remove_entry (nat_eq n) (filled xs)
-filled-clear n i [] h = let e = at_place [] n i h in absurd (cc)
-filled-clear n zero (x ∷ xs) h = by x (at_place (x ∷ xs) n zero h)
+filled-clear n i [] h = let e = at_position [] n i h in absurd (cc)
+filled-clear n zero (x ∷ xs) h = by x (at_position (x ∷ xs) n zero h)
   where
     by : (x : Option (ℕ × ℕ)) → holds n x ≡ true → filled xs ≡ shift_remove_entry (nat_eq n) (filled (x ∷ xs))
     by None e = absurd (cc)

@@ -7,9 +7,9 @@ use Rattle.std.proofs.lemmas.List.{get_or_default}
 use Rattle.indexmap.specs.IndexMap.{swap_remove_by}
 use Rattle.itertools.specs.Consumer.{find_at}
 
-place_from : (h : ℕ → Bool) (i : ℕ) (xs : List ℕ) → option_map (λ p. p.0) (find_at h i xs) ≡ position_from h i xs
-place_from h i [] = refl
-place_from h i (x ∷ xs) = by (h x) (place_from h (i + 1) xs)
+first_from : (h : ℕ → Bool) (i : ℕ) (xs : List ℕ) → option_map (λ p. p.0) (find_at h i xs) ≡ position_from h i xs
+first_from h i [] = refl
+first_from h i (x ∷ xs) = by (h x) (first_from h (i + 1) xs)
   where
     by : (b : Bool) → option_map (λ p. p.0) (find_at h (i + 1) xs) ≡ position_from h (i + 1) xs
         → option_map (λ p. p.0) (if b then Some (i, x) else find_at h (i + 1) xs) ≡ cond b (Some i) (position_from h (i + 1) xs)
@@ -17,8 +17,8 @@ place_from h i (x ∷ xs) = by (h x) (place_from h (i + 1) xs)
     by false rest = rest
 
 -- the place that was found is the first
-pub place_found : (h : ℕ → Bool) (xs : List ℕ) → option_map (λ p. p.0) (find_at h 0 xs) ≡ position h xs
-place_found h xs = place_from h 0 xs ∙ sym (position_from-zero h xs)
+pub first_found : (h : ℕ → Bool) (xs : List ℕ) → option_map (λ p. p.0) (find_at h 0 xs) ≡ position h xs
+first_found h xs = first_from h 0 xs ∙ sym (position_from-zero h xs)
 
 -- what stood at the first place goes, and the last one takes its place
 pub swapped_at : (test : ℕ → Bool) (d : ℕ) (xs : List ℕ) (i : ℕ) → position test xs ≡ Some i → swap_remove xs i d ≡ swap_remove_by test xs

@@ -5,8 +5,8 @@ use Rattle.std.proofs.Math.ListN.{set}
 use Rattle.std.proofs.Math.Seq.{map-set_same}
 use Rattle.std.proofs.lemmas.Bool.{eqb-true, eqb-false, eq-eqb, false_from_ne_true}
 use Rattle.std.proofs.lemmas.List.{length-set, get_or-set_same, get_or-set_other, get_or_push, set_at, set-set, get_or_read, get_or-take, map-set, take_more}
-use Rattle.scoping.specs.Flat.{Entries, Numbered, SlotList, key_eq, filled, holds, is_place, StandsAt, HasPlaces, HasAllPlaces, KeepsElsewhere, Retells, IsRekeyed, hollow}
-use Rattle.scoping.proofs.Filled.{at_place}
+use Rattle.scoping.specs.Flat.{Entries, Numbered, SlotList, key_eq, filled, holds, is_position, StandsAt, HasPositions, HasAllPositions, KeepsElsewhere, Retells, IsRekeyed, hollow}
+use Rattle.scoping.proofs.Filled.{at_position}
 
 -- a slot that binds something is there
 pub slot_within : (xs : SlotList) (i n : ℕ) → holds n (get_or xs i None) ≡ true → i < length xs
@@ -40,16 +40,16 @@ Stands xs g = (m : ℕ) → StandsAt xs m (g m)
 module _ (xs : SlotList) (g : ℕ → Option ℕ) (h : Stands xs g) (n : ℕ) where
   -- the number is unbound
   pub stands-clear : (g' : ℕ → Option ℕ) (r : ℕ) → g n ≡ Some r → ((m : ℕ) → g' m ≡ cond (n == m) None (g m)) → Stands (set xs r None) g'
-  stands-clear g' r is told m i = ap (is_place i) (told m) ∙ by (n == m) refl (i == r) refl
+  stands-clear g' r is told m i = ap (is_position i) (told m) ∙ by (n == m) refl (i == r) refl
     where
       there : holds n (get_or xs r None) ≡ true
-      there = at_place xs n r (subst (StandsAt xs n) is (h n))
+      there = at_position xs n r (subst (StandsAt xs n) is (h n))
 
-      by : (b : Bool) → (n == m) ≡ b → (d : Bool) → (i == r) ≡ d → is_place i (cond b None (g m)) ≡ holds m (get_or (set xs r None) i None)
+      by : (b : Bool) → (n == m) ≡ b → (d : Bool) → (i == r) ≡ d → is_position i (cond b None (g m)) ≡ holds m (get_or (set xs r None) i None)
       by true same true here = sym (ap (λ k. holds m (get_or (set xs r None) k None)) (eqb-true i r here) ∙ ap (holds m) (cleared xs r))
       by true same false apart =
           sym (ap (holds m) (get_or-set_other xs r i None None (λ e. eqb-false i r apart e))
-          ∙ ap (λ k. holds k (get_or xs i None)) (sym (eqb-true n m same)) ∙ sym (h n i) ∙ ap (is_place i) is ∙ apart)
+          ∙ ap (λ k. holds k (get_or xs i None)) (sym (eqb-true n m same)) ∙ sym (h n i) ∙ ap (is_position i) is ∙ apart)
       by false other true here =
           let s = slot_of n (get_or xs r None) there in
           h m i ∙ ap (λ k. holds m (get_or xs k None)) (eqb-true i r here) ∙ ap (holds m) s.1 ∙ flip n m other
@@ -58,17 +58,17 @@ module _ (xs : SlotList) (g : ℕ → Option ℕ) (h : Stands xs g) (n : ℕ) wh
 
   -- the number is bound in an empty slot
   pub stands-fill : (g' : ℕ → Option ℕ) (w y : ℕ) → w < length xs → get_or xs w None ≡ None → g n ≡ None → ((m : ℕ) → g' m ≡ cond (n == m) (Some w) (g m)) → Stands (set xs w (Some (n, y))) g'
-  stands-fill g' w y within free none told m i = ap (is_place i) (told m) ∙ by (n == m) refl (i == w) refl
+  stands-fill g' w y within free none told m i = ap (is_position i) (told m) ∙ by (n == m) refl (i == w) refl
     where
       now : holds m (get_or (set xs w (Some (n, y))) w None) ≡ (m == n)
       now = ap (holds m) (get_or-set_same xs w (Some (n, y)) None within)
 
-      by : (b : Bool) → (n == m) ≡ b → (d : Bool) → (i == w) ≡ d → is_place i (cond b (Some w) (g m)) ≡ holds m (get_or (set xs w (Some (n, y))) i None)
+      by : (b : Bool) → (n == m) ≡ b → (d : Bool) → (i == w) ≡ d → is_position i (cond b (Some w) (g m)) ≡ holds m (get_or (set xs w (Some (n, y))) i None)
       by true same true here =
           here ∙ sym (ap (λ k. holds m (get_or (set xs w (Some (n, y))) k None)) (eqb-true i w here) ∙ now ∙ eq-eqb m n (sym (eqb-true n m same)))
       by true same false apart =
           apart ∙ sym (ap (holds m) (get_or-set_other xs w i (Some (n, y)) None (λ e. eqb-false i w apart e))
-          ∙ ap (λ k. holds k (get_or xs i None)) (sym (eqb-true n m same)) ∙ sym (h n i) ∙ ap (is_place i) none)
+          ∙ ap (λ k. holds k (get_or xs i None)) (sym (eqb-true n m same)) ∙ sym (h n i) ∙ ap (is_position i) none)
       by false other true here =
           h m i ∙ ap (λ k. holds m (get_or xs k None)) (eqb-true i w here) ∙ ap (holds m) free
           ∙ sym (ap (λ k. holds m (get_or (set xs w (Some (n, y))) k None)) (eqb-true i w here) ∙ now ∙ flip n m other)
@@ -80,8 +80,8 @@ module _ (xs : SlotList) (g : ℕ → Option ℕ) (h : Stands xs g) where
   stands-more m i = h m i ∙ sym (ap (holds m) (one_more xs i))
 
   -- where a number is bound there is a slot
-  pub place_within : (n r : ℕ) → g n ≡ Some r → r < length xs
-  place_within n r is = slot_within xs r n (at_place xs n r (subst (StandsAt xs n) is (h n)))
+  pub position_within : (n r : ℕ) → g n ≡ Some r → r < length xs
+  position_within n r is = slot_within xs r n (at_position xs n r (subst (StandsAt xs n) is (h n)))
 
   -- the same slots, as they are read
   pub stands-same : (ys : SlotList) → ((i : ℕ) → get_or ys i None ≡ get_or xs i None) → Stands ys g
@@ -111,7 +111,7 @@ module _ (xs : SlotList) (g : ℕ → Option ℕ) (h : Stands xs g) where
     pub stands-again : (r y : ℕ) → g n ≡ Some r → Stands (set xs r (Some (n, y))) g
     stands-again r y is =
         subst (λ ys. Stands ys g) (set-set xs r None (Some (n, y)))
-        (stands-move g r r y is (place_within n r is) (cleared xs r) (λ m. by m (n == m) refl))
+        (stands-move g r r y is (position_within n r is) (cleared xs r) (λ m. by m (n == m) refl))
       where
         by : (m : ℕ) (b : Bool) → (n == m) ≡ b → g m ≡ cond b (Some r) (g m)
         by m true e = subst (λ k. g k ≡ Some r) (eqb-true n m e) is
@@ -129,16 +129,16 @@ pub elsewhere_trans : (a b c : Entries) (s : ℕ) → KeepsElsewhere a b s → K
 elsewhere_trans a b c s first second t n apart = second t n apart ∙ first t n apart
 
 -- the places of all scopes, as one changes
-module _ (es es' : Entries) (rows : List SlotList) (h : HasAllPlaces es rows) (s : ℕ) (xs : SlotList) (within : s < length rows) (now : HasPlaces es' s xs) (others : KeepsElsewhere es es' s) where
-  pub all_places : HasAllPlaces es' (set rows s xs)
-  all_places t n i = by (s == t) refl
+module _ (es es' : Entries) (rows : List SlotList) (h : HasAllPositions es rows) (s : ℕ) (xs : SlotList) (within : s < length rows) (now : HasPositions es' s xs) (others : KeepsElsewhere es es' s) where
+  pub all_positions : HasAllPositions es' (set rows s xs)
+  all_positions t n i = by (s == t) refl
     where
-      by : (b : Bool) → (s == t) ≡ b → is_place i (lookup (key_eq (t, n)) es') ≡ holds n (get_or (get_or (set rows s xs) t []) i None)
+      by : (b : Bool) → (s == t) ≡ b → is_position i (lookup (key_eq (t, n)) es') ≡ holds n (get_or (get_or (set rows s xs) t []) i None)
       by true same =
-          subst (λ k. is_place i (lookup (key_eq (k, n)) es') ≡ holds n (get_or (get_or (set rows s xs) k []) i None)) (eqb-true s t same)
+          subst (λ k. is_position i (lookup (key_eq (k, n)) es') ≡ holds n (get_or (get_or (set rows s xs) k []) i None)) (eqb-true s t same)
           (now n i ∙ sym (ap (λ r. holds n (get_or r i None)) (get_or-set_same rows s xs [] within)))
       by false apart =
-          ap (is_place i) (others t n apart) ∙ h t n i
+          ap (is_position i) (others t n apart) ∙ h t n i
           ∙ sym (ap (λ r. holds n (get_or r i None)) (get_or-set_other rows s t xs [] (λ e. eqb-false s t apart (sym e))))
 
 -- what one of the scopes binds
@@ -165,10 +165,10 @@ pub row_read : (rows : List SlotList) (s i : ℕ) (row : SlotList) → i ≡ s �
 row_read rows s i row at within read = get_or_read rows s row within (read ∙ ap (λ k. get_or rows k row) at) []
 
 -- a number that has a slot stands there
-pub place_told : (xs : SlotList) (g : ℕ → Option ℕ) → Stands xs g → (n y r : ℕ) → get_or xs r None ≡ Some (n, y) → g n ≡ Some r
-place_told xs g h n y r is = by (g n) (h n r ∙ ap (holds n) is ∙ eq-eqb n n refl)
+pub position_told : (xs : SlotList) (g : ℕ → Option ℕ) → Stands xs g → (n y r : ℕ) → get_or xs r None ≡ Some (n, y) → g n ≡ Some r
+position_told xs g h n y r is = by (g n) (h n r ∙ ap (holds n) is ∙ eq-eqb n n refl)
   where
-    by : (o : Option ℕ) → is_place r o ≡ true → o ≡ Some r
+    by : (o : Option ℕ) → is_position r o ≡ true → o ≡ Some r
     by None e = absurd (cc)
     by (Some j) e = ap Some (sym (eqb-true r j e))
 
@@ -218,10 +218,10 @@ emptied (x ∷ xs) (suc k) zero e = refl
 emptied (x ∷ xs) (suc k) (suc i) e = emptied xs k i e
 
 -- entries that are put under another scope, slot by slot
-module _ (old : Entries) (from to : ℕ) (apart : (from == to) ≡ false) (xs : SlotList) (first : HasPlaces old from xs) where
-  pub rekeyed_none : HasPlaces old to [] → IsRekeyed old old from to xs 0
+module _ (old : Entries) (from to : ℕ) (apart : (from == to) ≡ false) (xs : SlotList) (first : HasPositions old from xs) where
+  pub rekeyed_none : HasPositions old to [] → IsRekeyed old old from to xs 0
   rekeyed_none empty = record {
-    source = subst (HasPlaces old from) (sym (hollow_none xs)) first;
+    source = subst (HasPositions old from) (sym (hollow_none xs)) first;
     target = empty;
     elsewhere = λ t n p q. refl;
   }
@@ -241,16 +241,16 @@ module _ (old : Entries) (from to : ℕ) (apart : (from == to) ≡ false) (xs : 
           by : (o : Option ℕ) → lookup (key_eq (to, n)) es ≡ o → o ≡ None
           by None e = refl
           by (Some j) e =
-              let there = at_place (take k xs) n j (subst (StandsAt (take k xs) n) e (r.target n)) in
+              let there = at_position (take k xs) n j (subst (StandsAt (take k xs) n) e (r.target n)) in
               let inside = slot_within (take k xs) j n there in
               let small : j < k = omega (arith, length-take k xs) in
               let here : holds n (get_or xs j None) ≡ true = sym (ap (holds n) (get_or-take k xs j None small)) ∙ there in
-              let at = place_told xs _ first n y k is in
-              let same : j ≡ k = eqb-true j k (ap (is_place j) (sym at) ∙ first n j ∙ here) in
+              let at = position_told xs _ first n y k is in
+              let same : j ≡ k = eqb-true j k (ap (is_position j) (sym at) ∙ first n j ∙ here) in
               absurd (omega (arith, same, small))
 
       stood : lookup (key_eq (from, n)) es ≡ Some k
-      stood = place_told (hollow k xs) _ r.source n y k (hollow_at k xs ∙ is)
+      stood = position_told (hollow k xs) _ r.source n y k (hollow_at k xs ∙ is)
 
       keeps : KeepsElsewhere gone es' to
       keeps = told_elsewhere gone es' to n (Some k) put
@@ -270,8 +270,8 @@ module _ (old : Entries) (from to : ℕ) (apart : (from == to) ≡ false) (xs : 
           full = omega (arith, length-take k xs)
 
 -- all of them
-pub rekeyed_all : (old es : Entries) (from to : ℕ) (xs : SlotList) → IsRekeyed old es from to xs (length xs) → HasPlaces es from [] × HasPlaces es to xs
-rekeyed_all old es from to xs r = (stands-same (hollow (length xs) xs) _ r.source [] (λ i. sym (hollow_all xs i)), subst (HasPlaces es to) (take_all xs) r.target)
+pub rekeyed_all : (old es : Entries) (from to : ℕ) (xs : SlotList) → IsRekeyed old es from to xs (length xs) → HasPositions es from [] × HasPositions es to xs
+rekeyed_all old es from to xs r = (stands-same (hollow (length xs) xs) _ r.source [] (λ i. sym (hollow_all xs i)), subst (HasPositions es to) (take_all xs) r.target)
 
 -- what the scopes bind, as the slots of one change
 module _ (rows : List SlotList) (s i : ℕ) (was now : SlotList) (at : i ≡ s) (within : s < length rows) (read : was ≡ get_or rows i was) where
@@ -285,13 +285,13 @@ module _ (rows : List SlotList) (s i : ℕ) (was now : SlotList) (at : i ≡ s) 
   row_kept is = map-set_same filled rows i now was (is ∙ ap filled read)
 
 -- the slots of one scope made another's
-pub taken_places : (es es' : Entries) (rows : List SlotList) (from to : ℕ) (xs : SlotList) → from < length rows → to < length rows → (from == to) ≡ false → HasAllPlaces es rows
-    → HasPlaces es' from [] → HasPlaces es' to xs → ((t n : ℕ) → (from == t) ≡ false → (to == t) ≡ false → lookup (key_eq (t, n)) es' ≡ lookup (key_eq (t, n)) es)
-    → HasAllPlaces es' (set (set rows from []) to xs)
-taken_places es es' rows from to xs source target apart all first second others t n i = by (to == t) refl (from == t) refl
+pub taken_positions : (es es' : Entries) (rows : List SlotList) (from to : ℕ) (xs : SlotList) → from < length rows → to < length rows → (from == to) ≡ false → HasAllPositions es rows
+    → HasPositions es' from [] → HasPositions es' to xs → ((t n : ℕ) → (from == t) ≡ false → (to == t) ≡ false → lookup (key_eq (t, n)) es' ≡ lookup (key_eq (t, n)) es)
+    → HasAllPositions es' (set (set rows from []) to xs)
+taken_positions es es' rows from to xs source target apart all first second others t n i = by (to == t) refl (from == t) refl
   where
     shows : SlotList → Type 0
-    shows r = is_place i (lookup (key_eq (t, n)) es') ≡ holds n (get_or r i None)
+    shows r = is_position i (lookup (key_eq (t, n)) es') ≡ holds n (get_or r i None)
 
     past : (to == t) ≡ false → get_or (set rows from []) t [] ≡ get_or (set (set rows from []) to xs) t []
     past e = sym (get_or-set_other (set rows from []) to t xs [] (λ q. eqb-false to t e (sym q)))
@@ -300,11 +300,11 @@ taken_places es es' rows from to xs source target apart all first second others 
     by true e d q =
         let at = eqb-true to t e in
         subst shows (sym (ap (λ k. get_or (set (set rows from []) to xs) k []) (sym at) ∙ get_or-set_same (set rows from []) to xs [] (rw length-set target)))
-        (subst (λ k. is_place i (lookup (key_eq (k, n)) es') ≡ holds n (get_or xs i None)) at (second n i))
+        (subst (λ k. is_position i (lookup (key_eq (k, n)) es') ≡ holds n (get_or xs i None)) at (second n i))
     by false e true q =
         let at = eqb-true from t q in
         subst shows (sym (ap (λ k. get_or (set rows from []) k []) (sym at) ∙ get_or-set_same rows from [] [] source) ∙ past e)
-        (subst (λ k. is_place i (lookup (key_eq (k, n)) es') ≡ false) at (first n i))
+        (subst (λ k. is_position i (lookup (key_eq (k, n)) es') ≡ false) at (first n i))
     by false e false q =
         subst shows (sym (get_or-set_other rows from t [] [] (λ r. eqb-false from t q (sym r))) ∙ past e)
-        (ap (is_place i) (others t n q e) ∙ all t n i)
+        (ap (is_position i) (others t n q e) ∙ all t n i)

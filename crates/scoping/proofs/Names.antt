@@ -80,7 +80,7 @@ module _ {X : Type 0} (text : X → Name) where
   pub find_spec : (keys : List X) (name : Name) → IsDistinct (λ a b. bytes_eq (text a) (text b)) keys
       → MatchOption (position (λ k. bytes_eq name (text k)) keys) (IsUnknown (map text keys) name) (λ n. IsNumberOf (map text keys) name n)
   find_spec [] name distinct = record { none = λ m l. absurd (omega arith) }
-  find_spec (x ∷ xs) name distinct = by (nat_lt place (length keys)) refl
+  find_spec (x ∷ xs) name distinct = by (nat_lt index (length keys)) refl
     where
       keys : List X
       keys = x ∷ xs
@@ -88,20 +88,20 @@ module _ {X : Type 0} (text : X → Name) where
       test : X → Bool
       test k = bytes_eq name (text k)
 
-      place : ℕ
-      place = position_or_len test keys
+      index : ℕ
+      index = position_or_len test keys
 
-      by : (b : Bool) → nat_lt place (length keys) ≡ b → MatchOption (cond b (Some place) None) (IsUnknown (map text keys) name) (λ n. IsNumberOf (map text keys) name n)
+      by : (b : Bool) → nat_lt index (length keys) ≡ b → MatchOption (cond b (Some index) None) (IsUnknown (map text keys) name) (λ n. IsNumberOf (map text keys) name n)
       by true e =
-          let lt : place < length keys = ltb-true place (length keys) e in
-          let stops : not (test (get_or keys place x)) ≡ false = prefix_len_stops (λ k. not (test k)) keys x lt in
-          let passes : test (get_or keys place x) ≡ true = true_from_not_false (test (get_or keys place x)) stops in
-          number_at (map text keys) name place (apart_texts keys distinct) (omega (arith, length_map text keys))
-          (get_or-map text keys place x [] lt ∙ sym ((bytes_eq-Decides _ _).0 passes))
+          let lt : index < length keys = ltb-true index (length keys) e in
+          let stops : not (test (get_or keys index x)) ≡ false = prefix_len_stops (λ k. not (test k)) keys x lt in
+          let passes : test (get_or keys index x) ≡ true = true_from_not_false (test (get_or keys index x)) stops in
+          number_at (map text keys) name index (apart_texts keys distinct) (omega (arith, length_map text keys))
+          (get_or-map text keys index x [] lt ∙ sym ((bytes_eq-Decides _ _).0 passes))
       by false e = record {
         none = λ m l.
             let below : m < length keys = omega (arith, length_map text keys) in
-            rw (get_or-map text keys m x [] below) (fails_before_first test keys m x (omega (arith, ltb-false place (length keys) e)));
+            rw (get_or-map text keys m x [] below) (fails_before_first test keys m x (omega (arith, ltb-false index (length keys) e)));
       }
 
   pub interned_texts : (old new : List X) (x : X) (name : Name) → IsDistinct (λ a b. bytes_eq (text a) (text b)) old

@@ -10,7 +10,7 @@ use Rattle.std.proofs.lemmas.Cmp.{ranked}
 use Rattle.std.proofs.lemmas.List.Sorted.{IsNonDecreasingBy-from_default}
 use Rattle.std.proofs.lemmas.Option.{get_or_from_slice_get}
 use Rattle.indexmap.specs.IndexMap.{insert_entry}
-use Rattle.scoping.specs.NodeEntries.{node_at, AreRising, AreBefore, HasNone, IsPlaceOf}
+use Rattle.scoping.specs.NodeEntries.{node_at, AreRising, AreBefore, HasNone, IsPositionOf}
 
 module _ {X : Type 0} where
   -- what isn't in front is told by the rest alone
@@ -58,12 +58,12 @@ module _ {X : Type 0} where
   abbrev NoneBefore : List (ℕ × X) → ℕ → ℕ → Type 0
   NoneBefore es k i = (j : ℕ) → j < i → node_at es j ≢ k
 
-  lookup_first : (es fs : List (ℕ × X)) (k i : ℕ) (d : ℕ × X) → IsPlaceOf es k i → NoneBefore es k i → lookup (nat_eq k) (es ++ fs) ≡ Some (get_or es i d).1
+  lookup_first : (es fs : List (ℕ × X)) (k i : ℕ) (d : ℕ × X) → IsPositionOf es k i → NoneBefore es k i → lookup (nat_eq k) (es ++ fs) ≡ Some (get_or es i d).1
   lookup_first [] fs k i d is none = absurd (omega (arith, is.in_range))
   lookup_first (e ∷ es) fs k zero d is none = grind (arith, nat_tests, is.is_node)
   lookup_first (e ∷ es) fs k (suc i) d is none = grind (arith, nat_tests, none 0 (omega arith), lookup_first es fs k i d (record { in_range = omega (arith, is.in_range); is_node = is.is_node }) (λ j l. none (suc j) (omega (arith, l))))
 
-  insert_first : (es fs : List (ℕ × X)) (k i : ℕ) (v : X) (d : ℕ × X) → IsPlaceOf es k i → NoneBefore es k i → insert_entry nat_eq (es ++ fs) k v ≡ set es i ((get_or es i d).0, v) ++ fs
+  insert_first : (es fs : List (ℕ × X)) (k i : ℕ) (v : X) (d : ℕ × X) → IsPositionOf es k i → NoneBefore es k i → insert_entry nat_eq (es ++ fs) k v ≡ set es i ((get_or es i d).0, v) ++ fs
   insert_first [] fs k i v d is none = absurd (omega (arith, is.in_range))
   insert_first (e ∷ es) fs k zero v d is none = grind (arith, nat_tests, is.is_node)
   insert_first (e ∷ es) fs k (suc i) v d is none = grind (arith, nat_tests, none 0 (omega arith), insert_first es fs k i v d (record { in_range = omega (arith, is.in_range); is_node = is.is_node }) (λ j l. none (suc j) (omega (arith, l))))
@@ -87,15 +87,15 @@ module _ {X : Type 0} where
   node_of_equal (e ∷ es) k (suc i) within equal = node_of_equal es k i (omega (arith, within)) equal
 
   module _ (es : List (ℕ × X)) (rise : AreRising es) where
-    none_before : (k i : ℕ) → IsPlaceOf es k i → NoneBefore es k i
+    none_before : (k i : ℕ) → IsPositionOf es k i → NoneBefore es k i
     none_before k i is j less same = omega (arith, rise j i less is.in_range, is.is_node, same)
 
     -- the value of a node is that at its place
-    pub lookup_at : (fs : List (ℕ × X)) (k i : ℕ) (d : ℕ × X) → IsPlaceOf es k i → lookup (nat_eq k) (es ++ fs) ≡ Some (get_or es i d).1
+    pub lookup_at : (fs : List (ℕ × X)) (k i : ℕ) (d : ℕ × X) → IsPositionOf es k i → lookup (nat_eq k) (es ++ fs) ≡ Some (get_or es i d).1
     lookup_at fs k i d is = lookup_first es fs k i d is (none_before k i is)
 
     -- a value is written at the node's place
-    pub insert_at : (fs : List (ℕ × X)) (k i : ℕ) (v : X) (d : ℕ × X) → IsPlaceOf es k i → insert_entry nat_eq (es ++ fs) k v ≡ set es i ((get_or es i d).0, v) ++ fs
+    pub insert_at : (fs : List (ℕ × X)) (k i : ℕ) (v : X) (d : ℕ × X) → IsPositionOf es k i → insert_entry nat_eq (es ++ fs) k v ≡ set es i ((get_or es i d).0, v) ++ fs
     insert_at fs k i v d is = insert_first es fs k i v d is (none_before k i is)
 
     -- where the last entry's node is before this one, so are all
@@ -120,7 +120,7 @@ module _ {X : Type 0} where
         grind (arith, nat_tests, node_of_entry es i d (omega (arith, within, le)), node_of_entry es j d within))
 
     -- what a search by halves says
-    pub searched : (k : ℕ) (r : Result ℕ ℕ) → IsSearchInRange r (length es) → IsBinarySearchResult (λ e. nat_cmp e.0 k) es r → MatchResult r (IsPlaceOf es k) (λ i. HasNone es k)
+    pub searched : (k : ℕ) (r : Result ℕ ℕ) → IsSearchInRange r (length es) → IsBinarySearchResult (λ e. nat_cmp e.0 k) es r → MatchResult r (IsPositionOf es k) (λ i. HasNone es k)
     searched k (Ok i) within equal = record { in_range = within; is_node = node_of_equal es k i within equal }
     searched k (Err i) within parted = λ j inside same.
         let d = entry_of es (omega (arith, inside)) in

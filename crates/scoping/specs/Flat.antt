@@ -33,20 +33,20 @@ abbrev pub holds : ℕ → Option (ℕ × ℕ) → Bool
 holds n x = option_map_or (λ b. n == b.0) x false
 
 -- whether it is the place, if any
-abbrev pub is_place : ℕ → Option ℕ → Bool
-is_place i place = option_map_or (λ j. i == j) place false
+abbrev pub is_position : ℕ → Option ℕ → Bool
+is_position i position = option_map_or (λ j. i == j) position false
 
 -- the slot at the place, if any, binds the number, and no other does
 abbrev pub StandsAt : SlotList → ℕ → Option ℕ → Type 0
-StandsAt xs n place = (i : ℕ) → is_place i place ≡ holds n (slice_index_or xs i None)
+StandsAt xs n position = (i : ℕ) → is_position i position ≡ holds n (slice_index_or xs i None)
 
 -- the entries tell for each number where the scope binds it, if it does
-abbrev pub HasPlaces : Entries → ℕ → SlotList → Type 0
-HasPlaces es s xs = (n : ℕ) → StandsAt xs n (lookup (key_eq (s, n)) es)
+abbrev pub HasPositions : Entries → ℕ → SlotList → Type 0
+HasPositions es s xs = (n : ℕ) → StandsAt xs n (lookup (key_eq (s, n)) es)
 
 -- and so for all scopes
-abbrev pub HasAllPlaces : Entries → List SlotList → Type 0
-HasAllPlaces es rows = (s : ℕ) → HasPlaces es s (slice_index_or rows s [])
+abbrev pub HasAllPositions : Entries → List SlotList → Type 0
+HasAllPositions es rows = (s : ℕ) → HasPositions es s (slice_index_or rows s [])
 
 -- of the other scopes the entries tell the same
 abbrev pub KeepsElsewhere : Entries → Entries → ℕ → Type 0
@@ -54,7 +54,7 @@ KeepsElsewhere old new s = (t n : ℕ) → (s == t) ≡ false → lookup (key_eq
 
 -- the entries tell of one key something else than before
 abbrev pub Retells : Entries → Entries → ℕ × ℕ → Option ℕ → Type 0
-Retells old new k place = (q : ℕ × ℕ) → lookup (key_eq q) new ≡ cond (key_eq k q) place (lookup (key_eq q) old)
+Retells old new k position = (q : ℕ × ℕ) → lookup (key_eq q) new ≡ cond (key_eq k q) position (lookup (key_eq q) old)
 
 -- what each scope binds, with the number bound in one of them
 abbrev pub put : List Numbered → ℕ → ℕ → ℕ → List Numbered
@@ -76,6 +76,6 @@ hollow (suc k) (x ∷ xs) = None ∷ hollow k xs
 
 -- the entries of the first k slots of one scope are another's
 pub record IsRekeyed (old new : Entries) (from to : ℕ) (xs : SlotList) (k : ℕ) : Type 0 where
-  pub source : HasPlaces new from (hollow k xs)
-  pub target : HasPlaces new to (take k xs)
+  pub source : HasPositions new from (hollow k xs)
+  pub target : HasPositions new to (take k xs)
   pub elsewhere : (t n : ℕ) → (from == t) ≡ false → (to == t) ≡ false → lookup (key_eq (t, n)) new ≡ lookup (key_eq (t, n)) old

@@ -72,10 +72,10 @@ abbrev pub delisted : {K : Type 0} → (K → Bool) → ℕ → List (K × List 
 delisted test r es = option_map_or (λ rs. relisted test es (swap_remove_by (nat_eq r) rs)) (lookup test es) es
 
 -- the slots below the place stay as types go, and stand one behind the other below `packed`
-pub record IsPacked (ys : List Row) (xs : SlotList) (packed place : ℕ) : Type 0 where
-  pub behind : packed ≤ place
-  pub gap : (i : ℕ) → packed ≤ i → i < place → slice_index_or xs i None ≡ None
-  pub stay : (i : ℕ) → i < place → option_map_or (λ b. stays ys b.1) (slice_index_or xs i None) true ≡ true
+pub record IsPacked (ys : List Row) (xs : SlotList) (packed position : ℕ) : Type 0 where
+  pub behind : packed ≤ position
+  pub gap : (i : ℕ) → packed ≤ i → i < position → slice_index_or xs i None ≡ None
+  pub stay : (i : ℕ) → i < position → option_map_or (λ b. stays ys b.1) (slice_index_or xs i None) true ≡ true
 
 -- whether the symbol is not a constant, and a use of it writes
 abbrev pub is_mutated : Tables → ℕ → Bool

@@ -25,6 +25,6 @@ module _ {X : Type 0} where
   HasNone es node = (i : ℕ) → i < length es → node_at es i ≢ node
 
   -- the entry at the place is the node's
-  pub record IsPlaceOf (es : List (ℕ × X)) (node i : ℕ) : Type 0 where
+  pub record IsPositionOf (es : List (ℕ × X)) (node i : ℕ) : Type 0 where
     pub in_range : i < length es
     pub is_node : node_at es i ≡ node

@@ -1,7 +1,7 @@
 -- What the fields of a table of bindings show, and what is true of them.
 use Rattle.std.specs.Prelude.{List, map}
 use Rattle.scoping.specs.declared.binding_table.BindingTable.TheInside.{Inside}
-use Rattle.scoping.specs.Flat.{Numbered, filled, HasAllPlaces}
+use Rattle.scoping.specs.Flat.{Numbered, filled, HasAllPositions}
 
 -- what each scope binds
 abbrev pub bindings_of_table : Inside → List Numbered
@@ -9,4 +9,4 @@ bindings_of_table a = map filled a.scopes.items
 
 -- the map tells the places of all bindings
 abbrev pub IsKept : Inside → Type 0
-IsKept a = HasAllPlaces a.places.entries a.scopes.items
+IsKept a = HasAllPositions a.positions.entries a.scopes.items

@@ -2,7 +2,7 @@
 ghost use Rattle.std.specs.Prelude.{◌≡◌, ◌==◌, ◌+◌, ◌<◌, ◌≤◌, map, [], ◌∷◌, ◌++◌, length, nat_eq, false, None, Some, slice_index_or, slice_set, OnOk, OnErr};
 ghost use Rattle.std.specs.Map.{lookup};
 ghost use Rattle.indexmap.specs.IndexMap.{insert_entry, shift_remove_entry, spare};
-ghost use Rattle.scoping.specs.Flat.{key_eq, put, cut, filled, moved_number, HasPlaces, HasAllPlaces, KeepsElsewhere, IsRekeyed};
+ghost use Rattle.scoping.specs.Flat.{key_eq, put, cut, filled, moved_number, HasPositions, HasAllPositions, KeepsElsewhere, IsRekeyed};
 ghost use Rattle.scoping.specs.Kept.{rows_without_types, IsPacked};
 
 use crate::kept::stays;
@@ -20,7 +20,7 @@ use std::mem;
 #[derive(Drop)]
 pub struct BindingTable {
     alloc: Global,
-    places: IndexMap<(ScopeId, usize), usize>,
+    positions: IndexMap<(ScopeId, usize), usize>,
     scopes: Vec<ScopeSlots>,
 }
 
@@ -38,137 +38,137 @@ impl Model for BindingTable {
 
 /// Binds the number to the symbol. A new number goes last, a bound one keeps its position.
 fn bind(
-    places: &mut IndexMap<(ScopeId, usize), usize>,
+    positions: &mut IndexMap<(ScopeId, usize), usize>,
     slots: &mut ScopeSlots,
     scope: ScopeId,
     number: usize,
     symbol: SymbolId,
 ) -> Result<(), AllocError>
-    requires { HasPlaces places.old.entries scope slots.old }
-    ensures places { HasPlaces places.new.entries scope slots.new }
-    ensures elsewhere { KeepsElsewhere places.old.entries places.new.entries scope }
+    requires { HasPositions positions.old.entries scope slots.old }
+    ensures positions { HasPositions positions.new.entries scope slots.new }
+    ensures elsewhere { KeepsElsewhere positions.old.entries positions.new.entries scope }
     ensures ok { OnOk result (filled slots.new ≡ insert_entry nat_eq (filled slots.old) number symbol) }
     ensures err { OnErr result (filled slots.new ≡ filled slots.old) }
 {
-    if let Some(place) = places.get(&(scope, number)) {
-        slots.fill(*place, number, symbol);
+    if let Some(position) = positions.get(&(scope, number)) {
+        slots.fill(*position, number, symbol);
         return Ok(());
     }
-    let place = slots.len();
-    places.reserve(1)?;
+    let position = slots.len();
+    positions.reserve(1)?;
     slots.push(number, symbol)?;
-    let _previous = places.insert((scope, number), place);
+    let _previous = positions.insert((scope, number), position);
     Ok(())
 }
 
 /// Moves what the slot binds to the end of the packed ones, or unbinds it if it goes with the types. Tells how many
 /// are packed then.
 fn settle(
-    places: &mut IndexMap<(ScopeId, usize), usize>,
+    positions: &mut IndexMap<(ScopeId, usize), usize>,
     slots: &mut ScopeSlots,
     scope: ScopeId,
     rows: &[SymbolRow],
-    place: usize,
+    position: usize,
     packed: usize,
 ) -> usize
-    requires places { HasPlaces places.old.entries scope slots.old }
-    requires within { place < length slots.old }
-    requires packed { IsPacked rows.now slots.old packed place }
-    ensures places { HasPlaces places.new.entries scope slots.new }
-    ensures elsewhere { KeepsElsewhere places.old.entries places.new.entries scope }
+    requires positions { HasPositions positions.old.entries scope slots.old }
+    requires within { position < length slots.old }
+    requires packed { IsPacked rows.now slots.old packed position }
+    ensures positions { HasPositions positions.new.entries scope slots.new }
+    ensures elsewhere { KeepsElsewhere positions.old.entries positions.new.entries scope }
     ensures count { length slots.new ≡ length slots.old }
     ensures kept { rows_without_types rows.now (filled slots.new) ≡ rows_without_types rows.now (filled slots.old) }
-    ensures packed { IsPacked rows.now slots.new result (place + 1) }
+    ensures packed { IsPacked rows.now slots.new result (position + 1) }
 {
-    let (number, symbol) = match slots.get(place) {
+    let (number, symbol) = match slots.get(position) {
         Some(bound) => bound,
         None => return packed,
     };
-    slots.clear(place);
+    slots.clear(position);
     if !stays(rows, symbol) {
-        let _place = places.swap_remove(&(scope, number));
+        let _position = positions.swap_remove(&(scope, number));
         return packed;
     }
     let _count = slots.len();
     slots.fill(packed, number, symbol);
-    let _previous = places.insert((scope, number), packed);
+    let _previous = positions.insert((scope, number), packed);
     packed + 1
 }
 
 /// Unbinds the symbols that go with the types, and drops the empty slots. The others keep their order.
 fn pack(
-    places: &mut IndexMap<(ScopeId, usize), usize>,
+    positions: &mut IndexMap<(ScopeId, usize), usize>,
     slots: &mut ScopeSlots,
     scope: ScopeId,
     rows: &[SymbolRow],
 )
-    requires { HasPlaces places.old.entries scope slots.old }
-    ensures places { HasPlaces places.new.entries scope slots.new }
-    ensures elsewhere { KeepsElsewhere places.old.entries places.new.entries scope }
+    requires { HasPositions positions.old.entries scope slots.old }
+    ensures positions { HasPositions positions.new.entries scope slots.new }
+    ensures elsewhere { KeepsElsewhere positions.old.entries positions.new.entries scope }
     ensures kept { filled slots.new ≡ rows_without_types rows.now (filled slots.old) }
 {
     let mut packed = 0;
-    for place in 0..slots.len() {
-        packed = settle(places, slots, scope, rows, place, packed);
+    for position in 0..slots.len() {
+        packed = settle(positions, slots, scope, rows, position, packed);
     }
     slots.truncate(packed);
 }
 
 /// Does so for each scope.
 fn pack_each(
-    places: &mut IndexMap<(ScopeId, usize), usize>,
+    positions: &mut IndexMap<(ScopeId, usize), usize>,
     scopes: &mut Vec<ScopeSlots>,
     rows: &[SymbolRow],
 )
-    requires places { HasAllPlaces places.old.entries scopes.old.items }
+    requires positions { HasAllPositions positions.old.entries scopes.old.items }
     requires fits { length scopes.old.items < 4294967296 }
-    ensures places { HasAllPlaces places.new.entries scopes.new.items }
+    ensures positions { HasAllPositions positions.new.entries scopes.new.items }
     ensures kept { map filled scopes.new.items ≡ map (rows_without_types rows.now) (map filled scopes.old.items) }
 {
     for scope in 0..scopes.len() {
-        pack(places, &mut scopes[scope], ScopeId::new(scope as u32), rows);
+        pack(positions, &mut scopes[scope], ScopeId::new(scope as u32), rows);
     }
 }
 
 /// Unbinds the number. The others keep their order.
 fn unbind(
-    places: &mut IndexMap<(ScopeId, usize), usize>,
+    positions: &mut IndexMap<(ScopeId, usize), usize>,
     slots: &mut ScopeSlots,
     scope: ScopeId,
     number: usize,
 )
-    requires { HasPlaces places.old.entries scope slots.old }
-    ensures places { HasPlaces places.new.entries scope slots.new }
-    ensures elsewhere { KeepsElsewhere places.old.entries places.new.entries scope }
+    requires { HasPositions positions.old.entries scope slots.old }
+    ensures positions { HasPositions positions.new.entries scope slots.new }
+    ensures elsewhere { KeepsElsewhere positions.old.entries positions.new.entries scope }
     ensures gone { filled slots.new ≡ shift_remove_entry (nat_eq number) (filled slots.old) }
 {
-    let place = match places.swap_remove(&(scope, number)) {
-        Some(place) => place,
+    let position = match positions.swap_remove(&(scope, number)) {
+        Some(position) => position,
         None => return,
     };
-    slots.clear(place);
+    slots.clear(position);
     if slots.is_sparse() {
-        pack(places, slots, scope, &[]);
+        pack(positions, slots, scope, &[]);
     }
 }
 
 /// Tells the positions of the slots under another scope, which binds nothing. There is room for it.
 fn rekey(
-    places: &mut IndexMap<(ScopeId, usize), usize>,
+    positions: &mut IndexMap<(ScopeId, usize), usize>,
     slots: &ScopeSlots,
     from: ScopeId,
     to: ScopeId,
 )
-    requires room { length slots.now ≤ spare places.old }
+    requires room { length slots.now ≤ spare positions.old }
     requires apart { (from == to) ≡ false }
-    requires from { HasPlaces places.old.entries from slots.now }
-    requires to { HasPlaces places.old.entries to [] }
-    ensures { IsRekeyed places.old.entries places.new.entries from to slots.now (length slots.now) }
+    requires from { HasPositions positions.old.entries from slots.now }
+    requires to { HasPositions positions.old.entries to [] }
+    ensures { IsRekeyed positions.old.entries positions.new.entries from to slots.now (length slots.now) }
 {
-    for place in 0..slots.len() {
-        if let Some((number, _)) = slots.get(place) {
-            let _place = places.swap_remove(&(from, number));
-            let _previous = places.insert((to, number), place);
+    for position in 0..slots.len() {
+        if let Some((number, _)) = slots.get(position) {
+            let _position = positions.swap_remove(&(from, number));
+            let _previous = positions.insert((to, number), position);
         }
     }
 }
@@ -180,7 +180,7 @@ impl BindingTable {
     {
         BindingTable {
             alloc,
-            places: IndexMap::new(alloc),
+            positions: IndexMap::new(alloc),
             scopes: Vec::new(alloc),
         }
     }
@@ -203,8 +203,8 @@ impl BindingTable {
         if slots.bound_len() == 0 {
             return None;
         }
-        let place = self.places.get(&(scope, number))?;
-        let (_, symbol) = slots.get(*place)?;
+        let position = self.positions.get(&(scope, number))?;
+        let (_, symbol) = slots.get(*position)?;
         Some(symbol)
     }
 
@@ -236,7 +236,7 @@ impl BindingTable {
         ensures err { OnErr result (self.new ≡ self.old) }
     {
         bind(
-            &mut self.places,
+            &mut self.positions,
             &mut self.scopes[scope.index()],
             scope,
             number,
@@ -250,7 +250,7 @@ impl BindingTable {
         ensures { self.new ≡ slice_set self.old scope (shift_remove_entry (nat_eq number) (slice_index_or self.old scope [])) }
     {
         unbind(
-            &mut self.places,
+            &mut self.positions,
             &mut self.scopes[scope.index()],
             scope,
             number,
@@ -303,10 +303,10 @@ impl BindingTable {
         ensures ok { OnOk result (self.new ≡ slice_set (slice_set self.old from []) to (slice_index_or self.old from [])) }
         ensures err { OnErr result (self.new ≡ self.old) }
     {
-        self.places.reserve(self.scopes[from.index()].len())?;
+        self.positions.reserve(self.scopes[from.index()].len())?;
         let empty = ScopeSlots::new(self.alloc);
         let slots = mem::replace(&mut self.scopes[from.index()], empty);
-        rekey(&mut self.places, &slots, from, to);
+        rekey(&mut self.positions, &slots, from, to);
         self.scopes[to.index()] = slots;
         Ok(())
     }
@@ -316,7 +316,7 @@ impl BindingTable {
         requires { length self.old < 4294967296 }
         ensures { self.new ≡ map (rows_without_types rows.now) self.old }
     {
-        pack_each(&mut self.places, &mut self.scopes, rows);
+        pack_each(&mut self.positions, &mut self.scopes, rows);
     }
 
     /// Makes room for more scopes and bindings.
@@ -324,7 +324,7 @@ impl BindingTable {
         ensures { self.new ≡ self.old }
     {
         self.scopes.reserve(scopes)?;
-        self.places.reserve(bindings)?;
+        self.positions.reserve(bindings)?;
         Ok(())
     }
 }
@@ -335,7 +335,7 @@ impl Clone for BindingTable {
     fn clone(&self) -> Result<BindingTable, AllocError> {
         Ok(BindingTable {
             alloc: self.alloc,
-            places: self.places.clone()?,
+            positions: self.positions.clone()?,
             scopes: self.scopes.clone()?,
         })
     }

@@ -5,7 +5,7 @@ ghost use Rattle.indexmap.specs.IndexMap.{insert_entry};
 ghost use Rattle.scoping.specs.Kept.{delisted, lists_without_types};
 
 use crate::kept::retain_values;
-use crate::places::take_out;
+use crate::positions::take_out;
 use indexmap::IndexMap;
 use indexmap::map::Iter;
 use semantic_syntax::{Reference, ReferenceId};

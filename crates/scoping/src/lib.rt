@@ -9,7 +9,7 @@ pub mod kept;
 pub mod name_table;
 pub mod node_map;
 pub mod node_tables;
-pub mod places;
+pub mod positions;
 pub mod reference_iterators;
 pub mod scope_iterators;
 pub mod scope_slots;

@@ -2,7 +2,7 @@
 ghost use Rattle.std.specs.Prelude.{◌≡◌, [], true, nat_eq, MatchOption, OnOk, OnErr};
 ghost use Rattle.std.specs.Map.{lookup};
 ghost use Rattle.indexmap.specs.IndexMap.{insert_entry};
-ghost use Rattle.scoping.specs.NodeEntries.{AreRising, AreBefore, HasNone, IsPlaceOf};
+ghost use Rattle.scoping.specs.NodeEntries.{AreRising, AreBefore, HasNone, IsPositionOf};
 
 use indexmap::IndexMap;
 use semantic_syntax::NodeId;
@@ -41,12 +41,12 @@ fn is_behind<T>(entries: &[(NodeId, T)], node: NodeId) -> bool
 }
 
 /// The position of the node's entry, if any, among entries whose nodes rise.
-fn place_of<T>(entries: &[(NodeId, T)], node: NodeId) -> Option<usize>
+fn position_of<T>(entries: &[(NodeId, T)], node: NodeId) -> Option<usize>
     requires { AreRising entries.now }
-    ensures { MatchOption result (HasNone entries.now node) (IsPlaceOf entries.now node) }
+    ensures { MatchOption result (HasNone entries.now node) (IsPositionOf entries.now node) }
 {
     match entries.binary_search_by_key(&node, |entry| entry.0) {
-        Ok(place) => Some(place),
+        Ok(position) => Some(position),
         Err(_) => None,
     }
 }
@@ -66,8 +66,8 @@ impl<T: Copy> NodeMap<T> {
     pub fn get(&self, node: NodeId) -> Option<T>
         ensures { result ≡ lookup (nat_eq node) self.now }
     {
-        match place_of(&self.rising, node) {
-            Some(place) => Some(self.rising[place].1),
+        match position_of(&self.rising, node) {
+            Some(position) => Some(self.rising[position].1),
             None => self.late.get(&node).copied(),
         }
     }
@@ -81,8 +81,8 @@ impl<T: Copy> NodeMap<T> {
             self.rising.push((node, value))?;
             return Ok(());
         }
-        match place_of(&self.rising, node) {
-            Some(place) => self.rising[place].1 = value,
+        match position_of(&self.rising, node) {
+            Some(position) => self.rising[position].1 = value,
             None => {
                 self.late.insert(node, value)?;
             }

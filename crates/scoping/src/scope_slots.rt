@@ -71,10 +71,10 @@ impl ScopeSlots {
     }
 
     /// What the slot at the position binds.
-    pub fn get(&self, place: usize) -> Option<(usize, SymbolId)>
-        ensures { result ≡ slice_index_or self.now place None }
+    pub fn get(&self, position: usize) -> Option<(usize, SymbolId)>
+        ensures { result ≡ slice_index_or self.now position None }
     {
-        match self.items.get(place) {
+        match self.items.get(position) {
             Some(slot) => *slot,
             None => None,
         }
@@ -90,32 +90,32 @@ impl ScopeSlots {
     }
 
     /// Makes the slot bind the number to the symbol.
-    pub fn fill(&mut self, place: usize, number: usize, symbol: SymbolId)
-        requires { place < length self.old }
-        ensures { self.new ≡ slice_set self.old place (Some (number, symbol)) }
+    pub fn fill(&mut self, position: usize, number: usize, symbol: SymbolId)
+        requires { position < length self.old }
+        ensures { self.new ≡ slice_set self.old position (Some (number, symbol)) }
     {
         let _count = self.items.len();
-        self.empty = self.empty + count_bound(self.get(place)) - 1;
-        self.items[place] = Some((number, symbol));
+        self.empty = self.empty + count_bound(self.get(position)) - 1;
+        self.items[position] = Some((number, symbol));
     }
 
     /// Empties the slot.
-    pub fn clear(&mut self, place: usize)
-        requires { place < length self.old }
-        ensures { self.new ≡ slice_set self.old place None }
+    pub fn clear(&mut self, position: usize)
+        requires { position < length self.old }
+        ensures { self.new ≡ slice_set self.old position None }
     {
         let _count = self.items.len();
-        self.empty += count_bound(self.get(place));
-        self.items[place] = None;
+        self.empty += count_bound(self.get(position));
+        self.items[position] = None;
     }
 
     /// Drops the slots from the position on, which are empty.
-    pub fn truncate(&mut self, place: usize)
-        requires { filled (take place self.old) ≡ filled self.old }
-        ensures { self.new ≡ take place self.old }
+    pub fn truncate(&mut self, position: usize)
+        requires { filled (take position self.old) ≡ filled self.old }
+        ensures { self.new ≡ take position self.old }
     {
-        self.empty -= self.len().saturating_sub(place);
-        self.items.truncate(place);
+        self.empty -= self.len().saturating_sub(position);
+        self.items.truncate(position);
     }
 
     /// What the slots bind.

@@ -8,9 +8,9 @@ use Rattle.semantic_model.specs.NodeTable.{NodeTables, node_tables}
 use Rattle.semantic_model.specs.Step.{steps}
 use Rattle.semantic_model.specs.Swap.{swapped_tables}
 use Rattle.semantic_model.specs.TablesOf.{tables_of}
-use Rattle.semantic_model.proofs.AlikeNodes.{node_tables_renamed}
-use Rattle.semantic_model.proofs.AlikeProgram.{swap_keeps}
-use Rattle.semantic_model.proofs.AlikeTies.{tables_renamed}
+use Rattle.semantic_model.proofs.swapped.AlikeNodes.{node_tables_renamed}
+use Rattle.semantic_model.proofs.swapped.AlikeProgram.{swap_keeps}
+use Rattle.semantic_model.proofs.swapped.AlikeTies.{tables_renamed}
 use Rattle.walk_model.specs.Noted.{pairs_of}
 use Rattle.semantic_walk.specs.Begun.{BelongsToNodes}
 use Rattle.semantic.specs.SwappedNames.{ComparesNames}

@@ -4,7 +4,7 @@ ghost use Rattle.std.specs.Prelude.{◌≡◌, ◌≤◌, ◌||◌, true, false,
 ghost use Rattle.semantic_syntax.specs.Counts.{raised};
 ghost use Rattle.semantic_tree.specs.Children.{node_count};
 ghost use Rattle.semantic_model.specs.TablesOf.{tables_of};
-ghost use Rattle.count_model.specs.Asks.{asked, depths};
+ghost use Rattle.count_model.specs.Probes.{probes, depths};
 ghost use Rattle.semantic_walk.specs.Begun.{BelongsToNodes, IsAnalysis};
 ghost use Rattle.semantic_walk.specs.Listed.{kept_nodes};
 ghost use Rattle.semantic_model.specs.Label.{unused_labels};
@@ -36,7 +36,7 @@ pub struct SemanticBuilder {
 
 /// No look-up of a program asks more scopes than there are around its reference.
 fn attest_depths(program: &Program)
-    ensures { asked program.now ≤ depths (tables_of program.now) }
+    ensures { probes program.now ≤ depths (tables_of program.now) }
 {
     program.root();
 }
@@ -204,9 +204,9 @@ impl SemanticBuilder {
         ensures comments { IfOk result (λ ret. ret.semantic.comments.now ≡ program.now.comments) }
         ensures whitespace { IfOk result (λ ret. ret.semantic.irregular_whitespaces.items ≡ []) }
         ensures names { IfOk result (λ ret. ComparesNames program.now ret.semantic.scoping ret.semantic.tables) }
-        ensures cost { OnOk result (steps.new ≡ raised steps.old (asked program.now)) }
+        ensures cost { OnOk result (steps.new ≡ raised steps.old (probes program.now)) }
         ensures risen { steps.old ≤ steps.new }
-        ensures given_up { OnErr result (steps.new ≤ raised steps.old (asked program.now)) }
+        ensures given_up { OnErr result (steps.new ≤ raised steps.old (probes program.now)) }
         ensures bounded { steps.new ≤ raised steps.old (depths (tables_of program.now)) }
     {
         attest_depths(program);

@@ -32,11 +32,11 @@ pub record Declaration : Type 0 where
   pub is_pure : Bool
 
 -- the scope where it stands
-abbrev pub standing : Declaration → OpenScope
-standing d = innermost (d.passed ++ d.target ∷ [])
+abbrev pub scope_it_stands_in : Declaration → OpenScope
+scope_it_stands_in d = innermost (d.passed ++ d.target ∷ [])
 
 abbrev pub stands_in : Declaration → ℕ
-stands_in d = (standing d).number
+stands_in d = (scope_it_stands_in d).number
 
 abbrev pub body_or : ℕ → Option ℕ → ℕ
 body_or n None = n

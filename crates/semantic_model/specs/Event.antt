@@ -8,7 +8,7 @@ use Rattle.semantic_syntax.specs.Sets.{meets}
 use Rattle.semantic_tree.specs.Views.{is}
 use Rattle.semantic_model.specs.Place.{Place, OpenScope, innermost, outside, parent_holds}
 use Rattle.semantic_model.specs.Step.{Step, entering, opening, header_ending}
-use Rattle.semantic_model.specs.Declaration.{How, plain, moved, Declaration, standing, stands_in}
+use Rattle.semantic_model.specs.Declaration.{How, plain, moved, Declaration, scope_it_stands_in, stands_in}
 use Rattle.semantic_model.specs.Binder.{declared_on_entering, declared_on_opening}
 
 -- what a step declares, before it is known which block functions stay
@@ -38,7 +38,7 @@ is_barred ds d [] = false
 is_barred ds d (c ∷ cs) = any_bars d c ds || is_barred ds d cs
 
 abbrev pub staying : Declaration → Declaration
-staying d = record d { how = plain; passed = []; target = standing d }
+staying d = record d { how = plain; passed = []; target = scope_it_stands_in d }
 
 abbrev pub placed_by : How → List Declaration → Declaration → Declaration
 placed_by moved ds d = if is_barred ds d (outside d.passed) then staying d else d

@@ -75,13 +75,13 @@ abbrev pub new_symbol : ℕ → Declaration → Symbol
 new_symbol c d = record { name = d.name; span = d.span; flags = record { bits = d.flags }; scope = c; node = d.node; redeclarations = None }
 
 -- the declaration gets the symbol
-abbrev pub gets : State → Declaration → ℕ → State
-gets st d s = record st { made = st.made ++ record { declaration = d; symbol = s } ∷ [] }
+abbrev pub note_symbol : State → Declaration → ℕ → State
+note_symbol st d s = record st { made = st.made ++ record { declaration = d; symbol = s } ∷ [] }
 
 -- a new symbol, bound in the scope
 abbrev pub make : State → ℕ → Declaration → State
 make st c d =
-    gets (record st { bindings = put st.bindings c d.name (length st.symbols); symbols = st.symbols ++ new_symbol c d ∷ [] })
+    note_symbol (record st { bindings = put st.bindings c d.name (length st.symbols); symbols = st.symbols ++ new_symbol c d ∷ [] })
     d (length st.symbols)
 
 abbrev pub conflict_with : Declaration → Option Symbol → List Conflict
@@ -98,7 +98,7 @@ abbrev pub declare_in : State → ℕ → Declaration → Option ℕ → State
 declare_in st c d None = make st c d
 declare_in st c d (Some s) =
     let noted : State = against st d s in
-    gets (record noted { symbols = update (λ y. united d.flags (redeclared d y)) noted.symbols s }) d s
+    note_symbol (record noted { symbols = update (λ y. united d.flags (redeclared d y)) noted.symbols s }) d s
 
 -- the symbol that a declaration gets then
 abbrev pub chosen : State → Option ℕ → ℕ

@@ -7,10 +7,10 @@ use Rattle.semantic_model.specs.Place.{OpenScope}
 use Rattle.semantic_model.specs.Declaration.{Declaration, stands_in, How, plain, hoisted, moved, caught}
 use Rattle.semantic_model.specs.Binding.{Binding, get, put, remove, move, take_over, bound_by}
 use Rattle.semantic_model.specs.Event.{Event, declares, takes_over, ends_header}
-use Rattle.semantic_model.specs.Fold.{State, flags_of, found, update, redeclared, in_scope, gets, make, against, declare_in, chosen}
+use Rattle.semantic_model.specs.Fold.{State, flags_of, found, update, redeclared, in_scope, note_symbol, make, against, declare_in, chosen}
 
 -- a passed scope, and its symbol that counts as the variable
-pub record Hit : Type 0 where
+pub record PassedSymbol : Type 0 where
   pub scope : ℕ
   pub symbol : ℕ
 
@@ -19,19 +19,19 @@ abbrev pub counts : State → Option ℕ → Bool
 counts st None = false
 counts st (Some s) = meets (flags_of st s) symbol.ByValue.bits
 
-abbrev pub hit_or : ℕ → Option ℕ → Option Hit
-hit_or c None = None
-hit_or c (Some s) = Some (record { scope = c; symbol = s })
+abbrev pub passed_symbol_or : ℕ → Option ℕ → Option PassedSymbol
+passed_symbol_or c None = None
+passed_symbol_or c (Some s) = Some (record { scope = c; symbol = s })
 
 -- the first passed scope with a symbol that counts
-abbrev pub hit : State → List OpenScope → Name → Option Hit
-hit st [] x = None
-hit st (c ∷ cs) x = let s : Option ℕ = found st c.number x in cond (counts st s) (hit_or c.number s) (hit st cs x)
+abbrev pub passed_symbol : State → List OpenScope → Name → Option PassedSymbol
+passed_symbol st [] x = None
+passed_symbol st (c ∷ cs) x = let s : Option ℕ = found st c.number x in cond (counts st s) (passed_symbol_or c.number s) (passed_symbol st cs x)
 
 -- the symbols that are asked on the way there
-abbrev pub asked : State → List OpenScope → Name → List ℕ
-asked st [] x = []
-asked st (c ∷ cs) x = let s : Option ℕ = found st c.number x in with_found s (cond (counts st s) [] (asked st cs x))
+abbrev pub asked_symbols : State → List OpenScope → Name → List ℕ
+asked_symbols st [] x = []
+asked_symbols st (c ∷ cs) x = let s : Option ℕ = found st c.number x in with_found s (cond (counts st s) [] (asked_symbols st cs x))
   where
     with_found : Option ℕ → List ℕ → List ℕ
     with_found None later = later
@@ -55,17 +55,17 @@ move_symbol st c t x s (Some r) = st
 move_symbol st c t x s None =
     record st { bindings = put (remove st.bindings c x) t x s; symbols = update (in_scope t) st.symbols s }
 
-abbrev pub hoist_by : State → Declaration → Option Hit → State
+abbrev pub hoist_by : State → Declaration → Option PassedSymbol → State
 hoist_by st d None =
     let s : Option ℕ = found st d.target.number d.name in
     remembering (declare_in st d.target.number d s) d.passed d.name (chosen st s)
 hoist_by st d (Some h) =
-    let st' : State = gets (record st { symbols = update (redeclared d) st.symbols h.symbol }) d h.symbol in
+    let st' : State = note_symbol (record st { symbols = update (redeclared d) st.symbols h.symbol }) d h.symbol in
     remembering (move_symbol st' h.scope d.target.number d.name h.symbol (get st'.bindings d.target.number d.name)) d.passed d.name h.symbol
 
 -- a `var` is the symbol of a passed scope that counts, else it is declared in its target
 abbrev pub hoist : State → Declaration → State
-hoist st d = hoist_by (against_all st d (asked st d.passed d.name)) d (hit st d.passed d.name)
+hoist st d = hoist_by (against_all st d (asked_symbols st d.passed d.name)) d (passed_symbol st d.passed d.name)
 
 -- a block function's binding moves out of block c, if the target lacks the name; the block remembers it
 abbrev pub move_out : State → ℕ → ℕ → Name → ℕ → Option ℕ → State

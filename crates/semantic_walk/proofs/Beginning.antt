@@ -31,15 +31,15 @@ use Rattle.walk_model.specs.NamedScopes.{AllNamed}
 use Rattle.walk_model.specs.Opens.{open_in, open_scope}
 use Rattle.walk_model.specs.Recursion.{IsBetween}
 use Rattle.walk_model.specs.Settles.{settle_rest}
-use Rattle.walk_model.specs.Standing.{Standing, no_tables, nothing_made}
+use Rattle.walk_model.specs.WalkState.{WalkState, no_tables, nothing_made}
 use Rattle.walk_model.specs.Walks.{after, after_all, walked}
 use Rattle.walk_model.specs.WrittenNames.{Written}
-use Rattle.walk_model.proofs.GivesTables.{gives_tables}
-use Rattle.walk_model.proofs.NamesStand.{names_stand}
-use Rattle.walk_model.proofs.NotedOnce.{notes_once}
-use Rattle.walk_model.proofs.RootSteps.{root_enters, root_scope, root_made, root_walked}
-use Rattle.walk_model.proofs.Seats.{root_is_program}
-use Rattle.walk_model.proofs.WalkTurns.{root_between}
+use Rattle.walk_model.proofs.refers.GivesTables.{gives_tables}
+use Rattle.walk_model.proofs.written.NamesStand.{names_stand}
+use Rattle.walk_model.proofs.once.NotedOnce.{notes_once}
+use Rattle.walk_model.proofs.turns.RootSteps.{root_enters, root_scope, root_made, root_walked}
+use Rattle.walk_model.proofs.turns.Seats.{root_is_program}
+use Rattle.walk_model.proofs.turns.WalkTurns.{root_between}
 use Rattle.count_laws.specs.Room.{HasRoom}
 use Rattle.count_laws.proofs.ProgramRoom.{program_room}
 use Rattle.count_laws.proofs.Rooms.{room_first}
@@ -107,11 +107,11 @@ entered_is : (ds : List Declaration) (p : Place) → p.node.kind ≡ kind.Progra
 entered_is ds p e = root_enters ds (open_scope nothing_made p (root_scope p)) p e ∙ sym (made_is ds p e)
 
 none_waits : (ds : List Declaration) (p : Place) → p.node.kind ≡ kind.Program → length (root_made ds p).waiting ≡ 0
-none_waits ds p e = ap (λ (v : Standing). length v.waiting) (made_is ds p e)
+none_waits ds p e = ap (λ (v : WalkState). length v.waiting) (made_is ds p e)
 
-between : (p : Place) (cursor : ℕ) (f : Forest) (v w : Standing) → w ≡ v → length v.waiting ≡ 0 → IsBetween v p (Some (root_scope p)) 1 cursor 0 f → IsBetween w p (Some (root_scope p)) 1 cursor (length w.waiting) f
+between : (p : Place) (cursor : ℕ) (f : Forest) (v w : WalkState) → w ≡ v → length v.waiting ≡ 0 → IsBetween v p (Some (root_scope p)) 1 cursor 0 f → IsBetween w p (Some (root_scope p)) 1 cursor (length w.waiting) f
 between p cursor f v w e none h =
-    subst (λ (u : Standing). IsBetween u p (Some (root_scope p)) 1 cursor (length u.waiting) f) (sym e)
+    subst (λ (u : WalkState). IsBetween u p (Some (root_scope p)) 1 cursor (length u.waiting) f) (sym e)
     (subst (λ (n : ℕ). IsBetween v p (Some (root_scope p)) 1 cursor n f) (sym none) h)
 
 -- the root is to be entered first
@@ -123,7 +123,7 @@ root_next program numbered true = record { next = ap (λ (x : Node). x.node_id) 
 root_ready : (program : Tree) → first_fault program ≡ None → IsNumbered program.root → (on : Bool) → on ≡ true
     → IsReadyAt (encode_utf8_all program.source) (open_scope nothing_made (root_place program) (opened_scope (root_place program) 0)) (nothing_noted on).classes (root_place program)
 root_ready program fits numbered on noted =
-    let opened : Standing = open_scope nothing_made (root_place program) (opened_scope (root_place program) 0) in
+    let opened : WalkState = open_scope nothing_made (root_place program) (opened_scope (root_place program) 0) in
     subst (λ (b : Bool). IsReadyAt (encode_utf8_all program.source) opened (nothing_noted b).classes (root_place program)) (sym noted) (ready_begins program fits numbered opened no_keys)
 
 -- the walk comes to the root
@@ -165,25 +165,25 @@ pub root_done : (ds : List Declaration) (program : Tree) (states : List Instance
     → (walked_within ds (begun program states ws keeps on checks) (root_place program) (Some (root_scope (root_place program))) 1).made
     ≡ after_all ds (root_made ds (root_place program)) (steps_below (root_place program) (Some (root_scope (root_place program))) 1 (on_entering program.root.kind 0) program.root.children)
 root_done ds program states ws keeps on checks e =
-    ap (λ (v : Standing). after_all ds v (steps_below (root_place program) (Some (root_scope (root_place program))) 1 (on_entering program.root.kind 0) program.root.children)) (entered_is ds (root_place program) e)
+    ap (λ (v : WalkState). after_all ds v (steps_below (root_place program) (Some (root_scope (root_place program))) 1 (on_entering program.root.kind 0) program.root.children)) (entered_is ds (root_place program) e)
 
 -- which is the walk over the program
-pub root_walks : (program : Tree) → first_fault program ≡ None → (states : List InstanceState) (ws : List Written) (keeps on checks : Bool) → (made : Standing)
+pub root_walks : (program : Tree) → first_fault program ≡ None → (states : List InstanceState) (ws : List Written) (keeps on checks : Bool) → (made : WalkState)
     → made ≡ (root_within program (begun program states ws keeps on checks)).made → settle_rest made ≡ walked program
 root_walks program fits states ws keeps on checks made is =
     ap settle_rest (is ∙ root_done (written_declarations (steps program)) program states ws keeps on checks (root_is_program program fits)) ∙ sym (root_walked program (root_is_program program fits))
 
 -- so it has the tables of the program
-pub root_tables : (program : Tree) → first_fault program ≡ None → (made : Standing) → made ≡ walked program → made.tables ≡ tables_of program
-root_tables program fits made e = ap (λ (v : Standing). v.tables) e ∙ gives_tables program fits
+pub root_tables : (program : Tree) → first_fault program ≡ None → (made : WalkState) → made ≡ walked program → made.tables ≡ tables_of program
+root_tables program fits made e = ap (λ (v : WalkState). v.tables) e ∙ gives_tables program fits
 
-pub root_nodes : (program : Tree) → first_fault program ≡ None → IsNumbered program.root → (made : Standing) → made ≡ walked program → BelongsToNodes program made.nodes
+pub root_nodes : (program : Tree) → first_fault program ≡ None → IsNumbered program.root → (made : WalkState) → made ≡ walked program → BelongsToNodes program made.nodes
 root_nodes program fits numbered made e =
     let once : NotesOnce program (walked program) = notes_once program fits numbered in
-    subst (λ (v : Standing). BelongsToNodes program v.nodes) (sym e) (record { scopes = once.scopes; symbols = once.symbols; references = once.references })
+    subst (λ (v : WalkState). BelongsToNodes program v.nodes) (sym e) (record { scopes = once.scopes; symbols = once.symbols; references = once.references })
 
 -- the root's scope, as the walk opens it
-pub made_first : (program : Tree) → program.root.kind ≡ kind.Program → (d made : Standing) (root : Node) (from : SourceType) (flags : ℕ) → d ≡ nothing_made → root ≡ program.root → from ≡ program.source_type
+pub made_first : (program : Tree) → program.root.kind ≡ kind.Program → (d made : WalkState) (root : Node) (from : SourceType) (flags : ℕ) → d ≡ nothing_made → root ≡ program.root → from ≡ program.source_type
     → flags ≡ union flag.Top.bits (strict_if (is_module from || has_use_strict root)) → made ≡ open_in d None root.node_id (length d.tables.scopes) flags → made ≡ open_scope nothing_made (root_place program) (root_scope (root_place program))
 made_first program k d made root from flags none is typed e first =
     first ∙ (λ i. open_in (none i) None (is i).node_id (length (none i).tables.scopes) (all i))

@@ -15,10 +15,10 @@ use Rattle.semantic_model.specs.Declaration.{Declaration}
 use Rattle.semantic_model.specs.Step.{entering}
 use Rattle.semantic_model.specs.TablesOf.{is_direct_eval}
 use Rattle.semantic_model.specs.Binder.{declared_on_entering}
-use Rattle.semantic_model.proofs.Clauses.{kind_is}
-use Rattle.walk_model.specs.Standing.{Standing}
+use Rattle.semantic_model.proofs.form.Clauses.{kind_is}
+use Rattle.walk_model.specs.WalkState.{WalkState}
 use Rattle.walk_model.specs.Opens.{add_eval, note_eval, refer_to, refer, note_reference}
-use Rattle.walk_model.proofs.ChainRows.{chain_kept, prepare_rows}
+use Rattle.walk_model.proofs.turns.ChainsShown.{chain_kept, prepare_rows}
 use Rattle.semantic_walk.specs.Walker.{Walker, noting_node, referring}
 use Rattle.node_store.specs.Entered.{Entered}
 use Rattle.node_store.specs.Entered as store
@@ -58,7 +58,7 @@ module _ (ds : List Declaration) (w : Walker) (p : Place) (comes : ComesTo w p) 
       (ap (λ k. on_entering k w.cursor) (kind_is p.node.kind kind.IdentifierReference h) ∙ comes.cursor)
   referred false h = refl
 
-  called : (b : Bool) (m : Standing) → ◌≡◌ {A = Walker} (cond b (record (stepped p.node) { made = add_eval m w.current }) (record (stepped p.node) { made = m })) (record (stepped p.node) { made = cond b (add_eval m (at p)) m })
+  called : (b : Bool) (m : WalkState) → ◌≡◌ {A = Walker} (cond b (record (stepped p.node) { made = add_eval m w.current }) (record (stepped p.node) { made = m })) (record (stepped p.node) { made = cond b (add_eval m (at p)) m })
   called true m = ap (λ n. record (stepped p.node) { made = add_eval m n }) comes.current
   called false m = refl
 

@@ -21,7 +21,7 @@ use Rattle.semantic_tree.specs.Views.{is, has}
 use Rattle.semantic_model.specs.Place.{Place, OpenScope, innermost, outside, at}
 use Rattle.semantic_model.specs.ScopeKind.{opened_scope}
 use Rattle.semantic_model.specs.Step.{opening, closing, opening_at, opening_last, ending_after, scope_at, chain_within, child_place}
-use Rattle.walk_model.specs.Standing.{Standing}
+use Rattle.walk_model.specs.WalkState.{WalkState}
 use Rattle.walk_model.specs.Waits.{start_at}
 use Rattle.walk_model.specs.Walks.{after_all}
 use Rattle.walk_notes.specs.NoteLists.{is_noted, is_noted_behind}
@@ -165,7 +165,7 @@ module _ (p : Place) (even : acts_between p.node.kind ≡ false) where
     same_scope (Some s) = refl
     same_scope None = ap (λ b. cond b (Some (opened_scope p n)) None) stays_outside
 
-    same_start : (own : Option OpenScope) (start : ℕ) (made : Standing) → start_at p r own start made ≡ start
+    same_start : (own : Option OpenScope) (start : ℕ) (made : WalkState) → start_at p r own start made ≡ start
     same_start (Some s) start made = refl
     same_start None start made = rw stays_outside refl
 

@@ -22,14 +22,14 @@ use Rattle.semantic_model.specs.Step.{Step, entering, opening, header_ending, cl
 use Rattle.walk_model.specs.Noted.{with_entry}
 use Rattle.walk_model.specs.Opens.{number_of, open_scope}
 use Rattle.walk_model.specs.Shown.{ShowsChain, IsGrounded}
-use Rattle.walk_model.specs.Standing.{Standing, nothing_made}
+use Rattle.walk_model.specs.WalkState.{WalkState, nothing_made}
 use Rattle.walk_model.specs.Walks.{numbers, act_all, after, after_all}
-use Rattle.walk_model.proofs.ChainRows.{acts_rows, step_rows}
-use Rattle.walk_model.proofs.Grounds.{AllGrounded, all_grounded}
-use Rattle.walk_model.proofs.Nested.{Descends, AreNested, open_past, seen_past, seen_after}
-use Rattle.walk_model.proofs.Represents.{Represents, with_noted}
-use Rattle.walk_model.proofs.Routes.{AllGoOut}
-use Rattle.walk_model.proofs.Simulated.{declares_as, entering_as, steps_as, nothing_as, program_nested}
+use Rattle.walk_model.proofs.turns.ChainsShown.{acts_rows, step_rows}
+use Rattle.walk_model.proofs.places.Grounds.{AllGrounded, all_grounded}
+use Rattle.walk_model.proofs.places.Nested.{Descends, AreNested, open_past, seen_past, seen_after}
+use Rattle.walk_model.proofs.shows.Represents.{Represents, with_noted}
+use Rattle.walk_model.proofs.places.Routes.{AllGoOut}
+use Rattle.walk_model.proofs.declares.Simulated.{declares_as, entering_as, steps_as, nothing_as, program_nested}
 use Rattle.count_laws.proofs.Growth.{declares_add, step_adds}
 use Rattle.count_laws.specs.Room.{opened_by}
 use Rattle.semantic_walk.specs.Folded.{ShowsFold}
@@ -41,13 +41,13 @@ noted_from es (m ∷ ms) = noted_from (with_noted es m) ms
 
 -- the same by the model's words
 
-represents : (w : Standing) (st : State) → ShowsFold w st → Represents (length w.tables.scopes) w st
+represents : (w : WalkState) (st : State) → ShowsFold w st → Represents (length w.tables.scopes) w st
 represents w st h = record {
   shows = record { scopes = h.scopes; bindings = h.bindings; single = h.once; symbols = h.symbols; remembered = h.remembered; conflicts = h.conflicts; uses = h.uses };
   notes = record { pure_is = h.pure_symbols; nodes_are = h.nodes ∙ sym (noted_from [] st.made) };
 }
 
-shows : (n : ℕ) (w : Standing) (st : State) → length w.tables.scopes ≡ n → Represents n w st → ShowsFold w st
+shows : (n : ℕ) (w : WalkState) (st : State) → length w.tables.scopes ≡ n → Represents n w st → ShowsFold w st
 shows n w st e h = record {
   scopes = h.shows.scopes ∙ sym e;
   bindings = h.shows.bindings;
@@ -61,7 +61,7 @@ shows n w st e h = record {
 }
 
 -- no scope opens where names are declared
-same_scopes : (ds new : List Declaration) (w : Standing) → length (act_all w (declares_all ds new)).tables.scopes ≡ length w.tables.scopes
+same_scopes : (ds new : List Declaration) (w : WalkState) → length (act_all w (declares_all ds new)).tables.scopes ≡ length w.tables.scopes
 same_scopes ds new w = omega (arith, (declares_add ds new w).of_scopes, (acts_rows w (declares_all ds new)).longer)
 
 -- the scopes of a chain that is shown have smaller numbers, one after another
@@ -74,11 +74,11 @@ first_within t [] h = tt
 first_within t (s ∷ ss) h = h.0.within
 
 -- what a node declares on entering
-pub folds_entering : (ds : List Declaration) (w v : Standing) (p : Place) (st : State) → IsGrounded p → ShowsChain w.tables p.chain → v ≡ act_all w (declares_all ds (declared_on_entering p)) → ShowsFold w st
+pub folds_entering : (ds : List Declaration) (w v : WalkState) (p : Place) (st : State) → IsGrounded p → ShowsChain w.tables p.chain → v ≡ act_all w (declares_all ds (declared_on_entering p)) → ShowsFold w st
     → ShowsFold v (run st (declares_all ds (declared_on_entering p)))
 folds_entering ds w v p st grounded chain e h =
     let n : ℕ = length w.tables.scopes in
-    subst (λ (u : Standing). ShowsFold u (run st (declares_all ds (declared_on_entering p)))) (sym e)
+    subst (λ (u : WalkState). ShowsFold u (run st (declares_all ds (declared_on_entering p)))) (sym e)
     (shows n (act_all w (declares_all ds (declared_on_entering p))) (run st (declares_all ds (declared_on_entering p))) (same_scopes ds (declared_on_entering p) w)
     (entering_as n ds w st p grounded (descends_from w.tables n p.chain (first_within w.tables p.chain chain) chain) (represents w st h)))
 
@@ -99,11 +99,11 @@ own_goes kind.TSMappedType p own = own_row own p.node (binder.type_parameter_row
 own_goes _ p own = tt
 
 -- and what it declares in its own scope
-pub folds_opening : (ds : List Declaration) (w v : Standing) (p : Place) (own : OpenScope) (st : State) → own.number < length w.tables.scopes → v ≡ act_all w (declares_all ds (declared_on_opening p own)) → ShowsFold w st
+pub folds_opening : (ds : List Declaration) (w v : WalkState) (p : Place) (own : OpenScope) (st : State) → own.number < length w.tables.scopes → v ≡ act_all w (declares_all ds (declared_on_opening p own)) → ShowsFold w st
     → ShowsFold v (run st (declares_all ds (declared_on_opening p own)))
 folds_opening ds w v p own st within e h =
     let n : ℕ = length w.tables.scopes in
-    subst (λ (u : Standing). ShowsFold u (run st (declares_all ds (declared_on_opening p own)))) (sym e)
+    subst (λ (u : WalkState). ShowsFold u (run st (declares_all ds (declared_on_opening p own)))) (sym e)
     (shows n (act_all w (declares_all ds (declared_on_opening p own))) (run st (declares_all ds (declared_on_opening p own))) (same_scopes ds (declared_on_opening p own) w)
     (declares_as n (own ∷ []) w st ds (declared_on_opening p own) (own_goes p.node.kind p own) (within, tt) (represents w st h)))
 
@@ -118,7 +118,7 @@ grounded_first [] ys h = tt
 grounded_first (x ∷ xs) ys h = (h.0, grounded_first xs ys h.1)
 
 -- each step opens the scopes that it should, and no more
-step_scopes : (ds : List Declaration) (w : Standing) (step : Step) → length (after ds w step).tables.scopes ≡ length w.tables.scopes + opened_by step
+step_scopes : (ds : List Declaration) (w : WalkState) (step : Step) → length (after ds w step).tables.scopes ≡ length w.tables.scopes + opened_by step
 step_scopes ds w (entering p) = omega (arith, (step_rows ds w (entering p)).longer, (step_adds ds w (entering p)).of_scopes)
 step_scopes ds w (opening p s) =
     omega (
@@ -131,7 +131,7 @@ step_scopes ds w (header_ending p s) = omega (arith, (step_rows ds w (header_end
 step_scopes ds w (closing p s) = omega (arith, (step_rows ds w (closing p s)).longer, (step_adds ds w (closing p s)).of_scopes)
 step_scopes ds w (leaving p) = omega arith
 
-all_scopes : (ds : List Declaration) (w : Standing) (ss : List Step) (seen : List (List ℕ)) → length w.tables.scopes ≡ length seen → length (after_all ds w ss).tables.scopes ≡ length (seen_after seen ss)
+all_scopes : (ds : List Declaration) (w : WalkState) (ss : List Step) (seen : List (List ℕ)) → length w.tables.scopes ≡ length seen → length (after_all ds w ss).tables.scopes ≡ length (seen_after seen ss)
 all_scopes ds w [] seen e = e
 all_scopes ds w (step ∷ ss) seen e = all_scopes ds (after ds w step) ss (seen_past seen step) (by step (step_scopes ds w step))
   where

@@ -1,6 +1,6 @@
 -- Where a walk stands between two children, in tables that grow.
 use Rattle.std.proofs.Common.{ℕ, ◌<◌, ◌≤◌, Option, Some, None, IfSome, arith}
-use Rattle.walk_model.specs.Standing.{Standing}
+use Rattle.walk_model.specs.WalkState.{WalkState}
 use Rattle.table_building.specs.Growth.{Goes}
 use Rattle.table_building.proofs.Growing.{grows-refl, grows-trans, goes-refl, goes-trans, waiting_grows}
 use Rattle.semantic_walk.specs.declared.visit.Turn.{Turn}
@@ -10,7 +10,7 @@ turn-goes-own : (m n : ℕ) (own : Option ℕ) → m ≤ n → IfSome own (λ s.
 turn-goes-own m n None h below = tt
 turn-goes-own m n (Some s) h below = omega (arith, h, below)
 
-pub turn-goes : (w v : Standing) (turn : Turn) → Goes w v → IsTurn w turn → IsTurn v turn
+pub turn-goes : (w v : WalkState) (turn : Turn) → Goes w v → IsTurn w turn → IsTurn v turn
 turn-goes w v turn g h = record {
   outer = omega (arith, g.tables.scopes, h.outer);
   own = turn-goes-own _ _ turn.own g.tables.scopes h.own;

@@ -12,9 +12,9 @@ use Rattle.semantic_model.specs.Step.{opening_last}
 use Rattle.node_store.specs.Entered.{leaving}
 use Rattle.walk_notes.specs.NoteLists.{leaving as leaving_notes}
 use Rattle.walk_model.specs.Shown.{HasVar, IsGrounded}
-use Rattle.walk_model.specs.Standing.{Standing}
+use Rattle.walk_model.specs.WalkState.{WalkState}
 use Rattle.walk_model.specs.Walks.{after_all}
-use Rattle.walk_model.proofs.ChainRows.{chain_after_all}
+use Rattle.walk_model.proofs.turns.ChainsShown.{chain_after_all}
 use Rattle.check_walk.specs.Leaving.{IsHandedAt}
 use Rattle.check_walk.specs.Ready.{IsReadyAt}
 use Rattle.check_walk.specs.SoFar.{Telling}
@@ -62,12 +62,12 @@ leaves ds first p own n w last turn before now c h e =
     })
 
 -- what the walk hands to a check is its own at the place
-pub handed_at : (w : Walker) (p : Place) → IsLeaving w p → w.checks ≡ true → (made : Standing) → w.made ≡ made → (source : List ℕ) → w.source ≡ source → IsHandedAt (context_of w p.node) source made p
+pub handed_at : (w : Walker) (p : Place) → IsLeaving w p → w.checks ≡ true → (made : WalkState) → w.made ≡ made → (source : List ℕ) → w.source ≡ source → IsHandedAt (context_of w p.node) source made p
 handed_at w p h on made is source from = record {
   source_is = from;
   source_type = h.within.source_type;
-  tables = ap (λ (v : Standing). v.tables) is;
-  nodes = ap (λ (v : Standing). v.nodes) is;
+  tables = ap (λ (v : WalkState). v.tables) is;
+  nodes = ap (λ (v : WalkState). v.nodes) is;
   path = drop_turned w.path p.path p.node h.within.path;
   current = h.within.current;
   is_ambient = ap (ambient_inside p.node) h.is_ambient;

@@ -17,7 +17,7 @@ use Rattle.semantic_tree.specs.Views.{has_role}
 use Rattle.semantic_model.specs.Place.{Place, OpenScope, at}
 use Rattle.semantic_model.specs.ScopeKind.{opened_scope}
 use Rattle.semantic_model.specs.Step.{Step, entering, opening, header_ending, closing, leaving, steps_below, opening_at, ending_after, opening_last, scope_at, next_at, child_place, root_place, steps}
-use Rattle.semantic_model.proofs.Members.{among_left, among_right, among_cases}
+use Rattle.semantic_model.proofs.lists.Members.{among_left, among_right, among_cases}
 use Rattle.node_store.specs.NodeList.{NodeList, SeenNode, node_at}
 use Rattle.node_store.specs.Outward.{outward_within, above, numbered_of, kinds_of}
 use Rattle.node_store.specs.PathIn.{path_in}

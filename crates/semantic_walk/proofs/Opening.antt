@@ -21,12 +21,12 @@ use Rattle.semantic_model.specs.Declaration.{Declaration}
 use Rattle.semantic_model.specs.Binder.{declared_on_opening}
 use Rattle.semantic_model.specs.Event.{takes_over, is_catch_body, taken_over, declares_all}
 use Rattle.semantic_model.specs.Step.{opening}
-use Rattle.walk_model.specs.Standing.{Standing}
+use Rattle.walk_model.specs.WalkState.{WalkState}
 use Rattle.walk_model.specs.Opens.{open_in, open_scope}
 use Rattle.walk_model.specs.Walks.{after, act_all}
 use Rattle.walk_model.specs.Shown.{ShowsChain, HasVar}
-use Rattle.walk_model.proofs.TurnParts.{opened_as}
-use Rattle.walk_model.proofs.RowsActed.{acts-append}
+use Rattle.walk_model.proofs.turns.TurnParts.{opened_as}
+use Rattle.walk_model.proofs.turns.RowEvents.{acts-append}
 use Rattle.semantic_walk.specs.Paths.{parent_in}
 use Rattle.semantic_walk.specs.Walker.{Walker, place_in, opening_in, taking_over}
 use Rattle.semantic_walk.specs.AtPlace.{IsWithin}
@@ -38,11 +38,11 @@ last_binds_nothing [] (suc n) e = absurd (omega (arith, e))
 last_binds_nothing (bs ∷ lists) zero e = absurd (omega (arith, e))
 last_binds_nothing (bs ∷ lists) (suc n) e = last_binds_nothing lists n (omega (arith, e))
 
-pub new_binds_nothing : {E : Type 0} (r : Result ℕ E) (w v made : Standing) (t : Tables) → made.tables.bindings ≡ w.tables.bindings ++ [] ∷ []
+pub new_binds_nothing : {E : Type 0} (r : Result ℕ E) (w v made : WalkState) (t : Tables) → made.tables.bindings ≡ w.tables.bindings ++ [] ∷ []
     → t ≡ w.tables → length t.bindings ≡ length t.scopes → OnOk r (v ≡ made) → IfOk r (λ s. s ≡ length w.tables.scopes) → IfOk r (λ s. bindings_of v.tables s ≡ [])
 new_binds_nothing (Ok s) w v made t more same counted makes number =
     let lists : length w.tables.bindings ≡ length w.tables.scopes = subst (λ (u : Tables). length u.bindings ≡ length u.scopes) same counted in
-    let now : v.tables.bindings ≡ w.tables.bindings ++ [] ∷ [] = ap (λ (u : Standing). u.tables.bindings) makes ∙ more in
+    let now : v.tables.bindings ≡ w.tables.bindings ++ [] ∷ [] = ap (λ (u : WalkState). u.tables.bindings) makes ∙ more in
     rw (now, number) (last_binds_nothing w.tables.bindings (length w.tables.scopes) lists)
 new_binds_nothing (Err e) w v made t more same counted makes number = tt
 
@@ -122,7 +122,7 @@ module _ (w : Walker) (p : Place) (r : Role) (node : Node) (same : p.node ≡ no
         ∙ sym (opened_as w.made p count refl shown (stands_somewhere p.chain var))
 
     -- what is made once a catch clause's body has taken over what the clause binds
-    abbrev taken : Standing
+    abbrev taken : WalkState
     taken = act_all (open_scope w.made p own) (taken_over p own)
 
     takes_here : ◌≡◌ {A = Walker} (cond (is_catch_body (place_in w r node)) (taking_over (record w { made = opening_in w r node }) count) (record w { made = opening_in w r node })) (record w { made = taken })
@@ -135,7 +135,7 @@ module _ (w : Walker) (p : Place) (r : Role) (node : Node) (same : p.node ≡ no
         by true = λ i. record w { made = record (opens_here i) { tables = writing.taken_over (opens_here i).tables (h.current i) count } }
         by false = λ i. record w { made = opens_here i }
 
-    abbrev with_made : Standing → Walker
+    abbrev with_made : WalkState → Walker
     with_made v = record w { made = v; current = count }
 
     -- the scope is made, takes over, is gone into and gets what the node declares inside
@@ -153,4 +153,4 @@ module _ (w : Walker) (p : Place) (r : Role) (node : Node) (same : p.node ≡ no
         subst (λ (v : Walker). IsWithin v p (own ∷ [])) (sym went) (record { source_type = h.source_type; path = h.path; current = refl }) in
         declares inside
         ∙ (λ i. record (went i) { made = act_all (went i).made (declares_all ds (declared_on_opening p own)) })
-        ∙ ap (λ (v : Standing). with_made v) (sym (acts-append (open_scope w.made p own) (taken_over p own) (declares_all ds (declared_on_opening p own))))
+        ∙ ap (λ (v : WalkState). with_made v) (sym (acts-append (open_scope w.made p own) (taken_over p own) (declares_all ds (declared_on_opening p own))))

@@ -18,9 +18,9 @@ use Rattle.walk_notes.proofs.Unnoted.{leaves_nothing}
 use Rattle.node_store.specs.Entered.{Entered}
 use Rattle.check_walk.specs.SoFar.{Telling}
 use Rattle.check_walk.specs.TellingAlong.{telling_along, telling_past}
-use Rattle.count_model.specs.Asks.{asked_by_steps}
+use Rattle.count_model.specs.Probes.{probes_of_steps}
 use Rattle.count_model.proofs.StepSums.{raised_none}
-use Rattle.semantic_walk.specs.AtPlace.{IsComing, entered, kept_at, told_within, walked_within, walked_over, asked_over}
+use Rattle.semantic_walk.specs.AtPlace.{IsComing, entered, kept_at, told_within, walked_within, walked_over, probes_over}
 use Rattle.semantic_walk.specs.EvenKinds.{acts_between, is_quiet, is_leaf, stands_alike}
 use Rattle.semantic_walk.specs.Leaving.{IsLeaving}
 use Rattle.semantic_walk.specs.Listed.{all_listed}
@@ -55,7 +55,7 @@ module _ (ds : List Declaration) (w : Walker) (p : Place) (own : Option OpenScop
   pub leaves_alone : IsLeaving v p
   leaves_alone = let h : Rests ds w p own n 0 0 v first_turn nothing = rests_alone 0 in leaves ds w p own n v v first_turn 0 0 coming h (none_opens h.scope h.next)
 
-  pub asks_alone : (before : ℕ) → before ≡ raised before (asked_over ds w p own n)
+  pub asks_alone : (before : ℕ) → before ≡ raised before (probes_over ds w p own n)
   asks_alone before = rests_end ds w p own n before before v first_turn (rests_alone before)
 
 -- a quiet leaf, where no early error is told and no node is kept
@@ -64,8 +64,8 @@ module _ (ds : List Declaration) (w : Walker) (p : Place) (n : ℕ) (coming : Is
   none_below = ap (λ (f : Forest). steps_below p None n (on_entering p.node.kind p.cursor) f) leaf ∙ none_last p (quiet_between p.node.kind quiet) None n
 
   -- it asks nothing
-  pub asks_none : asked_over ds w p None n ≡ 0
-  asks_none = ap (λ (xs : List Step). asked_by_steps ds (entered ds w p) xs) none_below
+  pub asks_none : probes_over ds w p None n ≡ 0
+  asks_none = ap (λ (xs : List Step). probes_of_steps ds (entered ds w p) xs) none_below
 
   abbrev stepped : Walker
   stepped = record (noting_node w p.node) { path = w.path ++ p.node ∷ []; cursor = on_entering p.node.kind w.cursor }
@@ -141,8 +141,8 @@ rests_passed ds first p own n child rest w turn before now h passed =
     let back : w ≡ record w { current = turn.outer; is_ambient = turn.is_ambient } =
     λ i. record w { current = (h.between.within.current ∙ sym h.between.stands.outer) i; is_ambient = (h.between.is_ambient ∙ sym h.between.stands.is_ambient) i } in
     let ended = ends_alike ds w w turn p scope (start_at p child.0 h.scope h.start w.made) w.cursor p.node.kind child.0 (forest_of rest) refl still stands.1 back in
-    let child_asks : now ≡ raised now (asked_over ds w place None next) = sym (raised_none now) ∙ ap (raised now) (sym (asks_none ds w place next comes known.quiet known.leaf)) in
-    let end_asks : now ≡ raised now (asked_by_steps ds w.made (ending_after p child.0 scope (forest_of rest))) =
-    sym (raised_none now) ∙ ap (λ (xs : List Step). raised now (asked_by_steps ds w.made xs)) (sym (none_ends p even child.0 scope (forest_of rest))) in
+    let child_asks : now ≡ raised now (probes_over ds w place None next) = sym (raised_none now) ∙ ap (raised now) (sym (asks_none ds w place next comes known.quiet known.leaf)) in
+    let end_asks : now ≡ raised now (probes_of_steps ds w.made (ending_after p child.0 scope (forest_of rest))) =
+    sym (raised_none now) ∙ ap (λ (xs : List Step). raised now (probes_of_steps ds w.made xs)) (sym (none_ends p even child.0 scope (forest_of rest))) in
     let asks = left_past ds p h.scope h.next h.cursor h.start child rest w w w stands.0 over w now now now ended child_asks end_asks in
     rests_past ds first p own n child rest w w w w turn turn before now now h stands.0 stands.1 over ended asks

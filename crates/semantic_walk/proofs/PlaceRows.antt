@@ -21,12 +21,12 @@ use Rattle.semantic_model.specs.Declaration.{Declaration, plain, hoisted, caught
 use Rattle.semantic_model.specs.Event.{declares, placed, declares_all}
 use Rattle.semantic_model.specs.Binder as binder
 use Rattle.semantic_model.specs.Binder.{declare_here, ids, is_var, is_conditional, is_clause, is_statement, marked_ambient, lexical_flags, variable_row, variables_under, is_pure_declarator, is_block_function, function_row, own_function_row, parameter_excluded, parameters_under, import_flags, imports, catch_names, member_named, member_names, named_member, type_parameter_route, type_parameter_row, namespace_row, declared_by, declared_on_entering}
-use Rattle.walk_model.specs.Standing.{Standing}
+use Rattle.walk_model.specs.WalkState.{WalkState}
 use Rattle.walk_model.specs.Declares.{declare, declare_anew}
 use Rattle.walk_model.specs.Shown.{IsOther, ShowsChain, HasVar}
 use Rattle.walk_model.specs.Walks.{act_all}
-use Rattle.walk_model.proofs.RowsActed.{acts-append}
-use Rattle.walk_model.proofs.ChainWays.{flags_at}
+use Rattle.walk_model.proofs.turns.RowEvents.{acts-append}
+use Rattle.walk_model.proofs.turns.ChainWays.{flags_at}
 use Rattle.node_rules.specs.declared.rows.Row.{Row}
 use Rattle.node_rules.specs.Seen.{IsRow, path_of, under}
 use Rattle.table_building.specs.Named.{named_by, member_naming, caught_naming, pattern_naming}
@@ -148,16 +148,16 @@ module _ (ds : List Declaration) (p : Place) where
   home = (innermost p.chain).number
 
   -- what is declared first, and then more
-  acts_both : (w : Standing) (xs ys : List Declaration) → act_all w (declares_all ds (xs ++ ys)) ≡ act_all (act_all w (declares_all ds xs)) (declares_all ds ys)
+  acts_both : (w : WalkState) (xs ys : List Declaration) → act_all w (declares_all ds (xs ++ ys)) ≡ act_all (act_all w (declares_all ds xs)) (declares_all ds ys)
   acts_both w xs ys = ap (act_all w) (map-append (λ d. declares (placed ds d)) xs ys) ∙ acts-append w (declares_all ds xs) (declares_all ds ys)
 
-  caught_names : (w : Standing) (names : List Node) (parameter : Node)
+  caught_names : (w : WalkState) (names : List Node) (parameter : Node)
       → declare_each w home (map (pattern_naming parameter) names)
       ≡ act_all w (declares_all ds (map (binder.declare parameter (row_at (union symbol.BlockScopedVariable.bits symbol.CatchVariable.bits) symbol.BlockScopedVariableExcludes.bits p.chain) false) names))
   caught_names w [] parameter = refl
   caught_names w (x ∷ xs) parameter = caught_names (declare w home (pattern_naming parameter x)) xs parameter
 
-  pattern_acts : (w : Standing) (pattern : Node) → declare_pattern w home p.node pattern ≡ act_all w (declares_all ds (catch_names p pattern))
+  pattern_acts : (w : WalkState) (pattern : Node) → declare_pattern w home p.node pattern ≡ act_all w (declares_all ds (catch_names p pattern))
   pattern_acts w pattern = by (is kind.BindingIdentifier pattern)
     where
       row : binder.Row
@@ -168,7 +168,7 @@ module _ (ds : List Declaration) (p : Place) where
       by true = refl
       by false = caught_names w (bound_names pattern) p.node
 
-  pub patterns_act : (w : Standing) (patterns : List Node) → declare_patterns w home p.node patterns ≡ act_all w (declares_all ds (flat_map (catch_names p) patterns))
+  pub patterns_act : (w : WalkState) (patterns : List Node) → declare_patterns w home p.node patterns ≡ act_all w (declares_all ds (flat_map (catch_names p) patterns))
   patterns_act w [] = refl
   patterns_act w (x ∷ xs) =
       ap (λ v. declare_patterns v home p.node xs) (pattern_acts w x) ∙ patterns_act (act_all w (declares_all ds (catch_names p x))) xs
@@ -177,12 +177,12 @@ module _ (ds : List Declaration) (p : Place) where
   abbrev member_row : binder.Row
   member_row = row_at symbol.EnumMember.bits symbol.EnumMemberExcludes.bits p.chain
 
-  id_acts : (w : Standing) (id : Node) (names : List Node)
+  id_acts : (w : WalkState) (id : Node) (names : List Node)
       → declare_each w home (map (member_naming p.node id) names) ≡ act_all w (declares_all ds (map (binder.declare p.node member_row false) (map (named_member p.node id) names)))
   id_acts w id [] = refl
   id_acts w id (x ∷ xs) = id_acts (declare w home (member_naming p.node id x)) id xs
 
-  pub ids_act : (w : Standing) (found : List Node) → declare_members w home p.node found ≡ act_all w (declares_all ds (map (binder.declare p.node member_row false) (flat_map (member_named p.node) found)))
+  pub ids_act : (w : WalkState) (found : List Node) → declare_members w home p.node found ≡ act_all w (declares_all ds (map (binder.declare p.node member_row false) (flat_map (member_named p.node) found)))
   ids_act w [] = refl
   ids_act w (x ∷ xs) =
       ap (λ v. declare_members v home p.node xs) (id_acts w x (member_names x))
@@ -291,7 +291,7 @@ module _ (ds : List Declaration) (w : Walker) (p : Place) (within : IsWithin w p
   caught_acts node e k =
       ap (λ (n : Node). record w { made = declare_patterns w.made w.current n (children_of role.Pattern n.children) }) (sym e)
       ∙ ap (λ n. record w { made = declare_patterns w.made n p.node (children_of role.Pattern p.node.children) }) within.current
-      ∙ ap (λ (m : Standing). record w { made = m }) (patterns_act ds p w.made (children_of role.Pattern p.node.children))
+      ∙ ap (λ (m : WalkState). record w { made = m }) (patterns_act ds p w.made (children_of role.Pattern p.node.children))
       ∙ ap (λ j. acting ds w (declared_by j p)) (sym k)
 
   -- the members of an enum
@@ -300,5 +300,5 @@ module _ (ds : List Declaration) (w : Walker) (p : Place) (within : IsWithin w p
   members_act node e k =
       ap (λ (n : Node). record w { made = declare_members w.made w.current n (children_of role.Id n.children) }) (sym e)
       ∙ ap (λ n. record w { made = declare_members w.made n p.node (children_of role.Id p.node.children) }) within.current
-      ∙ ap (λ (m : Standing). record w { made = m }) (ids_act ds p w.made (children_of role.Id p.node.children))
+      ∙ ap (λ (m : WalkState). record w { made = m }) (ids_act ds p w.made (children_of role.Id p.node.children))
       ∙ ap (λ j. acting ds w (declared_by j p)) (sym k)

@@ -6,7 +6,7 @@ use Rattle.semantic_tree.specs.declared.node.Node.{Node}
 use Rattle.semantic_model.specs.Declaration.{Declaration}
 use Rattle.semantic_model.specs.Place.{Place}
 use Rattle.semantic_model.specs.Step.{Step, entering}
-use Rattle.walk_model.specs.Standing.{Standing}
+use Rattle.walk_model.specs.WalkState.{WalkState}
 use Rattle.walk_model.specs.Walks.{after, after_all}
 use Rattle.walk_notes.specs.NoteLists.{NoteLists, noting, noted_over}
 use Rattle.check_walk.specs.Apart.{HasApart}
@@ -14,12 +14,12 @@ use Rattle.check_walk.specs.Ready.{IsReadyAt, IsReadyBetween}
 use Rattle.check_walk.proofs.Readiness.{ready_enters, ready_child, ready_behind}
 use Rattle.check_walk.proofs.WalkConditions.{step_apart, steps_apart}
 
-module _ (ds : List Declaration) (source : List ℕ) (made now : Standing) (x y : NoteLists) (p : Place) where
+module _ (ds : List Declaration) (source : List ℕ) (made now : WalkState) (x y : NoteLists) (p : Place) where
   -- once the node is entered
   pub ready_first : IsReadyAt source made x.classes p → now ≡ after ds made (entering p) → y ≡ noting p.path p.node x → IsReadyBetween source now y.classes p p.node.children
   ready_first h e n =
       subst (λ (z : NoteLists). IsReadyBetween source now z.classes p p.node.children) (sym n)
-      (subst (λ (w : Standing). IsReadyBetween source w (noting p.path p.node x).classes p p.node.children) (sym e)
+      (subst (λ (w : WalkState). IsReadyBetween source w (noting p.path p.node x).classes p p.node.children) (sym e)
       (ready_enters source made (after ds made (entering p)) x.classes p h (step_apart ds made (entering p) h.apart)))
 
   module _ (child : Role × Node) (rest : List (Role × Node)) (h : IsReadyBetween source made x.classes p (forest_of (child ∷ rest))) where

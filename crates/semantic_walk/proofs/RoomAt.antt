@@ -20,9 +20,9 @@ use Rattle.semantic_model.specs.Place.{Place, OpenScope}
 use Rattle.semantic_model.specs.ScopeKind.{opened_scope}
 use Rattle.semantic_model.specs.Step.{Step, entering, opening, closing, leaving, steps_below, steps_of, opening_at, ending_after, opening_last, scope_at, next_at, child_place, cursor_past}
 use Rattle.walk_model.specs.Opens.{add_eval}
-use Rattle.walk_model.specs.Standing.{Standing}
+use Rattle.walk_model.specs.WalkState.{WalkState}
 use Rattle.walk_model.specs.Walks.{after_all}
-use Rattle.walk_model.proofs.Turned.{after-append}
+use Rattle.walk_model.proofs.turns.ChildTurns.{after-append}
 use Rattle.count_laws.specs.Room.{id_count, HasRoom}
 use Rattle.count_laws.proofs.Growth.{homes_count}
 use Rattle.count_laws.proofs.Rooms.{room_past, room_first}
@@ -86,7 +86,7 @@ module _ (ds : List Declaration) (w : Walker) (turn : Turn) (p : Place) (own : O
       (open_if (opens p.node.kind) w p (opened_scope p n) (closing p (opened_scope p n) ∷ []) (ap (λ (x : Node). opens x.kind) same ∙ some) h.within.path here)
 
 -- at the first child, and behind it
-module _ (ds : List Declaration) (p : Place) (own : Option OpenScope) (n cursor : ℕ) (child : Role × Node) (rest : List (Role × Node)) (made : Standing) (h : HasRoom made.tables (steps_below p own n cursor (forest_of (child ∷ rest)))) where
+module _ (ds : List Declaration) (p : Place) (own : Option OpenScope) (n cursor : ℕ) (child : Role × Node) (rest : List (Role × Node)) (made : WalkState) (h : HasRoom made.tables (steps_below p own n cursor (forest_of (child ∷ rest)))) where
   abbrev first : List Step
   first = opening_at p child.0 own n
 
@@ -112,7 +112,7 @@ module _ (ds : List Declaration) (p : Place) (own : Option OpenScope) (n cursor 
 
   pub rest_room : HasRoom (after_all ds (after_all ds (after_all ds made first) here) ends).tables more
   rest_room =
-      subst (λ (v : Standing). HasRoom v.tables more) (after-append ds made (first ++ here) ends ∙ ap (λ (v : Standing). after_all ds v ends) (after-append ds made first here))
+      subst (λ (v : WalkState). HasRoom v.tables more) (after-append ds made (first ++ here) ends ∙ ap (λ (v : WalkState). after_all ds v ends) (after-append ds made first here))
       (room_past ds made (first ++ here ++ ends) more h)
 
 -- a walk that has made as many symbols, and sees the same above

@@ -10,9 +10,9 @@ use Rattle.semantic_model.specs.Place.{Place}
 use Rattle.semantic_model.specs.Event.{written_declarations}
 use Rattle.semantic_model.specs.Step.{root_place, steps}
 use Rattle.walk_model.specs.Settles.{settle_rest}
-use Rattle.walk_model.specs.Standing.{Standing}
+use Rattle.walk_model.specs.WalkState.{WalkState}
 use Rattle.walk_model.specs.Walks.{walked}
-use Rattle.walk_model.proofs.Seats.{root_is_program}
+use Rattle.walk_model.proofs.turns.Seats.{root_is_program}
 use Rattle.class_table.specs.Lists.{ClassLists}
 use Rattle.class_table.specs.Noted.{left}
 use Rattle.class_table.specs.declared.builder.ClassTableBuilder.{ClassTableBuilder}
@@ -99,7 +99,7 @@ module _ (program : Tree) (fits : first_fault program ≡ None) (numbered : IsNu
       let first : Walker = begun program w.states w.namesakes settings.build_nodes (notes_classes settings) checks in
       let whole : Telling = record (telling_within checks program) { made = walked program } in
       ap (λ (y : Walker). so_far (telling_of y)) (left ∙ ap (λ (y : Walker). left_at y root) last)
-      ∙ ap (λ (m : Standing). so_far (telling_of (left_at (record v { made = m }) root))) settled
+      ∙ ap (λ (m : WalkState). so_far (telling_of (left_at (record v { made = m }) root))) settled
       ∙ ap (λ (y : Walker). so_far (telling_of (left_at (record y { made = walked program }) root))) from_start
       ∙ ap so_far (leaving_parts checks source (written_declarations (steps program)) whole root)
       ∙ whole_told checks program fits numbered

@@ -12,7 +12,7 @@ use Rattle.semantic_model.specs.Declaration.{Declaration, plain, hoisted, moved,
 use Rattle.semantic_model.specs.Event.{declares, placed, any_bars, is_barred, declares_all}
 use Rattle.semantic_model.specs.Binder as binder
 use Rattle.semantic_model.specs.Binder.{declare_here, is_var, is_conditional}
-use Rattle.walk_model.specs.Standing.{Standing}
+use Rattle.walk_model.specs.WalkState.{WalkState}
 use Rattle.walk_model.specs.Naming.{Naming, naming_of}
 use Rattle.walk_model.specs.Declares.{declare}
 use Rattle.walk_model.specs.Hoists.{hoist, declare_and_move}
@@ -20,9 +20,9 @@ use Rattle.walk_model.specs.Shown.{IsOther, ShowsChain, HasVar}
 use Rattle.walk_model.specs.Walks.{numbers, act_all}
 use Rattle.walk_model.specs.WrittenNames.{Written, is_written}
 use Rattle.walk_model.specs.NamedScopes.{IsNamedIn, AreNamedIn}
-use Rattle.walk_model.proofs.RowsActed.{acts_plain, acts_hoisted, acts_move, past_stands}
-use Rattle.walk_model.proofs.ChainWays.{SameWay, way_at, past_innermost}
-use Rattle.walk_model.proofs.ChainRows.{chain_kept, act_rows}
+use Rattle.walk_model.proofs.turns.RowEvents.{acts_plain, acts_hoisted, acts_move, past_stands}
+use Rattle.walk_model.proofs.turns.ChainWays.{SameWay, way_at, past_innermost}
+use Rattle.walk_model.proofs.turns.ChainsShown.{chain_kept, act_rows}
 use Rattle.node_rules.specs.declared.rows.Row.{Row}
 use Rattle.node_rules.specs.Seen.{IsRow}
 use Rattle.table_building.specs.Named.{named_by}
@@ -32,11 +32,11 @@ use Rattle.table_building.specs.Each.{declare_each, hoist_each, settle_in_block}
 use Rattle.table_building.specs.Routes.{way_from}
 use Rattle.semantic_walk.specs.Binds.{stands_on, declaring, declaring_past, hoisting, block_target, moving_one, moving, acting}
 
-declares_fold : (w : Standing) (s : ℕ) (xs : List Naming) → declare_each w s xs ≡ fold (λ v d. declare v s d) w xs
+declares_fold : (w : WalkState) (s : ℕ) (xs : List Naming) → declare_each w s xs ≡ fold (λ v d. declare v s d) w xs
 declares_fold w s [] = refl
 declares_fold w s (x ∷ xs) = declares_fold (declare w s x) s xs
 
-hoists_fold : (w : Standing) (passed : List ℕ) (s : ℕ) (xs : List Naming) → hoist_each w passed s xs ≡ fold (λ v d. hoist v passed s d) w xs
+hoists_fold : (w : WalkState) (passed : List ℕ) (s : ℕ) (xs : List Naming) → hoist_each w passed s xs ≡ fold (λ v d. hoist v passed s d) w xs
 hoists_fold w passed s [] = refl
 hoists_fold w passed s (x ∷ xs) = hoists_fold (hoist w passed s x) passed s xs
 
@@ -51,13 +51,13 @@ module _ (node : Node) (row : Row) (r : binder.Row) (is_pure : Bool) (same : IsR
   names_same (x ∷ xs) =
       ap (λ n. n ∷ map (named_by node row is_pure) xs) (name_same x) ∙ ap (λ ns. naming_of (binder.declare node r is_pure x) ∷ ns) (names_same xs)
 
-  pub plain_acts : (ds : List Declaration) (w : Standing) (s : ℕ) (xs : List Node) → r.how ≡ plain → s ≡ r.route.target.number
+  pub plain_acts : (ds : List Declaration) (w : WalkState) (s : ℕ) (xs : List Node) → r.how ≡ plain → s ≡ r.route.target.number
       → declare_each w s (map (named_by node row is_pure) xs) ≡ act_all w (declares_all ds (map (binder.declare node r is_pure) xs))
   plain_acts ds w s xs how at =
       let named : List Naming = map (λ x. naming_of (binder.declare node r is_pure x)) xs in
       ap (λ ns. declare_each w s ns) (names_same xs) ∙ ap (λ n. declare_each w n named) at ∙ declares_fold w r.route.target.number named ∙ sym (acts_plain ds node r is_pure w xs how)
 
-  pub hoisted_acts : (ds : List Declaration) (w : Standing) (passed : List ℕ) (s : ℕ) (xs : List Node) → r.how ≡ hoisted → passed ≡ numbers r.route.passed → s ≡ r.route.target.number
+  pub hoisted_acts : (ds : List Declaration) (w : WalkState) (passed : List ℕ) (s : ℕ) (xs : List Node) → r.how ≡ hoisted → passed ≡ numbers r.route.passed → s ≡ r.route.target.number
       → hoist_each w passed s (map (named_by node row is_pure) xs) ≡ act_all w (declares_all ds (map (binder.declare node r is_pure) xs))
   hoisted_acts ds w passed s xs how way at =
       let named : List Naming = map (λ x. naming_of (binder.declare node r is_pure x)) xs in
@@ -67,7 +67,7 @@ module _ (node : Node) (row : Row) (r : binder.Row) (is_pure : Bool) (same : IsR
   -- the names are declared in the current scope, which is the row's target
   pub row_acts : (ds : List Declaration) (w : Walker) (xs : List Node) → r.how ≡ plain → w.current ≡ r.route.target.number
       → declaring w (map (named_by node row is_pure) xs) ≡ acting ds w (map (binder.declare node r is_pure) xs)
-  row_acts ds w xs how at = ap (λ (m : Standing). record w { made = m }) (plain_acts ds w.made w.current xs how at)
+  row_acts ds w xs how at = ap (λ (m : WalkState). record w { made = m }) (plain_acts ds w.made w.current xs how at)
 
 -- and those that are declared where the place stands
 pub here_acts : (ds : List Declaration) (w : Walker) (p : Place) (row : Row) (flags excluded : ℕ) (xs : List Node) → IsRow row flags excluded → IsWithin w p p.chain
@@ -93,7 +93,7 @@ module _ (ds : List Declaration) (w : Walker) (p : Place) (within : IsWithin w p
   var_acts row flags excluded is_pure xs same =
       let way = way_same w p scope.Var.bits refl within shown some in
       let r : binder.Row = record { flags = flags; excluded = excluded; how = hoisted; route = outward_to is_var p.chain } in
-      ap (λ (m : Standing). record w { made = m })
+      ap (λ (m : WalkState). record w { made = m })
       (hoisted_acts p.node row r is_pure same ds w.made (numbers (way_from w.made.tables w.current scope.Var.bits).passed) (way_from w.made.tables w.current scope.Var.bits).target.number xs refl way.passes way.ends)
 
   -- what `infer` declares goes out to the conditional type
@@ -103,7 +103,7 @@ module _ (ds : List Declaration) (w : Walker) (p : Place) (within : IsWithin w p
   inferred_acts row flags excluded xs same =
       let way = way_same w p scope.TsConditional.bits refl within shown some in
       let r : binder.Row = record { flags = flags; excluded = excluded; how = plain; route = outward_to is_conditional p.chain } in
-      ap (λ (m : Standing). record w { made = m }) (plain_acts p.node row r false same ds w.made (way_from w.made.tables w.current scope.TsConditional.bits).target.number xs refl way.ends)
+      ap (λ (m : WalkState). record w { made = m }) (plain_acts p.node row r false same ds w.made (way_from w.made.tables w.current scope.TsConditional.bits).target.number xs refl way.ends)
 
 -- of a scope the tables tell the node that opens it, and it is known which names are written there
 abbrev IsTold : Tables → List Declaration → List Written → OpenScope → Type 0
@@ -149,7 +149,7 @@ past_numbers [] = refl
 past_numbers (s ∷ ss) = refl
 
 -- the function of a block settles as its target says
-settles_by : (w : Standing) (block target : ℕ) (b : Bool) (d : Naming) → settle_in_block w block (cond b None (Some target)) d ≡ cond b (declare w block d) (declare_and_move w block target d)
+settles_by : (w : WalkState) (block target : ℕ) (b : Bool) (d : Naming) → settle_in_block w block (cond b None (Some target)) d ≡ cond b (declare w block d) (declare_and_move w block target d)
 settles_by w block target true d = refl
 settles_by w block target false d = refl
 
@@ -180,7 +180,7 @@ module _ (ds : List Declaration) (node : Node) (row : Row) (r : binder.Row) (is_
       ∙ ap (λ (q : declaration.Route). is_barred ds d (outside q.passed)) (sym is) in
       let block : w.current ≡ stands_in d = current ∙ sym (block_stands chain some) ∙ ap (λ (q : declaration.Route). (innermost (q.passed ++ q.target ∷ [])).number) (sym route) in
       let target : way.target.number ≡ d.target.number = ways.ends ∙ ap (λ (q : declaration.Route). q.target.number) (sym is) in
-      ap (λ (m : Standing). record w { made = m })
+      ap (λ (m : WalkState). record w { made = m })
       (ap (λ n. settle_in_block w.made w.current (block_target t w.namesakes w.current x.text) n) (name_same node row r is_pure same x)
       ∙ settles_by w.made w.current way.target.number (stands_on t w.namesakes x.text (drop 1 (numbers way.passed))) (naming_of d)
       ∙ ap (λ b. cond b (declare w.made w.current (naming_of d)) (declare_and_move w.made w.current way.target.number (naming_of d))) barred

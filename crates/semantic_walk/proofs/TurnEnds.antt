@@ -11,12 +11,12 @@ use Rattle.semantic_model.specs.ScopeKind.{opened_scope}
 use Rattle.semantic_model.specs.Declaration.{Declaration}
 use Rattle.semantic_model.specs.Outcome.{header_outcome}
 use Rattle.semantic_model.specs.Step.{opening, opening_at, scope_at, ending_after, opening_last}
-use Rattle.walk_model.specs.Standing.{Standing}
+use Rattle.walk_model.specs.WalkState.{WalkState}
 use Rattle.walk_model.specs.Opens.{close_scope}
 use Rattle.walk_model.specs.Walks.{after, after_all}
 use Rattle.walk_model.specs.Shown.{HasVar}
 use Rattle.walk_model.specs.Waits.{HoldsAt, start_at}
-use Rattle.walk_model.proofs.TurnParts.{ends_header_at, closes_at, close_if, end_since, ending_since}
+use Rattle.walk_model.proofs.turns.TurnParts.{ends_header_at, closes_at, close_if, end_since, ending_since}
 use Rattle.semantic_walk.specs.Walker.{Walker}
 use Rattle.table_building.specs.Settled.{settled_from}
 use Rattle.semantic_walk.specs.AtPlace.{IsTurnAt, IsBetweenAt}
@@ -74,14 +74,14 @@ module _ (ds : List Declaration) (w : Walker) (turn : Turn) (p : Place) (n curso
       rw some (e ∙ (λ i. record w { made = close_scope (after ds w.made (opening p (opened_scope p (count i)))) (count i); current = outer i; is_ambient = ambient i }))
 
 -- what is made once the header ended, if it ends
-abbrev ended_if : Bool → Standing → (c start : ℕ) → Standing
+abbrev ended_if : Bool → WalkState → (c start : ℕ) → WalkState
 ended_if b w c start = cond b (end_since w c start) w
 
 end_by : (w : Walker) (c start : ℕ) (b : Bool) → ◌≡◌ {A = Walker} (cond b (record w { made = end_since w.made c start }) w) (record w { made = ended_if b w.made c start })
 end_by w c start true = refl
 end_by w c start false = refl
 
-close_by : (w : Walker) (c : ℕ) (m : Standing) (b : Bool) → ◌≡◌ {A = Walker} (cond b (record w { made = close_scope m c }) (record w { made = m })) (record w { made = close_if b c m })
+close_by : (w : Walker) (c : ℕ) (m : WalkState) (b : Bool) → ◌≡◌ {A = Walker} (cond b (record w { made = close_scope m c }) (record w { made = m })) (record w { made = close_if b c m })
 close_by w c m true = refl
 close_by w c m false = refl
 
@@ -102,4 +102,4 @@ module _ (ds : List Declaration) (w : Walker) (turn : Turn) (p : Place) (k : Ast
       closes
       ∙ (λ i. cond (is_inside (of_kind i) r && not (any_inside (of_kind i) rest)) (record (ended i) { made = close_scope (ended i).made (number i) }) (ended i))
       ∙ close_by w own.number (ended_if (ends_header_at p r rest) w.made own.number start) (closes_at p r rest)
-      ∙ ap (λ (m : Standing). record w { made = m }) (sym (ending_since ds w.made p r own start rest holds))
+      ∙ ap (λ (m : WalkState). record w { made = m }) (sym (ending_since ds w.made p r own start rest holds))

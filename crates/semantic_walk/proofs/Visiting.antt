@@ -19,17 +19,17 @@ use Rattle.semantic_model.specs.Ambient.{ambient_inside, ambient_round}
 use Rattle.semantic_model.specs.Cursor.{cursor_before, cursor_behind, cursor_after, on_entering}
 use Rattle.semantic_model.specs.Declaration.{Declaration}
 use Rattle.semantic_model.specs.Step.{Step, entering, leaving, steps_below, steps_of, opening_at, ending_after, opening_last, scope_at, next_at, child_place, cursor_past}
-use Rattle.semantic_model.proofs.Clauses.{kind_is}
-use Rattle.semantic_model.proofs.Members.{among_left, among_right}
-use Rattle.walk_model.specs.Standing.{Standing}
+use Rattle.semantic_model.proofs.form.Clauses.{kind_is}
+use Rattle.semantic_model.proofs.lists.Members.{among_left, among_right}
+use Rattle.walk_model.specs.WalkState.{WalkState}
 use Rattle.walk_model.specs.Walks.{after, after_all}
 use Rattle.walk_model.specs.WrittenNames.{Written}
 use Rattle.walk_model.specs.Waits.{HoldsAt, start_at}
 use Rattle.walk_model.specs.NamedScopes.{IsStepNamed, AllNamed}
 use Rattle.walk_model.specs.Recursion.{IsReady, IsBetween}
-use Rattle.walk_model.proofs.Turned.{node_turn}
-use Rattle.walk_model.proofs.TurnParts.{within_at}
-use Rattle.walk_model.proofs.WalkTurns as turns
+use Rattle.walk_model.proofs.turns.ChildTurns.{node_turn}
+use Rattle.walk_model.proofs.turns.TurnParts.{within_at}
+use Rattle.walk_model.proofs.turns.WalkTurns as turns
 use Rattle.count_laws.specs.Room.{HasRoom}
 use Rattle.count_laws.proofs.Rooms.{room_after}
 use Rattle.node_store.specs.Entered.{Entered}
@@ -39,8 +39,8 @@ use Rattle.semantic_walk.specs.Stated.{IsStated, AllStated}
 use Rattle.semantic_walk.specs.EvenKinds.{acts_between}
 use Rattle.semantic_walk.specs.Walker.{Walker, telling_of}
 use Rattle.semantic_walk.specs.Turns.{child_scope, own_or}
-use Rattle.semantic_walk.specs.AtPlace.{asked_over, ComesTo, IsWithin, IsTurnAt, IsBetweenAt, IsOpenAtRoot, IsComing, entered, kept_at, told_within, walked_within, left_at, walked_over}
-use Rattle.count_model.specs.Asks.{asked_by_steps}
+use Rattle.semantic_walk.specs.AtPlace.{probes_over, ComesTo, IsWithin, IsTurnAt, IsBetweenAt, IsOpenAtRoot, IsComing, entered, kept_at, told_within, walked_within, left_at, walked_over}
+use Rattle.count_model.specs.Probes.{probes_of_steps}
 use Rattle.semantic_syntax.specs.Counts.{raised}
 use Rattle.semantic_walk.specs.declared.visit.Turn.{Turn}
 use Rattle.check_walk.specs.Ready.{IsReadyBetween}
@@ -94,16 +94,16 @@ path_without : (xs : List Node) (x : Node) → take (length (xs ++ x ∷ []) - 1
 path_without xs x = take_at xs (x ∷ []) (length (xs ++ x ∷ []) - 1) (omega (arith, length-append xs (x ∷ [])))
 
 -- the walk at a child, before which so much is made
-abbrev pub at_child : Walker → Standing → Place → Walker
+abbrev pub at_child : Walker → WalkState → Place → Walker
 at_child w made child = record w { made = made; current = at child; cursor = child.cursor; is_ambient = child.is_ambient }
 
 -- the walk behind a child
-abbrev pub behind_child : Walker → Standing → Place → ℕ → Walker
+abbrev pub behind_child : Walker → WalkState → Place → ℕ → Walker
 behind_child w made p cursor = record w { made = made; current = at p; cursor = cursor; is_ambient = p.is_ambient }
 
 module _ (ds : List Declaration) (first : Walker) (p : Place) (own : Option OpenScope) (n : ℕ) where
   -- all that is made over the node, and the cursor behind its children
-  abbrev pub all_made : Standing
+  abbrev pub all_made : WalkState
   all_made = after_all ds (entered ds first p) (steps_below p own n (on_entering p.node.kind p.cursor) p.node.children)
 
   abbrev pub cursor_last : ℕ
@@ -137,7 +137,7 @@ module _ (ds : List Declaration) (first : Walker) (p : Place) (own : Option Open
     pub ready : w.checks ≡ true → IsReadyBetween w.source w.made w.notes.classes p f
     pub limit : length w.source ≤ source_limit
     -- the counter is still to rise by what they ask
-    pub asks : raised now (asked_by_steps ds w.made (steps_below p scope next cursor f)) ≡ raised before (asked_over ds first p own n)
+    pub asks : raised now (probes_of_steps ds w.made (steps_below p scope next cursor f)) ≡ raised before (probes_over ds first p own n)
 
   own_first : (turn : Turn) (current : ℕ) → turn.own ≡ cond (same_kind p.node.kind kind.Program) (Some current) None → current ≡ at p → IsOpenAtRoot p own → turn.own ≡ option_map (λ s. s.number) own
   own_first turn current e at_p h = e ∙ by own h
@@ -181,16 +181,16 @@ module _ (ds : List Declaration) (first : Walker) (p : Place) (own : Option Open
             outer = ap (λ (u : Turn). u.outer) t ∙ current;
             is_ambient = ap (λ (u : Turn). u.is_ambient) t ∙ ambient;
             own_scope = own_first turn w.current (ap (λ (u : Turn). u.own) t ∙ ap (λ (k : AstType). cond (same_kind k kind.Program) (Some w.current) None) kind_same) current h.root;
-            header = ap (λ (u : Turn). u.header_start) t ∙ ap (λ (v : Standing). length v.waiting) made;
+            header = ap (λ (u : Turn). u.header_start) t ∙ ap (λ (v : WalkState). length v.waiting) made;
             acts = ap (λ (u : Turn). u.acts) t ∙ ap acts_between kind_same;
           };
-          between = subst (λ (v : Standing). IsBetween v p own n cursor (length (entered ds first p).waiting) f) (sym made)
+          between = subst (λ (v : WalkState). IsBetween v p own n cursor (length (entered ds first p).waiting) f) (sym made)
               (subst (λ (g : Forest). IsBetween (entered ds first p) p own n cursor (length (entered ds first p).waiting) g) (sym is) h.between);
           named = subst (λ (ws : List Written). AllNamed ds ws (steps_below p own n cursor f)) (sym (ap (λ (v : Walker). v.namesakes) e))
               (subst (λ (g : Forest). AllNamed ds first.namesakes (steps_below p own n cursor g)) (sym is) h.named);
           stated = subst (λ (states : List InstanceState). AllStated states (steps_below p own n cursor f)) (sym (ap (λ (v : Walker). v.states) e))
               (subst (λ (g : Forest). AllStated first.states (steps_below p own n cursor g)) (sym is) h.stated);
-          room = subst (λ (v : Standing). HasRoom v.tables (steps_below p own n cursor f)) (sym made)
+          room = subst (λ (v : WalkState). HasRoom v.tables (steps_below p own n cursor f)) (sym made)
               (subst (λ (g : Forest). HasRoom (entered ds first p).tables (steps_below p own n cursor g)) (sym is)
               (room_after ds first.made (entering p) (steps_below p own n cursor p.node.children) h.room));
         };
@@ -210,7 +210,7 @@ module _ (ds : List Declaration) (first : Walker) (p : Place) (own : Option Open
             (subst (λ (g : Forest). IsReadyBetween first.source w.made w.notes.classes p g) (sym is)
             (ready_first ds first.source first.made w.made first.notes w.notes p (h.ready (sym checks ∙ on)) made (ap (λ (v : Walker). v.notes) e)));
         limit = subst (λ (xs : List ℕ). length xs ≤ source_limit) (sym source) h.limit;
-        asks = λ i. raised before (asked_by_steps ds (made i) (steps_below p own n cursor (is i)));
+        asks = λ i. raised before (probes_of_steps ds (made i) (steps_below p own n cursor (is i)));
       }
 
   -- behind all children the scope may still open
@@ -265,7 +265,7 @@ module _ (ds : List Declaration) (p : Place) (own : Option OpenScope) (n cursor 
   place_here = place_of p own n cursor child
 
   -- what is made before the child, and where the header starts
-  abbrev opened_here : Walker → Standing
+  abbrev opened_here : Walker → WalkState
   opened_here w = after_all ds w.made (opening_at p child.0 own n)
 
   abbrev start_here : Walker → ℕ
@@ -308,7 +308,7 @@ module _ (ds : List Declaration) (p : Place) (own : Option OpenScope) (n cursor 
       }
 
   -- where the child stands, by the turn
-  scope_of_child : (made : Standing) (turn : Turn) → IsTurnAt turn p scope_here (start_at p child.0 own start made) → (t : Tables)
+  scope_of_child : (made : WalkState) (turn : Turn) → IsTurnAt turn p scope_here (start_at p child.0 own start made) → (t : Tables)
       → child_scope t turn p.node.kind child.0 ≡ cond (is_parameter_decorator p.node.kind child.0) (unwrap_or (scope_of t (at p)).parent (at p)) (within_at p child.0 scope_here)
   scope_of_child made turn h t =
       (λ i. child_scope t (record turn { outer = h.outer i; own = h.own_scope i }) p.node.kind child.0) ∙ by scope_here
@@ -352,7 +352,7 @@ module _ (ds : List Declaration) (p : Place) (own : Option OpenScope) (n cursor 
       (ap (λ (v : Walker). v.namesakes) o)
       (ap (λ (v : Walker). v.path) o)
       (scope_of_child w.made turn t opened.made.tables
-      ∙ ap (λ (v : Standing). cond (is_parameter_decorator p.node.kind child.0) (unwrap_or (scope_of v.tables (at p)).parent (at p)) (within_at p child.0 scope_here)) made
+      ∙ ap (λ (v : WalkState). cond (is_parameter_decorator p.node.kind child.0) (unwrap_or (scope_of v.tables (at p)).parent (at p)) (within_at p child.0 scope_here)) made
       ∙ sym (turns.child_stands_at ds w.made p own n cursor start child rest h.between))
       (λ i. cursor_before p.node (ambient_inside p.node (t.is_ambient i)) child.0 child.1 ((ap (λ (v : Walker). v.cursor) o ∙ h.flags) i))
       (ap (λ (b : Bool). ambient_round p.node b child.0) t.is_ambient)
@@ -370,7 +370,7 @@ module _ (ds : List Declaration) (p : Place) (own : Option OpenScope) (n cursor 
       → length w.source ≤ source_limit
       → v ≡ at_child w (opened_here w) place_here → IsComing ds v place_here None next_here
   comes_to_child w v turn h among ready_here limit e =
-      let opened : Standing = opened_here w in
+      let opened : WalkState = opened_here w in
       let within : IsWithin w p p.chain = h.within in
       let ready : IsReady opened place_here next_here = turns.child_ready ds w.made p own n cursor start child rest h.between in
       let names : FirstNamed w.namesakes = first_named w.namesakes h.named in
@@ -404,14 +404,14 @@ module _ (ds : List Declaration) (p : Place) (own : Option OpenScope) (n cursor 
       → ended ≡ behind_child past (after_all ds past.made (ending_after p child.0 scope_here (forest_of rest))) p (cursor_behind p.node.kind child.0 w.cursor past.cursor)
       → ended.made ≡ after_all ds (after_all ds (opened_here w) (steps_of place_here next_here)) (ending_after p child.0 scope_here (forest_of rest))
   made_behind w v past ended e k b =
-      ap (λ (u : Walker). u.made) b ∙ ap (λ (u : Standing). after_all ds u (ending_after p child.0 scope_here (forest_of rest))) (made_past w v past e k)
+      ap (λ (u : Walker). u.made) b ∙ ap (λ (u : WalkState). after_all ds u (ending_after p child.0 scope_here (forest_of rest))) (made_past w v past e k)
 
   -- the header is kept behind the child
   pub holds_past : (w v past : Walker) (turn : Turn) → IsBetweenAt ds w turn p own n cursor start (forest_of (child ∷ rest))
       → v ≡ at_child w (opened_here w) place_here → past ≡ walked_over ds v place_here None next_here
       → HoldsAt past.made scope_here (start_here w)
   holds_past w v past turn h e k =
-      subst (λ (u : Standing). HoldsAt u scope_here (start_here w)) (sym (made_past w v past e k))
+      subst (λ (u : WalkState). HoldsAt u scope_here (start_here w)) (sym (made_past w v past e k))
       (turns.past_holds ds w.made p own n cursor start child rest h.between)
 
   -- behind the child the walk stands between two children again
@@ -436,13 +436,13 @@ module _ (ds : List Declaration) (p : Place) (own : Option OpenScope) (n cursor 
         flags = ap (λ (u : Walker). u.cursor) b ∙ (λ i. cursor_behind p.node.kind child.0 (h.flags i) (through i).cursor);
         is_ambient = ap (λ (u : Walker). u.is_ambient) b;
         stands = t;
-        between = subst (λ (u : Standing). IsBetween u p scope_here (next_past p own n child) (cursor_past p child.0 cursor place_here) (start_here w) (forest_of rest))
+        between = subst (λ (u : WalkState). IsBetween u p scope_here (next_past p own n child) (cursor_past p child.0 cursor place_here) (start_here w) (forest_of rest))
             (sym (made_behind w v past ended e k b)) (turns.next_between ds w.made p own n cursor start child rest h.between);
         named = subst (λ (ws : List Written). AllNamed ds ws (steps_below p scope_here (next_past p own n child) (cursor_past p child.0 cursor place_here) (forest_of rest)))
             (sym (ap (λ (u : Walker). u.namesakes) b ∙ ap (λ (u : Walker). u.namesakes) through)) names.later;
         stated = subst (λ (states : List InstanceState). AllStated states (steps_below p scope_here (next_past p own n child) (cursor_past p child.0 cursor place_here) (forest_of rest)))
             (sym (ap (λ (u : Walker). u.states) b ∙ ap (λ (u : Walker). u.states) through)) known.later;
-        room = subst (λ (u : Standing). HasRoom u.tables (steps_below p scope_here (next_past p own n child) (cursor_past p child.0 cursor place_here) (forest_of rest)))
+        room = subst (λ (u : WalkState). HasRoom u.tables (steps_below p scope_here (next_past p own n child) (cursor_past p child.0 cursor place_here) (forest_of rest)))
             (sym (made_behind w v past ended e k b)) (rest_room ds p own n cursor child rest w.made h.room);
       }
 
@@ -453,8 +453,8 @@ pub rests_past : (ds : List Declaration) (first : Walker) (p : Place) (own : Opt
     → IsTurnAt turn p (scope_at p child.0 h.scope h.next) (start_at p child.0 h.scope h.start w.made)
     → past ≡ walked_over ds v (place_of p h.scope h.next h.cursor child) None (next_at p child.0 h.scope h.next)
     → ended ≡ behind_child past (after_all ds past.made (ending_after p child.0 (scope_at p child.0 h.scope h.next) (forest_of rest))) p (cursor_behind p.node.kind child.0 w.cursor past.cursor)
-    → raised last (asked_by_steps ds ended.made (steps_below p (scope_at p child.0 h.scope h.next) (next_past p h.scope h.next child) (cursor_past p child.0 h.cursor (place_of p h.scope h.next h.cursor child)) (forest_of rest)))
-    ≡ raised now (asked_by_steps ds w.made (steps_below p h.scope h.next h.cursor (forest_of (child ∷ rest))))
+    → raised last (probes_of_steps ds ended.made (steps_below p (scope_at p child.0 h.scope h.next) (next_past p h.scope h.next child) (cursor_past p child.0 h.cursor (place_of p h.scope h.next h.cursor child)) (forest_of rest)))
+    ≡ raised now (probes_of_steps ds w.made (steps_below p h.scope h.next h.cursor (forest_of (child ∷ rest))))
     → Rests ds first p own n counted last ended turn (forest_of rest)
 rests_past ds first p own n child rest w v past ended before turn counted now last h e t k b left =
     let scope : Option OpenScope = scope_at p child.0 h.scope h.next in
@@ -477,7 +477,7 @@ rests_past ds first p own n child rest w v past ended before turn counted now la
       cursor = cursor_past p child.0 h.cursor place;
       start = start_at p child.0 h.scope h.start w.made;
       between = between_past ds p h.scope h.next h.cursor h.start child rest w v past ended before turn h.between e t k b;
-      made = ap (λ (u : Standing). after_all ds u (steps_below p scope next (cursor_past p child.0 h.cursor place) (forest_of rest))) (made_behind ds p h.scope h.next h.cursor h.start child rest w v past ended e k b)
+      made = ap (λ (u : WalkState). after_all ds u (steps_below p scope next (cursor_past p child.0 h.cursor place) (forest_of rest))) (made_behind ds p h.scope h.next h.cursor h.start child rest w v past ended e k b)
           ∙ sym (turns.turn_is ds w.made p h.scope h.next h.cursor h.start child rest) ∙ h.made;
       moves = h.moves;
       states = ap (λ (u : Walker). u.states) b ∙ ap (λ (u : Walker). u.states) k ∙ ap (λ (u : Walker). u.states) e ∙ h.states;
@@ -502,7 +502,7 @@ rests_past ds first p own n child rest w v past ended before turn counted now la
 module _ (p : Place) (own : Option OpenScope) (start : ℕ) (k : AstType) (r : Role) (turn : Turn) (before : ℕ) (past back turned : Walker) where
   -- back at the node the header is still kept
   pub held_behind : back ≡ record past { current = turn.outer; is_ambient = turn.is_ambient } → turned ≡ record back { cursor = cursor_behind k r before back.cursor } → HoldsAt past.made own start → HoldsAt turned.made own start
-  held_behind b t = subst (λ (u : Standing). HoldsAt u own start) (sym (ap (λ (w : Walker). w.made) t ∙ ap (λ (w : Walker). w.made) b))
+  held_behind b t = subst (λ (u : WalkState). HoldsAt u own start) (sym (ap (λ (w : Walker). w.made) t ∙ ap (λ (w : Walker). w.made) b))
 
   -- the walk comes back, its cursor turns, and then the header or the scope may end
   pub ends_behind : (ds : List Declaration) (rest : Forest) (ended : Walker) → IsTurnAt turn p own start

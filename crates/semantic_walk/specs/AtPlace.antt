@@ -9,12 +9,12 @@ use Rattle.semantic_model.specs.Place.{Place, OpenScope, innermost, at}
 use Rattle.semantic_model.specs.Cursor.{on_entering, on_leaving, cursor_after}
 use Rattle.semantic_model.specs.Declaration.{Declaration}
 use Rattle.semantic_model.specs.Step.{entering, leaving, steps_below}
-use Rattle.walk_model.specs.Standing.{Standing}
+use Rattle.walk_model.specs.WalkState.{WalkState}
 use Rattle.walk_model.specs.Walks.{after, after_all}
 use Rattle.walk_model.specs.Shown.{ShowsChain, IsGrounded}
 use Rattle.walk_model.specs.NamedScopes.{IsStepNamed, AllNamed}
 use Rattle.walk_model.specs.Recursion.{IsBetween}
-use Rattle.count_model.specs.Asks.{asked_by_steps}
+use Rattle.count_model.specs.Probes.{probes_of_steps}
 use Rattle.count_laws.specs.Room.{HasRoom}
 use Rattle.node_store.specs.Entered.{Entered, leaving as leaving_node}
 use Rattle.walk_notes.specs.NoteLists.{noting, noted_inside, noted_over, leaving as leaving_notes}
@@ -75,7 +75,7 @@ IsOpenAtRoot p None = p.node.kind ≡ kind.Program → ⊥
 IsOpenAtRoot p (Some s) = (p.node.kind ≡ kind.Program) × (s.number ≡ at p)
 
 -- what is made once the node is entered
-abbrev pub entered : List Declaration → Walker → Place → Standing
+abbrev pub entered : List Declaration → Walker → Place → WalkState
 entered ds w p = after ds w.made (entering p)
 
 -- the nodes that are kept then
@@ -152,5 +152,5 @@ walked_over ds w p own n =
     }
 
 -- how many scopes the steps of the node ask
-abbrev pub asked_over : List Declaration → Walker → Place → Option OpenScope → ℕ → ℕ
-asked_over ds w p own n = asked_by_steps ds (entered ds w p) (steps_below p own n (on_entering p.node.kind p.cursor) p.node.children)
+abbrev pub probes_over : List Declaration → Walker → Place → Option OpenScope → ℕ → ℕ
+probes_over ds w p own n = probes_of_steps ds (entered ds w p) (steps_below p own n (on_entering p.node.kind p.cursor) p.node.children)

@@ -14,7 +14,7 @@ use Rattle.semantic_model.specs.Moment.{UsesAreTies, StandsInOneList, BindingsAr
 use Rattle.semantic_model.specs.NodeTable.{node_tables}
 use Rattle.semantic_model.specs.TablesOf.{tables_of}
 use Rattle.semantic_diagnostics.specs.declared.diagnostic.Diagnostic.{Diagnostic}
-use Rattle.walk_model.specs.Standing.{nothing_made}
+use Rattle.walk_model.specs.WalkState.{nothing_made}
 use Rattle.walk_model.specs.Opens.{open_scope}
 use Rattle.walk_model.specs.Noted.{pairs_of}
 use Rattle.walk_model.specs.WrittenNames.{Written, is_written, is_sloppy, names_written}

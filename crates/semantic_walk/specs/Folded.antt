@@ -7,7 +7,7 @@ use Rattle.semantic_model.specs.Binding.{Binding, get, bound_by}
 use Rattle.semantic_model.specs.Fold.{State, Made}
 use Rattle.semantic_model.specs.NodeTable.{symbols_of}
 use Rattle.walk_model.specs.Noted.{entries_of}
-use Rattle.walk_model.specs.Standing.{Standing}
+use Rattle.walk_model.specs.WalkState.{WalkState}
 
 -- no scope binds a name twice
 abbrev pub BindsOnce : List Binding → Type 0
@@ -19,7 +19,7 @@ abbrev pub pure_of : List Made → List ℕ
 pure_of ms = fold (λ ys m. cond m.declaration.is_pure (insert_key nat_cmp ys m.symbol) ys) [] ms
 
 -- bindings by their scopes, symbols and all that is noted of declarations are those of the state
-pub record ShowsFold (w : Standing) (st : State) : Type 0 where
+pub record ShowsFold (w : WalkState) (st : State) : Type 0 where
   pub scopes : length w.tables.bindings ≡ length w.tables.scopes
   pub bindings : (c : ℕ) → bindings_of w.tables c ≡ bound_by st.bindings c
   pub once : BindsOnce st.bindings

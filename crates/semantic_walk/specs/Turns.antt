@@ -9,10 +9,10 @@ use Rattle.semantic_tree.specs.declared.node.Node.{Node}
 use Rattle.semantic_walk.specs.EvenKinds.{is_quiet, is_leaf, stands_alike}
 use Rattle.semantic_walk.specs.Walker.{Walker}
 use Rattle.semantic_walk.specs.declared.visit.Turn.{Turn}
-use Rattle.walk_model.specs.Standing.{Standing}
+use Rattle.walk_model.specs.WalkState.{WalkState}
 
 -- the node's scope and the one around it exist, and what waited at the start of its header may still wait
-pub record IsTurn (w : Standing) (turn : Turn) : Type 0 where
+pub record IsTurn (w : WalkState) (turn : Turn) : Type 0 where
   pub outer : turn.outer < length w.tables.scopes
   pub own : IfSome turn.own (λ s. s < length w.tables.scopes)
   pub start : turn.header_start ≤ length w.waiting

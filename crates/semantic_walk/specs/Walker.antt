@@ -13,7 +13,7 @@ use Rattle.scoping.specs.Writing.{taken_over}
 use Rattle.node_store.specs.Entered.{Entered, entering}
 use Rattle.semantic_model.specs.Cursor.{way_of}
 use Rattle.semantic_model.specs.ScopeKind.{flags_of_kind, strict_if}
-use Rattle.walk_model.specs.Standing.{Standing}
+use Rattle.walk_model.specs.WalkState.{WalkState}
 use Rattle.walk_model.specs.Opens.{refer_to, open_in}
 use Rattle.walk_model.specs.WrittenNames.{Written}
 use Rattle.walk_notes.specs.NoteLists.{NoteLists}
@@ -22,7 +22,7 @@ use Rattle.semantic_walk.specs.Paths.{parent_in}
 use Rattle.semantic_walk.specs.declared.walk.Walk.TheInside.{Inside}
 
 pub record Walker : Type 0 where
-  pub made : Standing
+  pub made : WalkState
   pub source_type : SourceType
   -- the states of the namespaces
   pub states : List InstanceState
@@ -56,7 +56,7 @@ walker w = record {
   namesakes = w.namesakes;
   path = w.path.nodes;
   current = w.current_scope;
-  cursor = w.cursor.bits;
+  cursor = w.current_reference_flags.bits;
   is_ambient = w.is_ambient;
   nodes = w.path.entered;
   notes = w.notes;
@@ -91,7 +91,7 @@ abbrev pub referring : Walker → Node → Walker
 referring w node = record w { made = refer_to w.made node.node_id node.text w.current (way_of w.cursor) }
 
 -- the node in its role opens a scope where the walk stands, which is strict where the code around it is
-abbrev pub opening_in : Walker → Role → Node → Standing
+abbrev pub opening_in : Walker → Role → Node → WalkState
 opening_in w r node =
     open_in w.made (Some w.current) node.node_id (length w.made.tables.scopes)
     (union (flags_of_kind node.kind (place_in w r node)) (strict_if (meets (scope_of w.made.tables w.current).flags.bits scope.StrictMode.bits)))

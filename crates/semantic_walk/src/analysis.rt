@@ -2,7 +2,7 @@
 
 ghost use Rattle.std.specs.Prelude.{◌≡◌, ◌≤◌, ◌||◌, IfOk, OnOk, OnErr};
 ghost use Rattle.semantic_syntax.specs.Counts.{raised};
-ghost use Rattle.count_model.specs.Asks.{asked};
+ghost use Rattle.count_model.specs.Probes.{probes};
 ghost use Rattle.semantic_walk.specs.Begun.{IsBegun, BelongsToNodes, IsAnalysis};
 ghost use Rattle.semantic_walk.specs.Listed.{kept_nodes, list_kept};
 ghost use Rattle.semantic_model.specs.Label.{unused_labels};
@@ -45,9 +45,9 @@ fn run<'a, L>(
     ensures node_list { OnOk result (list_kept walk.new.nodes ≡ kept_nodes settings.build_nodes program.now) }
     ensures classes { OnOk result (walk.new.notes.classes.classes ≡ classes_noted (settings.class_table || settings.checks) program.now) }
     ensures labels { OnOk result (walk.new.notes.labels.unused ≡ unused_labels program.now.root) }
-    ensures cost { OnOk result (steps.new ≡ raised steps.old (asked program.now)) }
+    ensures cost { OnOk result (steps.new ≡ raised steps.old (probes program.now)) }
     ensures risen { steps.old ≤ steps.new }
-    ensures given_up { OnErr result (steps.new ≤ raised steps.old (asked program.now)) }
+    ensures given_up { OnErr result (steps.new ≤ raised steps.old (probes program.now)) }
 {
     walk.reserve(settings.room)?;
     let root = program.root();
@@ -73,9 +73,9 @@ pub fn analyse<'a, L>(
     ensures node_list { IfOk result (λ made. made.nodes ≡ kept_nodes settings.build_nodes program.now) }
     ensures classes { IfOk result (λ made. made.classes ≡ classes_noted (settings.class_table || settings.checks) program.now) }
     ensures labels { IfOk result (λ made. made.unused_labels.items ≡ unused_labels program.now.root) }
-    ensures cost { OnOk result (steps.new ≡ raised steps.old (asked program.now)) }
+    ensures cost { OnOk result (steps.new ≡ raised steps.old (probes program.now)) }
     ensures risen { steps.old ≤ steps.new }
-    ensures given_up { OnErr result (steps.new ≤ raised steps.old (asked program.now)) }
+    ensures given_up { OnErr result (steps.new ≤ raised steps.old (probes program.now)) }
 {
     let mut walk = Walk::new(alloc, program, settings)?;
     match run(&mut walk, program, settings, steps) {

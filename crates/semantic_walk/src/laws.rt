@@ -9,7 +9,7 @@ ghost use Rattle.semantic_model.specs.Fold.{start};
 ghost use Rattle.semantic_model.specs.Hoist.{run};
 ghost use Rattle.semantic_model.specs.Place.{Place};
 ghost use Rattle.semantic_model.specs.Step.{Step, entering, steps};
-ghost use Rattle.walk_model.specs.Standing.{nothing_made};
+ghost use Rattle.walk_model.specs.WalkState.{nothing_made};
 ghost use Rattle.walk_model.specs.Walks.{after_all};
 ghost use Rattle.node_store.specs.Outward.{above};
 ghost use Rattle.node_store.specs.PathIn.{path_in};

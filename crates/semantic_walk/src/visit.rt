@@ -21,11 +21,11 @@ ghost use Rattle.walk_model.specs.Waits.{HoldsAt, start_at};
 ghost use Rattle.table_building.specs.Growth.{Grows, Goes};
 ghost use Rattle.semantic_syntax.specs.Counts.{raised};
 ghost use Rattle.semantic_syntax.specs.Told.{source_of};
-ghost use Rattle.count_model.specs.Asks.{asked_by_steps};
-ghost use Rattle.table_building.specs.Settled.{settled_from, asked_from};
+ghost use Rattle.count_model.specs.Probes.{probes_of_steps};
+ghost use Rattle.table_building.specs.Settled.{settled_from, probes_from};
 ghost use Rattle.semantic_walk.specs.EvenKinds.{acts_between};
 ghost use Rattle.semantic_walk.specs.Turns.{IsTurn, child_scope, is_passed};
-ghost use Rattle.semantic_walk.specs.AtPlace.{IsWithin, IsTurnAt, IsBetweenAt, IsComing, IsSomewhere, walked_within, asked_over};
+ghost use Rattle.semantic_walk.specs.AtPlace.{IsWithin, IsTurnAt, IsBetweenAt, IsComing, IsSomewhere, walked_within, probes_over};
 ghost use Rattle.semantic_walk.specs.Ids.{MayOpen};
 ghost use Rattle.semantic_walk.specs.Leaving.{IsLeaving};
 
@@ -164,7 +164,7 @@ impl<'a> Walk<'a> {
     }
 
     /// Comes to a child: scope, ambience and cursor are the child's.
-    fn come_to(&mut self, parent: AstKind<'a>, turn: &Turn, role: Role, child: AstKind<'a>)
+    fn stand_at_child(&mut self, parent: AstKind<'a>, turn: &Turn, role: Role, child: AstKind<'a>)
         requires { IsTurn self.old.made turn.now }
         ensures made { self.new ≡ record self.old {
           current = child_scope self.old.made.tables turn.now parent.entry.node.now.kind role;
@@ -175,7 +175,7 @@ impl<'a> Walk<'a> {
     {
         let inside = is_ambient_inside(parent.node(), turn.is_ambient);
         self.current_scope = self.scope_of_child(turn, parent.ty(), role);
-        self.cursor = before_child(parent, inside, role, child, self.cursor);
+        self.current_reference_flags = before_child(parent, inside, role, child, self.current_reference_flags);
         self.is_ambient = is_ambient_in_child(parent.node(), turn.is_ambient, role);
     }
 
@@ -207,7 +207,7 @@ impl<'a> Walk<'a> {
             return Ok(());
         }
         self.open_for(parent, parent_role, turn, role)?;
-        self.come_to(parent, turn, role, child);
+        self.stand_at_child(parent, turn, role, child);
         Ok(())
     }
 
@@ -238,9 +238,9 @@ impl<'a> Walk<'a> {
             (record self.old { made = settled_from self.old.made start (map (header_outcome (source_of self.old.made.tables) own) (drop start self.old.made.waiting)) }) self.old) }
         ensures grows { OnOk result (Grows self.old.made.tables self.new.made.tables) }
         ensures waiting { OnOk result (start ≤ length self.new.made.waiting) }
-        ensures cost { OnOk result (steps.new ≡ raised steps.old (cond (is_in_header parent role && not (has_role (header_roles parent) (forest_of rest.now))) (asked_from self.old.made start own) 0)) }
+        ensures cost { OnOk result (steps.new ≡ raised steps.old (cond (is_in_header parent role && not (has_role (header_roles parent) (forest_of rest.now))) (probes_from self.old.made start own) 0)) }
         ensures risen { steps.old ≤ steps.new }
-        ensures given_up { OnErr result (steps.new ≤ raised steps.old (cond (is_in_header parent role && not (has_role (header_roles parent) (forest_of rest.now))) (asked_from self.old.made start own) 0)) }
+        ensures given_up { OnErr result (steps.new ≤ raised steps.old (cond (is_in_header parent role && not (has_role (header_roles parent) (forest_of rest.now))) (probes_from self.old.made start own) 0)) }
     {
         if is_in_header(parent, role) && !any_in_header(parent, rest) {
             self.end_header(own, start, steps)
@@ -275,10 +275,10 @@ impl<'a> Walk<'a> {
         ensures grows { OnOk result (Grows self.old.made.tables self.new.made.tables) }
         ensures stands { OnOk result (IsTurn self.new.made turn.now) }
         ensures cost { (ds : List Declaration) (p : Place) (own : Option OpenScope) (start : ℕ) → p.node.kind ≡ parent → IsTurnAt turn.now p own start → HoldsAt self.old.made own start →
-            OnOk result (steps.new ≡ raised steps.old (asked_by_steps ds self.old.made (ending_after p role own (forest_of rest.now)))) }
+            OnOk result (steps.new ≡ raised steps.old (probes_of_steps ds self.old.made (ending_after p role own (forest_of rest.now)))) }
         ensures risen { steps.old ≤ steps.new }
         ensures given_up { (ds : List Declaration) (p : Place) (own : Option OpenScope) (start : ℕ) → p.node.kind ≡ parent → IsTurnAt turn.now p own start → HoldsAt self.old.made own start →
-            OnErr result (steps.new ≤ raised steps.old (asked_by_steps ds self.old.made (ending_after p role own (forest_of rest.now)))) }
+            OnErr result (steps.new ≤ raised steps.old (probes_of_steps ds self.old.made (ending_after p role own (forest_of rest.now)))) }
     {
         match turn.own {
             Some(own) => {
@@ -344,10 +344,10 @@ impl<'a> Walk<'a> {
     }
 
     /// The cursor, as the walk stands.
-    fn cursor(&self) -> ReferenceFlags
+    fn current_reference_flags(&self) -> ReferenceFlags
         ensures { result.bits ≡ self.now.cursor }
     {
-        self.cursor
+        self.current_reference_flags
     }
 
     /// Behind a child the cursor may be what it was before, or empty.
@@ -355,7 +355,7 @@ impl<'a> Walk<'a> {
         ensures made { self.new ≡ record self.old { cursor = cursor_behind parent role before.bits self.old.cursor } }
         ensures goes { Goes self.old.made self.new.made }
     {
-        self.cursor = behind_child(parent, role, before, self.cursor);
+        self.current_reference_flags = behind_child(parent, role, before, self.current_reference_flags);
     }
 
     /// Behind a child: the walk stands in the node again, and its header or scope may end.
@@ -379,10 +379,10 @@ impl<'a> Walk<'a> {
         ensures grows { OnOk result (Grows self.old.made.tables self.new.made.tables) }
         ensures stands { OnOk result (IsTurn self.new.made turn.now) }
         ensures cost { (ds : List Declaration) (p : Place) (own : Option OpenScope) (start : ℕ) → p.node.kind ≡ parent → IsTurnAt turn.now p own start → HoldsAt self.old.made own start →
-            OnOk result (steps.new ≡ raised steps.old (asked_by_steps ds self.old.made (ending_after p role own (forest_of rest.now)))) }
+            OnOk result (steps.new ≡ raised steps.old (probes_of_steps ds self.old.made (ending_after p role own (forest_of rest.now)))) }
         ensures risen { steps.old ≤ steps.new }
         ensures given_up { (ds : List Declaration) (p : Place) (own : Option OpenScope) (start : ℕ) → p.node.kind ≡ parent → IsTurnAt turn.now p own start → HoldsAt self.old.made own start →
-            OnErr result (steps.new ≤ raised steps.old (asked_by_steps ds self.old.made (ending_after p role own (forest_of rest.now)))) }
+            OnErr result (steps.new ≤ raised steps.old (probes_of_steps ds self.old.made (ending_after p role own (forest_of rest.now)))) }
     {
         self.come_back(turn);
         if turn.acts {
@@ -421,10 +421,10 @@ impl<'a> Walk<'a> {
             OnOk result (IsLeaving self.new p) }
         ensures goes { OnOk result (Goes self.old.made self.new.made) }
         ensures cost { (ds : List Declaration) (p : Place) (own : Option OpenScope) (n : ℕ) → p.node ≡ kind.entry.node.now → p.role ≡ role → IsComing ds self.old p own n →
-            OnOk result (steps.new ≡ raised steps.old (asked_over ds self.old p own n)) }
+            OnOk result (steps.new ≡ raised steps.old (probes_over ds self.old p own n)) }
         ensures risen { steps.old ≤ steps.new }
         ensures given_up { (ds : List Declaration) (p : Place) (own : Option OpenScope) (n : ℕ) → p.node ≡ kind.entry.node.now → p.role ≡ role → IsComing ds self.old p own n →
-            OnErr result (steps.new ≤ raised steps.old (asked_over ds self.old p own n)) }
+            OnErr result (steps.new ≤ raised steps.old (probes_over ds self.old p own n)) }
     {
         self.enter(kind)?;
         if is_leaf(kind) && !acts_between(kind.ty()) {
@@ -438,7 +438,7 @@ impl<'a> Walk<'a> {
                 left = rest;
                 continue;
             }
-            let before = self.cursor();
+            let before = self.current_reference_flags();
             self.begin_child(kind, role, &mut turn, *child_role, child)?;
             self.visit(child, *child_role, steps)?;
             self.leave(child)?;

@@ -21,8 +21,8 @@ ghost use Rattle.walk_model.specs.Walks.{after};
 ghost use Rattle.walk_model.specs.Opens.{add_eval, close_scope};
 ghost use Rattle.semantic_syntax.specs.Counts.{raised};
 ghost use Rattle.semantic_syntax.specs.Told.{source_of};
-ghost use Rattle.count_model.specs.Asks.{asked_in_end};
-ghost use Rattle.table_building.specs.Settled.{settled_from, asked_from};
+ghost use Rattle.count_model.specs.Probes.{probes_in_end};
+ghost use Rattle.table_building.specs.Settled.{settled_from, probes_from};
 ghost use Rattle.node_rules.specs.Seen.{path_of};
 ghost use Rattle.semantic_walk.specs.Paths.{parent_in};
 ghost use Rattle.semantic_walk.specs.Walker.{place_in, noting_node, referring, opening_in, taking_over, telling_of};
@@ -77,7 +77,7 @@ pub struct Walk<'a> {
     pub(crate) path: Path<'a>,
     pub(crate) current_scope: ScopeId,
     /// The cursor: the way of the next reference, as the walk stands.
-    pub(crate) cursor: ReferenceFlags,
+    pub(crate) current_reference_flags: ReferenceFlags,
     /// Whether the code where the walk stands is ambient.
     pub(crate) is_ambient: bool,
     /// The classes, if they are noted, and the labels.
@@ -149,7 +149,7 @@ impl<'a> Walk<'a> {
             namesakes,
             path: Path::new(alloc, settings.build_nodes),
             current_scope: ScopeId::new(0),
-            cursor: ReferenceFlags::empty(),
+            current_reference_flags: ReferenceFlags::empty(),
             is_ambient: source_type.is_typescript_definition(),
             notes: Notes::new(alloc, settings.notes_classes()),
             source_text: program.source_text(),
@@ -219,7 +219,7 @@ impl<'a> Walk<'a> {
         ensures goes { OnOk result (Goes self.old.made self.new.made) }
     {
         self.path.push(kind, self.current_scope)?;
-        self.cursor = cursor::on_entering(kind.ty(), self.cursor);
+        self.current_reference_flags = cursor::on_entering(kind.ty(), self.current_reference_flags);
         Ok(())
     }
 
@@ -285,7 +285,7 @@ impl<'a> Walk<'a> {
         ensures made { OnOk result (self.new ≡ referring self.old kind.entry.node.now) }
         ensures goes { OnOk result (Goes self.old.made self.new.made) }
     {
-        let way = cursor::way_of(self.cursor);
+        let way = cursor::way_of(self.current_reference_flags);
         self.declared.refer(kind, self.current_scope, way)
     }
 
@@ -395,7 +395,7 @@ impl<'a> Walk<'a> {
         ensures goes { OnOk result (Goes self.old.made self.new.made) }
     {
         self.note_behind(kind)?;
-        self.cursor = cursor::on_leaving(kind.ty(), self.cursor);
+        self.current_reference_flags = cursor::on_leaving(kind.ty(), self.current_reference_flags);
         self.path.pop();
         Ok(())
     }
@@ -470,9 +470,9 @@ impl<'a> Walk<'a> {
         ensures made { OnOk result (self.new ≡ record self.old { made = settled_from self.old.made start (map (header_outcome (source_of self.old.made.tables) scope) (drop start self.old.made.waiting)) }) }
         ensures grows { OnOk result (Grows self.old.made.tables self.new.made.tables) }
         ensures waiting { OnOk result (start ≤ length self.new.made.waiting) }
-        ensures cost { OnOk result (steps.new ≡ raised steps.old (asked_from self.old.made start scope)) }
+        ensures cost { OnOk result (steps.new ≡ raised steps.old (probes_from self.old.made start scope)) }
         ensures risen { steps.old ≤ steps.new }
-        ensures given_up { OnErr result (steps.new ≤ raised steps.old (asked_from self.old.made start scope)) }
+        ensures given_up { OnErr result (steps.new ≤ raised steps.old (probes_from self.old.made start scope)) }
     {
         self.declared.end_header(scope, start, steps)
     }
@@ -480,9 +480,9 @@ impl<'a> Walk<'a> {
     /// After the walk every reference that waits is settled.
     pub(crate) fn end<L>(&mut self, steps: &mut Steps<L>) -> Result<(), AllocError>
         ensures made { OnOk result (self.new ≡ record self.old { made = settle_rest self.old.made }) }
-        ensures cost { OnOk result (steps.new ≡ raised steps.old (asked_in_end self.old.made)) }
+        ensures cost { OnOk result (steps.new ≡ raised steps.old (probes_in_end self.old.made)) }
         ensures risen { steps.old ≤ steps.new }
-        ensures given_up { OnErr result (steps.new ≤ raised steps.old (asked_in_end self.old.made)) }
+        ensures given_up { OnErr result (steps.new ≤ raised steps.old (probes_in_end self.old.made)) }
     {
         self.declared.settle_rest(steps)
     }

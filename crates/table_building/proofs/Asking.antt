@@ -6,8 +6,8 @@ use Rattle.std.proofs.lemmas.List.Sums.{sum_by-cons}
 use Rattle.semantic_syntax.specs.Tables.{Name}
 use Rattle.semantic_syntax.specs.Source.{Source, chain}
 use Rattle.resolver.specs.declared.pending.UnresolvedReference.{UnresolvedReference}
-use Rattle.resolver.specs.Outward.{tie, ends_after, asked}
-use Rattle.resolver.specs.Settling.{header_asks, last_asks}
+use Rattle.resolver.specs.Outward.{tie, ends_after, probes}
+use Rattle.resolver.specs.Settling.{header_probes, last_probes}
 use Rattle.semantic_model.specs.Declaration.{contains}
 use Rattle.semantic_syntax.specs.Lookup as lookups
 use Rattle.semantic_model.specs.Outcome as model
@@ -20,51 +20,51 @@ count_or (Some l) later = 1
 
 module _ (s : Source) where
   module _ (x : Name) (w : ℕ) where
-    asked-same : (cs : List ℕ) → asked (tie s x w) (ends_after s x w) cs ≡ lookups.scopes_asked x w (map (model.answer s x) cs)
-    unfolding asked
-    asked-same [] = refl
-    asked-same (c ∷ cs) = by (s.bound c x) (asked-same cs)
+    probes-same : (cs : List ℕ) → probes (tie s x w) (ends_after s x w) cs ≡ lookups.probes_in x w (map (model.answer s x) cs)
+    unfolding probes
+    probes-same [] = refl
+    probes-same (c ∷ cs) = by (s.bound c x) (probes-same cs)
       where
         ends : Bool
         ends = lookups.ends_after x w (s.scope_flags c)
 
-        further : (b : Bool) → asked (tie s x w) (ends_after s x w) cs ≡ lookups.scopes_asked x w (map (model.answer s x) cs)
-            → (if b then 1 else 1 + asked (tie s x w) (ends_after s x w) cs) ≡ suc (cond b 0 (lookups.scopes_asked x w (map (model.answer s x) cs)))
+        further : (b : Bool) → probes (tie s x w) (ends_after s x w) cs ≡ lookups.probes_in x w (map (model.answer s x) cs)
+            → (if b then 1 else 1 + probes (tie s x w) (ends_after s x w) cs) ≡ suc (cond b 0 (lookups.probes_in x w (map (model.answer s x) cs)))
         further true rest = refl
         further false rest = omega (arith, rest)
 
-        fitting : (y : ℕ) (b : Bool) → asked (tie s x w) (ends_after s x w) cs ≡ lookups.scopes_asked x w (map (model.answer s x) cs)
-            → option_map_or (λ z. 1) (if b then Some y else None) (if ends then 1 else 1 + asked (tie s x w) (ends_after s x w) cs)
-            ≡ count_or (cond b (Some (lookups.tied c y (s.symbol_flags y))) None) (cond ends 0 (lookups.scopes_asked x w (map (model.answer s x) cs)))
+        fitting : (y : ℕ) (b : Bool) → probes (tie s x w) (ends_after s x w) cs ≡ lookups.probes_in x w (map (model.answer s x) cs)
+            → option_map_or (λ z. 1) (if b then Some y else None) (if ends then 1 else 1 + probes (tie s x w) (ends_after s x w) cs)
+            ≡ count_or (cond b (Some (lookups.tied c y (s.symbol_flags y))) None) (cond ends 0 (lookups.probes_in x w (map (model.answer s x) cs)))
         fitting y true rest = refl
         fitting y false rest = further ends rest
 
-        by : (o : Option ℕ) → asked (tie s x w) (ends_after s x w) cs ≡ lookups.scopes_asked x w (map (model.answer s x) cs)
-            → option_map_or (λ y. 1) (tie (record s { bound = λ d z. o }) x w c) (if ends then 1 else 1 + asked (tie s x w) (ends_after s x w) cs)
-            ≡ count_or (lookups.tied_by x w c (option_map_or (λ y. Some (record { symbol = y; flags = s.symbol_flags y })) o None)) (cond ends 0 (lookups.scopes_asked x w (map (model.answer s x) cs)))
+        by : (o : Option ℕ) → probes (tie s x w) (ends_after s x w) cs ≡ lookups.probes_in x w (map (model.answer s x) cs)
+            → option_map_or (λ y. 1) (tie (record s { bound = λ d z. o }) x w c) (if ends then 1 else 1 + probes (tie s x w) (ends_after s x w) cs)
+            ≡ count_or (lookups.tied_by x w c (option_map_or (λ y. Some (record { symbol = y; flags = s.symbol_flags y })) o None)) (cond ends 0 (lookups.probes_in x w (map (model.answer s x) cs)))
         by None rest = further ends rest
         by (Some y) rest = fitting y (lookups.fits x w (s.symbol_flags y)) rest
 
-  header-asks : (c : ℕ) (u : UnresolvedReference) → header_asks s c u ≡ model.header_asks s c (pending_of u)
+  header-asks : (c : ℕ) (u : UnresolvedReference) → header_probes s c u ≡ model.header_probes s c (pending_of u)
   header-asks c u =
       rw (within-same c (chain s u.lookup_scope_id), up_to-same c (chain s u.lookup_scope_id))
       (by (contains (chain s u.lookup_scope_id) c))
     where
       by : (b : Bool)
-          → (if b then asked (tie s (pending_of u).name (s.way u.reference_id)) (ends_after s (pending_of u).name (s.way u.reference_id)) (model.up_to c (chain s u.lookup_scope_id)) else 0)
-          ≡ cond b (lookups.scopes_asked (pending_of u).name (s.way u.reference_id) (map (model.answer s (pending_of u).name) (model.up_to c (chain s u.lookup_scope_id)))) 0
-      by true = asked-same (pending_of u).name (s.way u.reference_id) (model.up_to c (chain s u.lookup_scope_id))
+          → (if b then probes (tie s (pending_of u).name (s.way u.reference_id)) (ends_after s (pending_of u).name (s.way u.reference_id)) (model.up_to c (chain s u.lookup_scope_id)) else 0)
+          ≡ cond b (lookups.probes_in (pending_of u).name (s.way u.reference_id) (map (model.answer s (pending_of u).name) (model.up_to c (chain s u.lookup_scope_id)))) 0
+      by true = probes-same (pending_of u).name (s.way u.reference_id) (model.up_to c (chain s u.lookup_scope_id))
       by false = refl
 
-  last-asks : (u : UnresolvedReference) → last_asks s u ≡ model.last_asks s (pending_of u)
-  last-asks u = asked-same (pending_of u).name (s.way u.reference_id) (chain s u.lookup_scope_id)
+  last-asks : (u : UnresolvedReference) → last_probes s u ≡ model.last_probes s (pending_of u)
+  last-asks u = probes-same (pending_of u).name (s.way u.reference_id) (chain s u.lookup_scope_id)
 
-  pub headers-asked : (c : ℕ) (us : List UnresolvedReference) → sum_by (header_asks s c) us ≡ sum_by (model.header_asks s c) (map pending_of us)
+  pub headers-asked : (c : ℕ) (us : List UnresolvedReference) → sum_by (header_probes s c) us ≡ sum_by (model.header_probes s c) (map pending_of us)
   headers-asked c [] = refl
   headers-asked c (u ∷ us) =
-      omega (arith, sum_by-cons (header_asks s c) u us, sum_by-cons (model.header_asks s c) (pending_of u) (map pending_of us), header-asks c u, headers-asked c us)
+      omega (arith, sum_by-cons (header_probes s c) u us, sum_by-cons (model.header_probes s c) (pending_of u) (map pending_of us), header-asks c u, headers-asked c us)
 
-  pub lasts-asked : (us : List UnresolvedReference) → sum_by (last_asks s) us ≡ sum_by (model.last_asks s) (map pending_of us)
+  pub lasts-asked : (us : List UnresolvedReference) → sum_by (last_probes s) us ≡ sum_by (model.last_probes s) (map pending_of us)
   lasts-asked [] = refl
   lasts-asked (u ∷ us) =
-      omega (arith, sum_by-cons (last_asks s) u us, sum_by-cons (model.last_asks s) (pending_of u) (map pending_of us), last-asks u, lasts-asked us)
+      omega (arith, sum_by-cons (last_probes s) u us, sum_by-cons (model.last_probes s) (pending_of u) (map pending_of us), last-asks u, lasts-asked us)

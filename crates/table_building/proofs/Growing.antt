@@ -10,7 +10,7 @@ use Rattle.count_laws.proofs.Growth.{homes_count}
 use Rattle.semantic_model.specs.Binding.{Binding, is_of, get, put}
 use Rattle.semantic_model.specs.Outcome.{Pending}
 use Rattle.table_building.specs.Growth.{Grows, Goes}
-use Rattle.walk_model.specs.Standing.{Standing}
+use Rattle.walk_model.specs.WalkState.{WalkState}
 use Rattle.table_building.specs.Made.{AreSymbols}
 use Rattle.table_building.specs.Waiting.{AreWaiting}
 
@@ -24,10 +24,10 @@ grows-trans t u v g h = record {
   references = omega (arith, g.references, h.references);
 }
 
-pub goes-refl : (w : Standing) → Goes w w
+pub goes-refl : (w : WalkState) → Goes w w
 goes-refl w = record { tables = grows-refl w.tables; waiting = omega arith }
 
-pub goes-trans : (u v w : Standing) → Goes u v → Goes v w → Goes u w
+pub goes-trans : (u v w : WalkState) → Goes u v → Goes v w → Goes u w
 goes-trans u v w g h = record { tables = grows-trans _ _ _ g.tables h.tables; waiting = omega (arith, g.waiting, h.waiting) }
 
 -- symbols of so many are of more

@@ -4,7 +4,7 @@ use Rattle.semantic_syntax.specs.Tables.{Tables}
 use Rattle.semantic_syntax.specs.Source.{Source}
 use Rattle.semantic_syntax.specs.Told.{source_of}
 use Rattle.semantic_model.specs.Outcome.{Pending, waits, is_below, header_outcome}
-use Rattle.walk_model.specs.Standing.{Standing}
+use Rattle.walk_model.specs.WalkState.{WalkState}
 use Rattle.walk_model.specs.Settles.{settle, staying, end_header}
 use Rattle.table_building.specs.Settled.{settled_from, AreOutside}
 
@@ -27,7 +27,7 @@ module _ (source : Source) (c : ℕ) where
   staying_past (suc n) (e ∷ es) h = rw (stays e h.0) (ap (λ more. e ∷ more) (staying_past n es h.1))
 
 -- so to settle those that wait since the start of a header is to end the header
-pub ended : (w : Standing) (c start : ℕ) → AreOutside (source_of w.tables) c (take start w.waiting)
+pub ended : (w : WalkState) (c start : ℕ) → AreOutside (source_of w.tables) c (take start w.waiting)
     → settled_from w start (map (header_outcome (source_of w.tables) c) (drop start w.waiting)) ≡ end_header w c
 ended w c start h =
     ap (λ (t : Tables). record w { tables = t; waiting = take start w.waiting ++ staying (drop start w.waiting) (map (header_outcome (source_of w.tables) c) (drop start w.waiting)) })

@@ -4,46 +4,46 @@ use Rattle.std.proofs.Math.ListN.{drop_of_length-le}
 use Rattle.std.proofs.Math.Seq.{drop-cons}
 use Rattle.std.proofs.Math.Numerals.{add-one}
 use Rattle.semantic_syntax.specs.Tables.{Name}
-use Rattle.walk_model.specs.Standing.{Standing}
+use Rattle.walk_model.specs.WalkState.{WalkState}
 use Rattle.walk_model.specs.Naming.{Naming}
 use Rattle.walk_model.specs.Declares.{found}
-use Rattle.walk_model.specs.Hoists.{counting, hit, against_found, against_way, remember, remember_all}
+use Rattle.walk_model.specs.Hoists.{value_symbol, passed_symbol, against_found, against_way, remember, remember_all}
 
 pub drop_here : {A : Type 0} (items : List A) (i : ℕ) (here : A) → i < length items → here ≡ get_or items i here → drop i items ≡ here ∷ drop (i + 1) items
 drop_here items i here h e = rw (drop-cons items i here h, ← e, add-one) refl
 
-pub remember_turn : (w : Standing) (x : Name) (y : ℕ) (items : List ℕ) (i here : ℕ) → i < length items → here ≡ get_or items i here
+pub remember_turn : (w : WalkState) (x : Name) (y : ℕ) (items : List ℕ) (i here : ℕ) → i < length items → here ≡ get_or items i here
     → remember_all w (drop i items) x y ≡ remember_all (remember w here x y) (drop (i + 1) items) x y
 remember_turn w x y items i here h e = rw (drop_here items i here h e) refl
 
-pub remember_end : (w : Standing) (x : Name) (y : ℕ) (items : List ℕ) (i : ℕ) → length items ≤ i → remember_all w (drop i items) x y ≡ w
+pub remember_end : (w : WalkState) (x : Name) (y : ℕ) (items : List ℕ) (i : ℕ) → length items ≤ i → remember_all w (drop i items) x y ≡ w
 remember_end w x y items i h = rw (drop_of_length-le items h) refl
 
 -- conflicts don't change which passed symbol is found
-hit-against : (w : Standing) (d : Naming) (o : Option ℕ) (ss : List ℕ) (x : Name) → hit (against_found w d o) ss x ≡ hit w ss x
-hit-against w d None ss x = refl
-hit-against w d (Some y) [] x = refl
-hit-against w d (Some y) (s ∷ ss) x = rw (hit-against w d (Some y) ss x) refl
+passed_symbol-against : (w : WalkState) (d : Naming) (o : Option ℕ) (ss : List ℕ) (x : Name) → passed_symbol (against_found w d o) ss x ≡ passed_symbol w ss x
+passed_symbol-against w d None ss x = refl
+passed_symbol-against w d (Some y) [] x = refl
+passed_symbol-against w d (Some y) (s ∷ ss) x = rw (passed_symbol-against w d (Some y) ss x) refl
 
-module _ (w : Standing) (d : Naming) (items : List ℕ) (i here : ℕ) (within : i < length items) (is : here ≡ get_or items i here) where
-  pub way_on : counting w.tables (found w here d.name) ≡ None
+module _ (w : WalkState) (d : Naming) (items : List ℕ) (i here : ℕ) (within : i < length items) (is : here ≡ get_or items i here) where
+  pub way_on : value_symbol w.tables (found w here d.name) ≡ None
       → against_way w d (drop i items) ≡ against_way (against_found w d (found w here d.name)) d (drop (i + 1) items)
   way_on none = rw (drop_here items i here within is, none) refl
 
-  pub way_off : (y : ℕ) → counting w.tables (found w here d.name) ≡ Some y → against_way w d (drop i items) ≡ against_found w d (found w here d.name)
+  pub way_off : (y : ℕ) → value_symbol w.tables (found w here d.name) ≡ Some y → against_way w d (drop i items) ≡ against_found w d (found w here d.name)
   way_off y some = rw (drop_here items i here within is, some) refl
 
-  pub hit_on : counting w.tables (found w here d.name) ≡ None
-      → hit w (drop i items) d.name ≡ hit (against_found w d (found w here d.name)) (drop (i + 1) items) d.name
-  hit_on none = rw (drop_here items i here within is, none) (sym (hit-against w d (found w here d.name) (drop (i + 1) items) d.name))
+  pub passed_symbol_on : value_symbol w.tables (found w here d.name) ≡ None
+      → passed_symbol w (drop i items) d.name ≡ passed_symbol (against_found w d (found w here d.name)) (drop (i + 1) items) d.name
+  passed_symbol_on none = rw (drop_here items i here within is, none) (sym (passed_symbol-against w d (found w here d.name) (drop (i + 1) items) d.name))
 
-  pub hit_off : (y : ℕ) → counting w.tables (found w here d.name) ≡ Some y → hit w (drop i items) d.name ≡ Some (record { scope = here; symbol = y })
-  hit_off y some = rw (drop_here items i here within is, some) refl
+  pub passed_symbol_off : (y : ℕ) → value_symbol w.tables (found w here d.name) ≡ Some y → passed_symbol w (drop i items) d.name ≡ Some (record { scope = here; symbol = y })
+  passed_symbol_off y some = rw (drop_here items i here within is, some) refl
 
-pub way_end : (w : Standing) (d : Naming) (items : List ℕ) (i : ℕ) → length items ≤ i → against_way w d (drop i items) ≡ w
+pub way_end : (w : WalkState) (d : Naming) (items : List ℕ) (i : ℕ) → length items ≤ i → against_way w d (drop i items) ≡ w
 way_end w d items i h = rw (drop_of_length-le items h) refl
 
-pub hit_end : (w : Standing) (x : Name) (items : List ℕ) (i : ℕ) → length items ≤ i → hit w (drop i items) x ≡ None
-hit_end w x items i h = rw (drop_of_length-le items h) refl
+pub passed_symbol_end : (w : WalkState) (x : Name) (items : List ℕ) (i : ℕ) → length items ≤ i → passed_symbol w (drop i items) x ≡ None
+passed_symbol_end w x items i h = rw (drop_of_length-le items h) refl
 
-pub ruleset passing = (remember_turn, remember_end, way_end, hit_end)
+pub ruleset passing = (remember_turn, remember_end, way_end, passed_symbol_end)

@@ -9,7 +9,7 @@ use Rattle.semantic_tree.specs.Children.{forest_of}
 use Rattle.semantic_tree.specs.declared.node.Node.{Node}
 use Rattle.semantic_tree.specs.Views.{is, is_role_of}
 use Rattle.semantic_model.specs.Names.{binding_roles, bound_below, bound_names}
-use Rattle.walk_model.specs.Standing.{Standing}
+use Rattle.walk_model.specs.WalkState.{WalkState}
 use Rattle.walk_model.specs.Naming.{Naming}
 use Rattle.walk_model.specs.Declares.{declare, declare_anew}
 use Rattle.walk_model.specs.Hoists.{hoist}
@@ -22,18 +22,18 @@ use Rattle.table_building.proofs.EachName.{binds_here, named_past}
 
 -- each name makes a symbol at most
 
-pub each_adds : (ds : List Naming) (w : Standing) (s : ℕ) → length (declare_each w s ds).tables.symbols ≤ length w.tables.symbols + length ds
+pub each_adds : (ds : List Naming) (w : WalkState) (s : ℕ) → length (declare_each w s ds).tables.symbols ≤ length w.tables.symbols + length ds
 each_adds [] w s = omega arith
 each_adds (d ∷ ds) w s = omega (arith, (declare_adds w s d).of_symbols, each_adds ds (declare w s d) s)
 
-pub hoists_add : (ds : List Naming) (w : Standing) (passed : List ℕ) (s : ℕ) → length (hoist_each w passed s ds).tables.symbols ≤ length w.tables.symbols + length ds
+pub hoists_add : (ds : List Naming) (w : WalkState) (passed : List ℕ) (s : ℕ) → length (hoist_each w passed s ds).tables.symbols ≤ length w.tables.symbols + length ds
 hoists_add [] w passed s = omega arith
 hoists_add (d ∷ ds) w passed s = omega (arith, (hoist_adds w passed s d).of_symbols, hoists_add ds (hoist w passed s d) passed s)
 
-pub named_adds : (f : Node → Naming) (names : List Node) (w : Standing) (s : ℕ) → length (declare_each w s (map f names)).tables.symbols ≤ length w.tables.symbols + length names
+pub named_adds : (f : Node → Naming) (names : List Node) (w : WalkState) (s : ℕ) → length (declare_each w s (map f names)).tables.symbols ≤ length w.tables.symbols + length names
 named_adds f names w s = omega (arith, each_adds (map f names) w s, length-map names f)
 
-pub pattern_adds : (w : Standing) (s : ℕ) (parameter pattern : Node) → length (declare_pattern w s parameter pattern).tables.symbols ≤ length w.tables.symbols + length (bound_names pattern)
+pub pattern_adds : (w : WalkState) (s : ℕ) (parameter pattern : Node) → length (declare_pattern w s parameter pattern).tables.symbols ≤ length w.tables.symbols + length (bound_names pattern)
 pattern_adds w s parameter pattern = by (is kind.BindingIdentifier pattern)
   where
     below : List Node
@@ -77,11 +77,11 @@ module _ (parent : AstType) (items : List (Role × Node)) (i : ℕ) (child : Rol
   pub past_room : (m n : ℕ) → is_role_of child.0 (binding_roles parent) ≡ false → m + length (bound_below parent (forest_of (drop i items))) ≤ n → m + length (bound_below parent (forest_of (drop (i + 1) items))) ≤ n
   past_room m n e h = subst (λ (xs : List Node). m + length xs ≤ n) (named_past parent items i child within is e) h
 
-  pub declared_room : (f : Node → Naming) (w v : Standing) (s n : ℕ) → is_role_of child.0 (binding_roles parent) ≡ true → length w.tables.symbols + length (bound_below parent (forest_of (drop i items))) ≤ n
+  pub declared_room : (f : Node → Naming) (w v : WalkState) (s n : ℕ) → is_role_of child.0 (binding_roles parent) ≡ true → length w.tables.symbols + length (bound_below parent (forest_of (drop i items))) ≤ n
       → v ≡ declare_each w s (map f (bound_names child.1)) → length v.tables.symbols + length (bound_below parent (forest_of (drop (i + 1) items))) ≤ n
-  declared_room f w v s n e h made = omega (arith, h, binds e, named_adds f (bound_names child.1) w s, ap (λ (u : Standing). length u.tables.symbols) made)
+  declared_room f w v s n e h made = omega (arith, h, binds e, named_adds f (bound_names child.1) w s, ap (λ (u : WalkState). length u.tables.symbols) made)
 
-  pub hoisted_room : (f : Node → Naming) (w v : Standing) (passed : List ℕ) (s n : ℕ) → is_role_of child.0 (binding_roles parent) ≡ true → length w.tables.symbols + length (bound_below parent (forest_of (drop i items))) ≤ n
+  pub hoisted_room : (f : Node → Naming) (w v : WalkState) (passed : List ℕ) (s n : ℕ) → is_role_of child.0 (binding_roles parent) ≡ true → length w.tables.symbols + length (bound_below parent (forest_of (drop i items))) ≤ n
       → v ≡ hoist_each w passed s (map f (bound_names child.1)) → length v.tables.symbols + length (bound_below parent (forest_of (drop (i + 1) items))) ≤ n
   hoisted_room f w v passed s n e h made =
-      omega (arith, h, binds e, hoists_add (map f (bound_names child.1)) w passed s, length-map (bound_names child.1) f, ap (λ (u : Standing). length u.tables.symbols) made)
+      omega (arith, h, binds e, hoists_add (map f (bound_names child.1)) w passed s, length-map (bound_names child.1) f, ap (λ (u : WalkState). length u.tables.symbols) made)

@@ -2,7 +2,7 @@ pub mod Settled
 pub mod Growth
 pub mod Waiting
 pub mod Made
-pub mod Hits
+pub mod PassedSymbols
 pub mod Routes
 pub mod Each
 pub mod Named

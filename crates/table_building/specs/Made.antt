@@ -5,17 +5,17 @@ use Rattle.scoping.specs.Names.{name_of}
 use Rattle.resolver.specs.declared.pending.UnresolvedReference.{UnresolvedReference}
 use Rattle.semantic_model.specs.Binding.{Binding}
 use Rattle.semantic_model.specs.Outcome.{Pending}
-use Rattle.walk_model.specs.Standing.{Standing}
+use Rattle.walk_model.specs.WalkState.{WalkState}
 use Rattle.table_building.specs.Waiting.{AreWaiting}
 use Rattle.table_building.specs.declared.declared.Declared.TheInside.{Inside}
 
 abbrev pub pending_of : UnresolvedReference → Pending
 pending_of u = record { name = name_of u.name; reference = u.reference_id; lookup_scope = u.lookup_scope_id }
 
-abbrev pub standing : Inside → Standing
-standing d = record {
+abbrev pub walk_state : Inside → WalkState
+walk_state d = record {
   tables = d.scoping;
-  remembered = d.remembered;
+  remembered = d.hoisting_variables;
   conflicts = d.conflicts;
   nodes = d.tables;
   waiting = map pending_of d.pending;
@@ -27,5 +27,5 @@ AreSymbols count bs = AllByRecursion (λ b. b.symbol < count) bs
 
 -- the symbols that are remembered exist, and what waits is a reference in a scope
 pub record IsSound (d : Inside) : Type 0 where
-  pub remembered : AreSymbols (length d.scoping.symbols) d.remembered
+  pub remembered : AreSymbols (length d.scoping.symbols) d.hoisting_variables
   pub waiting : AreWaiting d.scoping (map pending_of d.pending)

@@ -4,7 +4,7 @@ use Rattle.std.specs.List.{AllByRecursion}
 use Rattle.semantic_syntax.specs.Tables.{Name}
 use Rattle.scoping.specs.Names.{name_at}
 use Rattle.semantic_model.specs.Binding.{Binding}
-use Rattle.table_building.specs.declared.remembered.Remembered.TheInside.{Inside}
+use Rattle.table_building.specs.declared.hoisting_variables.HoistingVariables.TheInside.{Inside}
 
 -- an entry with the name in place of its number
 abbrev pub binding_of : List Name → (ℕ × ℕ) × ℕ → Binding

@@ -6,7 +6,7 @@ use Rattle.semantic_syntax.specs.Told.{source_of}
 use Rattle.resolver.specs.declared.outcomes.Outcome.{Outcome}
 use Rattle.resolver.specs.declared.outcomes.Outcome.TheVariants.{Tied, Free, Pending}
 use Rattle.semantic_model.specs.Outcome as model
-use Rattle.walk_model.specs.Standing.{Standing}
+use Rattle.walk_model.specs.WalkState.{WalkState}
 use Rattle.walk_model.specs.Settles.{settle, staying}
 
 -- the symbol, or the scope, is one of so many
@@ -30,15 +30,15 @@ abbrev pub no_pending : model.Pending
 no_pending = record { name = []; reference = 0; lookup_scope = 0 }
 
 -- the references that wait from a position on get their outcomes; the others wait on
-abbrev pub settled_from : Standing → ℕ → List model.Outcome → Standing
+abbrev pub settled_from : WalkState → ℕ → List model.Outcome → WalkState
 settled_from w start outcomes = record w {
   tables = settle w.tables (drop start w.waiting) outcomes;
   waiting = take start w.waiting ++ staying (drop start w.waiting) outcomes;
 }
 
 -- how many scopes the end of the scope's header asks for the references that wait from a position on
-abbrev pub asked_from : Standing → (start scope : ℕ) → ℕ
-asked_from w start c = sum_by (model.header_asks (source_of w.tables) c) (drop start w.waiting)
+abbrev pub probes_from : WalkState → (start scope : ℕ) → ℕ
+probes_from w start c = sum_by (model.header_probes (source_of w.tables) c) (drop start w.waiting)
 
 -- the references wait neither in the scope nor below it
 abbrev pub AreOutside : Source → ℕ → List model.Pending → Type 0

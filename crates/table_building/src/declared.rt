@@ -8,7 +8,7 @@ ghost use Rattle.semantic_syntax.specs.Reading.{scope_of};
 ghost use Rattle.semantic_model.specs.Binding.{get};
 ghost use Rattle.semantic_model.specs.Fold.{or_else};
 ghost use Rattle.walk_model.specs.Opens.{open_in};
-ghost use Rattle.walk_model.specs.Standing.{nothing_made};
+ghost use Rattle.walk_model.specs.WalkState.{nothing_made};
 ghost use Rattle.walk_model.specs.Declares as walked;
 ghost use Rattle.table_building.specs.Conflicting.{told};
 ghost use Rattle.table_building.specs.Growth.{Goes};
@@ -16,7 +16,7 @@ ghost use Rattle.table_building.specs.Named.{naming, named_by};
 
 use crate::conflicts::Conflicts;
 use crate::declaration::Declaration;
-use crate::remembered::Remembered;
+use crate::hoisting_variables::HoistingVariables;
 use crate::route::parent;
 use node_rules::rows::Row;
 use resolver::UnresolvedReferences;
@@ -34,19 +34,19 @@ pub struct Declared<'a> {
     pub(crate) alloc: Global,
     pub(crate) scoping: Scoping,
     pub(crate) tables: NodeTables,
-    pub(crate) remembered: Remembered,
+    pub(crate) hoisting_variables: HoistingVariables,
     pub(crate) conflicts: Conflicts<'a>,
     pub(crate) pending: UnresolvedReferences<'a>,
 }
 
 impl<'a> Model for Declared<'a> {
-    ghost use Rattle.walk_model.specs.Standing.{Standing};
+    ghost use Rattle.walk_model.specs.WalkState.{WalkState};
 
-    ghost Value = { Standing };
+    ghost Value = { WalkState };
 
-    ghost use Rattle.table_building.specs.Made.{standing, IsSound};
+    ghost use Rattle.table_building.specs.Made.{walk_state, IsSound};
 
-    ghost view = { standing };
+    ghost view = { walk_state };
 
     ghost invariant = { IsSound };
 }
@@ -79,7 +79,7 @@ impl<'a> Declared<'a> {
             alloc,
             scoping: Scoping::new(alloc),
             tables: NodeTables::new(alloc),
-            remembered: Remembered::new(alloc),
+            hoisting_variables: HoistingVariables::new(alloc),
             conflicts: Conflicts::new(alloc),
             pending: UnresolvedReferences::new(alloc),
         }
@@ -170,7 +170,7 @@ impl<'a> Declared<'a> {
         ensures value { result ≡ get self.now.remembered scope (name_of name.entry) }
         ensures within { IfSome result (λ y. y < length self.now.tables.symbols) }
     {
-        self.remembered.get(scope, name)
+        self.hoisting_variables.get(scope, name)
     }
 
     /// The symbol that the scope binds to the name, else the one that it remembers.
@@ -263,12 +263,12 @@ impl<'a> Declared<'a> {
     }
 
     /// Notes the symbol of the declaration.
-    pub(crate) fn gets(
+    pub(crate) fn note_symbol(
         &mut self,
         symbol: SymbolId,
         declaration: &Declaration<'a>,
     ) -> Result<(), AllocError>
-        ensures made { OnOk result (self.new ≡ walked.gets self.old symbol (naming declaration.now)) }
+        ensures made { OnOk result (self.new ≡ walked.note_symbol self.old symbol (naming declaration.now)) }
         ensures goes { Goes self.old self.new }
     {
         self.tables.set_symbol(declaration.identifier, symbol)?;
@@ -334,7 +334,7 @@ impl<'a> Declared<'a> {
         ensures goes { Goes self.old self.new }
     {
         let symbol = self.symbol_in(scope, declaration)?;
-        self.gets(symbol, declaration)
+        self.note_symbol(symbol, declaration)
     }
 
     /// Declares in a scope, always anew, as a catch clause does (ECMAScript 14.15.2, CatchClauseEvaluation).
@@ -349,7 +349,7 @@ impl<'a> Declared<'a> {
         ensures goes { Goes self.old self.new }
     {
         let symbol = self.make(scope, declaration)?;
-        self.gets(symbol, declaration)
+        self.note_symbol(symbol, declaration)
     }
 
     /// The node declares the name in a scope.

@@ -7,7 +7,7 @@ ghost use Rattle.walk_model.specs.Hoists as walked;
 ghost use Rattle.table_building.specs.Growth.{Goes};
 ghost use Rattle.table_building.specs.Routes.{IsRoute};
 ghost use Rattle.table_building.specs.Named.{naming, named_by};
-ghost use Rattle.table_building.specs.Hits.{hit_of, hoisted, symbol_hoisted};
+ghost use Rattle.table_building.specs.PassedSymbols.{passed_symbol_of, hoisted, symbol_hoisted};
 
 use crate::declaration::Declaration;
 use crate::declared::Declared;
@@ -19,7 +19,7 @@ use std::alloc::AllocError;
 
 /// A passed scope, and its symbol that counts as the variable.
 #[derive(Clone, Copy)]
-struct Hit {
+struct PassedSymbol {
     scope: ScopeId,
     symbol: SymbolId,
 }
@@ -27,9 +27,9 @@ struct Hit {
 #[tactic(auto, using(crate::proofs::Growing::growing))]
 impl<'a> Declared<'a> {
     /// The symbol, if it counts as the variable: if it is a value or an import.
-    fn counting(&self, symbol: SymbolId) -> Option<SymbolId>
+    fn value_symbol(&self, symbol: SymbolId) -> Option<SymbolId>
         requires { symbol < length self.now.tables.symbols }
-        ensures value { result ≡ walked.counting self.now.tables (Some symbol) }
+        ensures value { result ≡ walked.value_symbol self.now.tables (Some symbol) }
         ensures within { IfSome result (λ y. y < length self.now.tables.symbols) }
     {
         let flags = self.scoping.symbol_flags(symbol);
@@ -42,14 +42,14 @@ impl<'a> Declared<'a> {
 
     /// The symbol that the scope has for the name, if it counts as the variable. A symbol that is found may be a
     /// conflict (ECMAScript 14.2.1, VarDeclaredNames; TypeScript 2481, `checkVarDeclaredNamesNotShadowed`).
-    fn asked(
+    fn value_symbol_in(
         &mut self,
         scope: ScopeId,
         declaration: &Declaration<'a>,
     ) -> Result<Option<SymbolId>, AllocError>
         requires { scope < length self.old.tables.scopes }
         ensures noted { OnOk result (self.new ≡ walked.against_found self.old (naming declaration.now) (found self.old scope (naming declaration.now).name)) }
-        ensures symbol { IfOk result (λ o. o ≡ walked.counting self.old.tables (found self.old scope (naming declaration.now).name)) }
+        ensures symbol { IfOk result (λ o. o ≡ walked.value_symbol self.old.tables (found self.old scope (naming declaration.now).name)) }
         ensures symbols { length self.new.tables.symbols ≡ length self.old.tables.symbols }
         ensures goes { Goes self.old self.new }
         ensures within { IfOk result (λ o. IfSome o (λ y. y < length self.new.tables.symbols)) }
@@ -57,7 +57,7 @@ impl<'a> Declared<'a> {
         match self.found(scope, Ident::new(declaration.name)) {
             Some(symbol) => {
                 self.note_conflict(symbol, declaration)?;
-                Ok(self.counting(symbol))
+                Ok(self.value_symbol(symbol))
             }
             None => Ok(None),
         }
@@ -65,21 +65,21 @@ impl<'a> Declared<'a> {
 
     #[tactic(auto, using(crate::proofs::Growing::growing, crate::proofs::Passing::passing))]
     /// The first passed scope with a symbol that counts as the variable.
-    fn hit(
+    fn passed_symbol(
         &mut self,
         route: &Route,
         declaration: &Declaration<'a>,
-    ) -> Result<Option<Hit>, AllocError>
+    ) -> Result<Option<PassedSymbol>, AllocError>
         requires { IsRoute (length self.old.tables.scopes) route.now }
         ensures noted { OnOk result (self.new ≡ walked.against_way self.old (naming declaration.now) route.now.passed.items) }
-        ensures hit { IfOk result (λ o. option_map hit_of o ≡ walked.hit self.old route.now.passed.items (naming declaration.now).name) }
+        ensures passed_symbol { IfOk result (λ o. option_map passed_symbol_of o ≡ walked.passed_symbol self.old route.now.passed.items (naming declaration.now).name) }
         ensures symbols { length self.new.tables.symbols ≡ length self.old.tables.symbols }
         ensures goes { Goes self.old self.new }
         ensures within { IfOk result (λ o. IfSome o (λ h. (h.scope < length self.new.tables.scopes) × (h.symbol < length self.new.tables.symbols))) }
     {
         for scope in route.passed.as_slice() {
-            if let Some(symbol) = self.asked(scope.id(), declaration)? {
-                return Ok(Some(Hit {
+            if let Some(symbol) = self.value_symbol_in(scope.id(), declaration)? {
+                return Ok(Some(PassedSymbol {
                     scope: scope.id(),
                     symbol,
                 }));
@@ -89,9 +89,9 @@ impl<'a> Declared<'a> {
     }
 
     /// Makes the scope the one that the symbol belongs to.
-    fn give(&mut self, symbol: SymbolId, scope: ScopeId)
+    fn set_symbol_scope(&mut self, symbol: SymbolId, scope: ScopeId)
         requires { symbol < length self.old.tables.symbols }
-        ensures made { self.new ≡ walked.give self.old symbol scope }
+        ensures made { self.new ≡ walked.set_symbol_scope self.old symbol scope }
         ensures goes { Goes self.old self.new }
     {
         self.scoping.set_symbol_scope_id(symbol, scope);
@@ -148,7 +148,7 @@ impl<'a> Declared<'a> {
         ensures made { OnOk result (self.new ≡ walked.remember self.old scope (name_of name.entry) symbol) }
         ensures goes { Goes self.old self.new }
     {
-        self.remembered.put(scope, name, symbol)?;
+        self.hoisting_variables.put(scope, name, symbol)?;
         Ok(())
     }
 
@@ -171,20 +171,20 @@ impl<'a> Declared<'a> {
     }
 
     /// The symbol of a passed scope is declared once more, and moves to the target.
-    fn move_hit(
+    fn move_passed_symbol(
         &mut self,
-        hit: &Hit,
+        passed_symbol: &PassedSymbol,
         target: ScopeId,
         declaration: &Declaration<'a>,
     ) -> Result<(), AllocError>
         requires target { target < length self.old.tables.scopes }
-        requires scope { hit.now.scope < length self.old.tables.scopes }
-        requires symbol { hit.now.symbol < length self.old.tables.symbols }
-        ensures made { OnOk result (self.new ≡ walked.hoisted_by self.old target (naming declaration.now) (Some (hit_of hit.now))) }
+        requires scope { passed_symbol.now.scope < length self.old.tables.scopes }
+        requires symbol { passed_symbol.now.symbol < length self.old.tables.symbols }
+        ensures made { OnOk result (self.new ≡ walked.hoisted_by self.old target (naming declaration.now) (Some (passed_symbol_of passed_symbol.now))) }
         ensures goes { Goes self.old self.new }
     {
-        self.redeclare(hit.symbol, declaration)?;
-        self.move_symbol(hit.scope, target, hit.symbol, Ident::new(declaration.name))
+        self.redeclare(passed_symbol.symbol, declaration)?;
+        self.move_symbol(passed_symbol.scope, target, passed_symbol.symbol, Ident::new(declaration.name))
     }
 
     /// The symbol of a `var`: that of a passed scope that counts, which moves to the target, else it is declared in
@@ -201,10 +201,10 @@ impl<'a> Declared<'a> {
         ensures goes { Goes self.old self.new }
         ensures within { IfOk result (λ y. y < length self.new.tables.symbols) }
     {
-        match self.hit(route, declaration)? {
-            Some(hit) => {
-                self.move_hit(&hit, route.target, declaration)?;
-                Ok(hit.symbol)
+        match self.passed_symbol(route, declaration)? {
+            Some(passed_symbol) => {
+                self.move_passed_symbol(&passed_symbol, route.target, declaration)?;
+                Ok(passed_symbol.symbol)
             }
             None => self.symbol_in(route.target, declaration),
         }
@@ -219,7 +219,7 @@ impl<'a> Declared<'a> {
         ensures goes { Goes self.old self.new }
     {
         let symbol = self.hoisted_symbol(route, declaration)?;
-        self.gets(symbol, declaration)?;
+        self.note_symbol(symbol, declaration)?;
         self.remember_all(route, Ident::new(declaration.name), symbol)
     }
 
@@ -254,7 +254,7 @@ impl<'a> Declared<'a> {
             Some(_) => Ok(()),
             None => {
                 self.move_name(name, block, target)?;
-                self.give(symbol, target);
+                self.set_symbol_scope(symbol, target);
                 self.remember(block, name, symbol)
             }
         }
@@ -276,7 +276,7 @@ impl<'a> Declared<'a> {
         ensures goes { Goes self.old self.new }
     {
         let symbol = self.symbol_in(block, declaration)?;
-        self.gets(symbol, declaration)?;
+        self.note_symbol(symbol, declaration)?;
         self.move_out(block, target, symbol, Ident::new(declaration.name))
     }
 

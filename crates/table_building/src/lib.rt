@@ -6,7 +6,7 @@ pub mod declaration;
 pub mod declared;
 pub mod hoist;
 pub mod names;
-pub mod remembered;
+pub mod hoisting_variables;
 pub mod route;
 pub mod scopes;
 pub mod settle;

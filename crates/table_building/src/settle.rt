@@ -4,11 +4,11 @@ ghost use Rattle.std.specs.Prelude.{◌≡◌, ◌+◌, ◌<◌, ◌≤◌, leng
 ghost use Rattle.std.specs.List.{sum_by};
 ghost use Rattle.semantic_syntax.specs.Counts.{raised};
 ghost use Rattle.semantic_syntax.specs.Told.{source_of};
-ghost use Rattle.semantic_model.specs.Outcome.{header_outcome, last_outcome, last_asks};
+ghost use Rattle.semantic_model.specs.Outcome.{header_outcome, last_outcome, last_probes};
 ghost use Rattle.walk_model.specs.Settles as walked;
 ghost use Rattle.table_building.specs.Growth.{Grows};
 ghost use Rattle.table_building.specs.Made.{pending_of};
-ghost use Rattle.table_building.specs.Settled.{IsOutcomeWithin, outcome_of, settled_from, asked_from, no_pending, AreOutside};
+ghost use Rattle.table_building.specs.Settled.{IsOutcomeWithin, outcome_of, settled_from, probes_from, no_pending, AreOutside};
 
 use crate::declared::Declared;
 use resolver::{Outcome, Outcomes, UnresolvedReference, resolve_all, resolve_header, settled};
@@ -67,13 +67,13 @@ impl<'a> Declared<'a> {
     }
 
     /// Gives the reference at the position its outcome.
-    fn settle_at(&mut self, place: usize, outcome: Outcome) -> Result<(), AllocError>
-        requires place { place < length self.old.waiting }
+    fn settle_at(&mut self, position: usize, outcome: Outcome) -> Result<(), AllocError>
+        requires position { position < length self.old.waiting }
         requires outcome { IsOutcomeWithin (length self.old.tables.symbols) (length self.old.tables.scopes) outcome }
-        ensures made { OnOk result (self.new ≡ record self.old { tables = walked.settle_one self.old.tables (slice_index_or self.old.waiting place no_pending) (outcome_of outcome) }) }
+        ensures made { OnOk result (self.new ≡ record self.old { tables = walked.settle_one self.old.tables (slice_index_or self.old.waiting position no_pending) (outcome_of outcome) }) }
         ensures grows { Grows self.old.tables self.new.tables }
     {
-        match self.pending.get(place) {
+        match self.pending.get(position) {
             Some(entry) => self.settle_one(&entry, outcome),
             None => Ok(()),
         }
@@ -87,8 +87,8 @@ impl<'a> Declared<'a> {
         ensures grows { Grows self.old.tables self.new.tables }
     {
         let items = outcomes.as_slice();
-        for place in start..self.waiting() {
-            self.settle_at(place, items[place - start])?;
+        for position in start..self.waiting() {
+            self.settle_at(position, items[position - start])?;
         }
         Ok(())
     }
@@ -118,9 +118,9 @@ impl<'a> Declared<'a> {
         ensures outcomes { IfOk result (λ o. map outcome_of o ≡ map (header_outcome (source_of self.now.tables) scope) (drop start self.now.waiting)) }
         ensures within { IfOk result (λ o. All (IsOutcomeWithin (length self.now.tables.symbols) (length self.now.tables.scopes)) o) }
         ensures count { IfOk result (λ o. start + length o ≡ length self.now.waiting) }
-        ensures cost { OnOk result (steps.new ≡ raised steps.old (asked_from self.now start scope)) }
+        ensures cost { OnOk result (steps.new ≡ raised steps.old (probes_from self.now start scope)) }
         ensures risen { steps.old ≤ steps.new }
-        ensures given_up { OnErr result (steps.new ≤ raised steps.old (asked_from self.now start scope)) }
+        ensures given_up { OnErr result (steps.new ≤ raised steps.old (probes_from self.now start scope)) }
     {
         self.scoping.attest();
         resolve_header(
@@ -138,9 +138,9 @@ impl<'a> Declared<'a> {
         ensures outcomes { IfOk result (λ o. map outcome_of o ≡ map (last_outcome (source_of self.now.tables)) self.now.waiting) }
         ensures within { IfOk result (λ o. All (IsOutcomeWithin (length self.now.tables.symbols) (length self.now.tables.scopes)) o) }
         ensures count { IfOk result (λ o. length o ≡ length self.now.waiting) }
-        ensures cost { OnOk result (steps.new ≡ raised steps.old (sum_by (last_asks (source_of self.now.tables)) self.now.waiting)) }
+        ensures cost { OnOk result (steps.new ≡ raised steps.old (sum_by (last_probes (source_of self.now.tables)) self.now.waiting)) }
         ensures risen { steps.old ≤ steps.new }
-        ensures given_up { OnErr result (steps.new ≤ raised steps.old (sum_by (last_asks (source_of self.now.tables)) self.now.waiting)) }
+        ensures given_up { OnErr result (steps.new ≤ raised steps.old (sum_by (last_probes (source_of self.now.tables)) self.now.waiting)) }
     {
         self.scoping.attest();
         resolve_all(self.alloc, &self.pending, &self.scoping, steps)
@@ -164,9 +164,9 @@ impl<'a> Declared<'a> {
         ensures whole { AreOutside (source_of self.old.tables) scope (take start self.old.waiting) → OnOk result (self.new ≡ walked.end_header self.old scope) }
         ensures grows { Grows self.old.tables self.new.tables }
         ensures waiting { OnOk result (start ≤ length self.new.waiting) }
-        ensures cost { OnOk result (steps.new ≡ raised steps.old (asked_from self.old start scope)) }
+        ensures cost { OnOk result (steps.new ≡ raised steps.old (probes_from self.old start scope)) }
         ensures risen { steps.old ≤ steps.new }
-        ensures given_up { OnErr result (steps.new ≤ raised steps.old (asked_from self.old start scope)) }
+        ensures given_up { OnErr result (steps.new ≤ raised steps.old (probes_from self.old start scope)) }
     {
         let outcomes = self.header_outcomes(scope, start, steps)?;
         self.settle(start, &outcomes)
@@ -178,9 +178,9 @@ impl<'a> Declared<'a> {
     pub fn settle_rest<L>(&mut self, steps: &mut Steps<L>) -> Result<(), AllocError>
         ensures made { OnOk result (self.new ≡ walked.settle_rest self.old) }
         ensures grows { Grows self.old.tables self.new.tables }
-        ensures cost { OnOk result (steps.new ≡ raised steps.old (sum_by (last_asks (source_of self.old.tables)) self.old.waiting)) }
+        ensures cost { OnOk result (steps.new ≡ raised steps.old (sum_by (last_probes (source_of self.old.tables)) self.old.waiting)) }
         ensures risen { steps.old ≤ steps.new }
-        ensures given_up { OnErr result (steps.new ≤ raised steps.old (sum_by (last_asks (source_of self.old.tables)) self.old.waiting)) }
+        ensures given_up { OnErr result (steps.new ≤ raised steps.old (sum_by (last_probes (source_of self.old.tables)) self.old.waiting)) }
     {
         let outcomes = self.last_outcomes(steps)?;
         self.settle(0, &outcomes)

@@ -17,10 +17,10 @@ struct Case {
     header: u32,
     /// The scope from which the name is looked up after the header.
     waits_in: u32,
-    asked: u64,
+    probes: u64,
     /// Whether it means symbol 0, or else none.
     is_tied: bool,
-    asked_in_all: u64,
+    probes_in_all: u64,
 }
 
 impl Case {
@@ -41,9 +41,9 @@ const CASES: &[Case] = &[
         lookup: 1,
         header: 1,
         waits_in: 0,
-        asked: 1,
+        probes: 1,
         is_tied: false,
-        asked_in_all: 2,
+        probes_in_all: 2,
     },
     Case {
         name: "f",
@@ -51,9 +51,9 @@ const CASES: &[Case] = &[
         lookup: 99_999,
         header: 50_000,
         waits_in: 49_999,
-        asked: 50_000,
+        probes: 50_000,
         is_tied: true,
-        asked_in_all: 100_000,
+        probes_in_all: 100_000,
     },
 ];
 
@@ -174,13 +174,13 @@ fn is_asked_once(alloc: Global, case: &Case, scoping: &Scoping) -> Result<[bool;
     let Some(waits_in) = header_ends(alloc, case, scoping, &mut steps)? else {
         return Ok([false; 4]);
     };
-    let asked = steps.count();
+    let probes = steps.count();
     let ended = walk_ends(alloc, case.name, waits_in, scoping, &mut steps)?;
     Ok([
         waits_in == scope_of(case.waits_in),
-        asked == case.asked,
+        probes == case.probes,
         ended == Some(case.ends_as()),
-        steps.count() == case.asked_in_all,
+        steps.count() == case.probes_in_all,
     ])
 }
 

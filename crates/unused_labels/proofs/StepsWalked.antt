@@ -12,7 +12,7 @@ use Rattle.semantic_model.specs.ScopeKind.{opened_scope}
 use Rattle.semantic_model.specs.Cursor.{on_entering}
 use Rattle.semantic_model.specs.Label.{label_of, is_jump, is_labelled, unused_labels}
 use Rattle.semantic_model.specs.Step.{Step, entering, opening, leaving, header_ending, closing, scope_at, next_at, opening_at, ending_after, opening_last, child_place, cursor_past, steps_below, steps_of, root_place, steps}
-use Rattle.semantic_model.proofs.Shape.{has_form}
+use Rattle.semantic_model.proofs.form.Shape.{has_form}
 use Rattle.unused_labels.specs.LabelStack.{LabelLists, no_labels}
 use Rattle.unused_labels.specs.Labelling.{label_met, node_entered, node_left, walked_below}
 use Rattle.unused_labels.specs.LabelSteps.{labelling, labelling_all}

@@ -4,7 +4,7 @@ use Rattle.std.specs.List.{list_any}
 use Rattle.semantic_syntax.specs.Tables.{Name}
 use Rattle.std.specs.Prelude.{bytes_eq}
 use Rattle.std.proofs.lemmas.Slice.Eq.{bytes_eq-Decides}
-use Rattle.semantic_model.proofs.Under.{name_tells}
+use Rattle.semantic_model.proofs.once.ListedUnder.{name_tells}
 use Rattle.unused_labels.specs.LabelStack.{Labelled, is_of, innermost_used, if_unused, left}
 use Rattle.unused_labels.specs.Labelling.{used_where}
 use Rattle.unused_labels.proofs.Innermost.{lists, unmoved}

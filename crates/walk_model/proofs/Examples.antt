@@ -6,7 +6,7 @@ use Rattle.semantic_model.specs.Event.{events}
 use Rattle.semantic_model.specs.Fold.{start}
 use Rattle.semantic_model.specs.Hoist.{run}
 use Rattle.semantic_model.specs.TablesOf.{tables_of}
-use Rattle.semantic_model.proofs.SmallPrograms.{use_before_var, default_sees_outside, nested_headers, catch_pattern_with_arrow, var_in_catch, function_moves, function_in_module, function_below_lexical, lexical_after_function, function_below_function, function_past_catch_name, function_below_catch_pattern, type_past_value, namespace_of_itself, arguments_outside, declared_twice, catch_in_expression, parameter_decorator, ways, whole}
+use Rattle.semantic_model.proofs.examples.SmallPrograms.{use_before_var, default_sees_outside, nested_headers, catch_pattern_with_arrow, var_in_catch, function_moves, function_in_module, function_below_lexical, lexical_after_function, function_below_function, function_past_catch_name, function_below_catch_pattern, type_past_value, namespace_of_itself, arguments_outside, declared_twice, catch_in_expression, parameter_decorator, ways, whole}
 use Rattle.walk_model.specs.Walks.{walked}
 
 use_before_var_is : (walked use_before_var).tables ≡ tables_of use_before_var

@@ -13,7 +13,7 @@ use Rattle.semantic_syntax.specs.Reading.{bound_in, symbol_of, own_entry}
 use Rattle.scoping.specs.Writing.{bound, with_symbol}
 use Rattle.semantic_model.specs.Binding.{get}
 use Rattle.semantic_model.specs.Fold.{Conflict, or_else}
-use Rattle.walk_model.specs.Standing.{Standing}
+use Rattle.walk_model.specs.WalkState.{WalkState}
 use Rattle.walk_model.specs.Naming.{Naming}
 
 abbrev pub unless_expression : Tables → Option ℕ → Option ℕ
@@ -21,14 +21,14 @@ unless_expression t None = None
 unless_expression t (Some y) = cond (meets (symbol_of t y).flags.bits symbol.FunctionExpression.bits) None (Some y)
 
 -- the symbol that the scope binds to the name, else the one that it remembers; the name of a function expression counts as none
-abbrev pub found : Standing → ℕ → Name → Option ℕ
+abbrev pub found : WalkState → ℕ → Name → Option ℕ
 found w s x = unless_expression w.tables (or_else (bound_in w.tables s x) (get w.remembered s x))
 
 abbrev pub conflict_of : Naming → Symbol → List Conflict
 conflict_of d y = cond (meets y.flags.bits d.excluded) (record { name = d.name; earlier = y.span; later = d.span } ∷ []) []
 
 -- a conflict is noted where the symbol's flags meet the excluded ones
-abbrev pub against : Standing → Naming → ℕ → Standing
+abbrev pub against : WalkState → Naming → ℕ → WalkState
 against w d y = record w { conflicts = w.conflicts ++ conflict_of d (symbol_of w.tables y) }
 
 abbrev pub new_symbol : ℕ → Naming → Symbol
@@ -38,7 +38,7 @@ abbrev pub with_new : Tables → ℕ → Naming → Tables
 with_new t s d = record (bound t s d.name (length t.symbols)) { symbols = t.symbols ++ new_symbol s d ∷ []; uses = t.uses ++ [] ∷ [] }
 
 -- a new symbol, bound in the scope
-abbrev pub make : Standing → ℕ → Naming → Standing
+abbrev pub make : WalkState → ℕ → Naming → WalkState
 make w s d = record w { tables = with_new w.tables s d }
 
 abbrev pub entry_of : Naming → Redeclaration
@@ -48,46 +48,46 @@ abbrev pub redeclared : Naming → Symbol → Symbol
 redeclared d y = record y { redeclarations = Some (unwrap_or y.redeclarations (own_entry y ∷ []) ++ entry_of d ∷ []) }
 
 -- one more declaration of the symbol, without its flags; without a list, its own goes first
-abbrev pub redeclare : Standing → ℕ → Naming → Standing
+abbrev pub redeclare : WalkState → ℕ → Naming → WalkState
 redeclare w y d = record w { tables = with_symbol w.tables y (redeclared d (symbol_of w.tables y)) }
 
 abbrev pub with_flags : ℕ → Symbol → Symbol
 with_flags flags y = record y { flags = record { bits = bit_or y.flags.bits flags } }
 
 -- the flags of one more declaration are added to the symbol's
-abbrev pub add_flags : Standing → ℕ → ℕ → Standing
+abbrev pub add_flags : WalkState → ℕ → ℕ → WalkState
 add_flags w y flags = record w { tables = with_symbol w.tables y (with_flags flags (symbol_of w.tables y)) }
 
 -- the symbol is declared once more
-abbrev pub unite : Standing → ℕ → Naming → Standing
+abbrev pub unite : WalkState → ℕ → Naming → WalkState
 unite w y d = add_flags (redeclare (against w d y) y d) y d.flags
 
 abbrev pub pure_with : Tables → ℕ → Tables
 pure_with t y = record t { pure_symbols = insert_key nat_cmp t.pure_symbols y }
 
 -- the declaration gets the symbol
-abbrev pub gets : Standing → ℕ → Naming → Standing
-gets w y d = record w {
+abbrev pub note_symbol : WalkState → ℕ → Naming → WalkState
+note_symbol w y d = record w {
   nodes = record w.nodes { symbols = insert_entry nat_eq w.nodes.symbols d.identifier y };
   tables = cond d.is_pure (pure_with w.tables y) w.tables;
 }
 
-abbrev pub symbol_by : Standing → ℕ → Naming → Option ℕ → Standing
+abbrev pub symbol_by : WalkState → ℕ → Naming → Option ℕ → WalkState
 symbol_by w s d None = make w s d
 symbol_by w s d (Some y) = unite w y d
 
 -- what is found in the scope is declared once more, else a new symbol is bound
-abbrev pub with_symbol_in : Standing → ℕ → Naming → Standing
+abbrev pub with_symbol_in : WalkState → ℕ → Naming → WalkState
 with_symbol_in w s d = symbol_by w s d (found w s d.name)
 
 -- the symbol that the name has then: the one that is found, else the new one
-abbrev pub symbol_in : Standing → ℕ → Naming → ℕ
+abbrev pub symbol_in : WalkState → ℕ → Naming → ℕ
 symbol_in w s d = unwrap_or (found w s d.name) (length w.tables.symbols)
 
 -- declared in a scope, by what is found there
-abbrev pub declare : Standing → ℕ → Naming → Standing
-declare w s d = gets (with_symbol_in w s d) (symbol_in w s d) d
+abbrev pub declare : WalkState → ℕ → Naming → WalkState
+declare w s d = note_symbol (with_symbol_in w s d) (symbol_in w s d) d
 
 -- declared in a scope, always anew
-abbrev pub declare_anew : Standing → ℕ → Naming → Standing
-declare_anew w s d = gets (make w s d) (length w.tables.symbols) d
+abbrev pub declare_anew : WalkState → ℕ → Naming → WalkState
+declare_anew w s d = note_symbol (make w s d) (length w.tables.symbols) d

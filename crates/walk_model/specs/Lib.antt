@@ -1,4 +1,4 @@
-pub mod Standing
+pub mod WalkState
 pub mod Naming
 pub mod Declares
 pub mod Hoists

@@ -12,21 +12,21 @@ use Rattle.semantic_tree.specs.Views.{is}
 use Rattle.semantic_model.specs.Place.{Place, OpenScope, at}
 use Rattle.semantic_model.specs.Cursor.{way_of}
 use Rattle.semantic_model.specs.TablesOf.{is_direct_eval}
-use Rattle.walk_model.specs.Standing.{Standing}
+use Rattle.walk_model.specs.WalkState.{WalkState}
 
 abbrev pub with_eval : Scope → Scope
 with_eval s = record s { flags = record { bits = union s.flags.bits scope.DirectEval.bits } }
 
 -- a call of `eval` in the scope
-abbrev pub add_eval : Standing → ℕ → Standing
+abbrev pub add_eval : WalkState → ℕ → WalkState
 add_eval w s = record w { tables = with_scope w.tables s (with_eval (scope_of w.tables s)) }
 
 -- a node that is a call of `eval` is noted
-abbrev pub note_eval : Standing → Place → Standing
+abbrev pub note_eval : WalkState → Place → WalkState
 note_eval w p = cond (is_direct_eval p.node) (add_eval w (at p)) w
 
 -- the node is a reference in the scope, in the way
-abbrev pub with_reference_at : Standing → (node scope way : ℕ) → Standing
+abbrev pub with_reference_at : WalkState → (node scope way : ℕ) → WalkState
 with_reference_at w node s way = record w {
   tables = record w.tables {
     references = w.tables.references ++ record { node_id = node; scope_id = s; flags = record { bits = way }; symbol_id = None } ∷ [];
@@ -35,16 +35,16 @@ with_reference_at w node s way = record w {
 }
 
 -- it refers to the name, and waits in the scope
-abbrev pub refer_to : Standing → (node : ℕ) → Name → (scope way : ℕ) → Standing
+abbrev pub refer_to : WalkState → (node : ℕ) → Name → (scope way : ℕ) → WalkState
 refer_to w node name s way = record (with_reference_at w node s way) {
   waiting = w.waiting ++ record { name = name; reference = length w.tables.references; lookup_scope = s } ∷ [];
 }
 
-abbrev pub refer : Standing → Place → Standing
+abbrev pub refer : WalkState → Place → WalkState
 refer w p = refer_to w p.node.node_id p.node.text (at p) (way_of p.cursor)
 
 -- a node that is a reference is noted, and waits where it stands
-abbrev pub note_reference : Standing → Place → Standing
+abbrev pub note_reference : WalkState → Place → WalkState
 note_reference w p = cond (is kind.IdentifierReference p.node) (refer w p) w
 
 abbrev pub number_of : List OpenScope → Option ℕ
@@ -52,7 +52,7 @@ number_of [] = None
 number_of (s ∷ ss) = Some s.number
 
 -- the node opens a scope with the number and the flags, in another one or in none
-abbrev pub open_in : Standing → Option ℕ → (node number flags : ℕ) → Standing
+abbrev pub open_in : WalkState → Option ℕ → (node number flags : ℕ) → WalkState
 open_in w parent node number flags = record w {
   tables = record w.tables {
     scopes = w.tables.scopes ++ record { parent = parent; node = node; flags = record { bits = flags } } ∷ [];
@@ -62,11 +62,11 @@ open_in w parent node number flags = record w {
 }
 
 -- the scope of the place opens
-abbrev pub open_scope : Standing → Place → OpenScope → Standing
+abbrev pub open_scope : WalkState → Place → OpenScope → WalkState
 open_scope w p s = open_in w (number_of p.chain) s.opener s.number s.flags
 
 -- a call of `eval` in the scope is one in the scope around it, too
-abbrev pub close_scope : Standing → ℕ → Standing
+abbrev pub close_scope : WalkState → ℕ → WalkState
 close_scope w s =
     cond (meets (scope_of w.tables s).flags.bits scope.DirectEval.bits)
     (option_map_or (add_eval w) (scope_of w.tables s).parent w) w

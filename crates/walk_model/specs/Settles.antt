@@ -9,7 +9,7 @@ use Rattle.semantic_syntax.specs.Reading.{symbol_of, reference_of, uses_of, free
 use Rattle.semantic_syntax.specs.Told.{source_of}
 use Rattle.scoping.specs.Writing.{with_uses, with_reference}
 use Rattle.semantic_model.specs.Outcome.{Pending, Outcome, means, is_free, waits, header_outcome, last_outcome}
-use Rattle.walk_model.specs.Standing.{Standing}
+use Rattle.walk_model.specs.WalkState.{WalkState}
 
 abbrev pub tied_to : ℕ → Symbol → Reference → Reference
 tied_to y s r = record r { flags = record { bits = settled r.flags.bits s.flags.bits }; symbol_id = Some y }
@@ -46,15 +46,15 @@ staying [] outcomes = []
 staying (e ∷ es) [] = []
 staying (e ∷ es) (o ∷ os) = waiting_on e o (staying es os)
 
-abbrev pub settle_by : Standing → (Pending → Outcome) → Standing
+abbrev pub settle_by : WalkState → (Pending → Outcome) → WalkState
 settle_by w outcome =
     let outcomes : List Outcome = map outcome w.waiting in
     record w { tables = settle w.tables w.waiting outcomes; waiting = staying w.waiting outcomes }
 
 -- at the end of a header the references that wait in its scope or below are looked up as far as the scope
-abbrev pub end_header : Standing → ℕ → Standing
+abbrev pub end_header : WalkState → ℕ → WalkState
 end_header w c = settle_by w (header_outcome (source_of w.tables) c)
 
 -- in the end no reference waits
-abbrev pub settle_rest : Standing → Standing
+abbrev pub settle_rest : WalkState → WalkState
 settle_rest w = settle_by w (last_outcome (source_of w.tables))

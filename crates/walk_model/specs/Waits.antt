@@ -7,7 +7,7 @@ use Rattle.semantic_syntax.specs.Reading.{no_scope}
 use Rattle.semantic_model.specs.Place.{Place, OpenScope}
 use Rattle.semantic_model.specs.Inside.{is_inside}
 use Rattle.semantic_model.specs.Outcome.{Pending}
-use Rattle.walk_model.specs.Standing.{Standing}
+use Rattle.walk_model.specs.WalkState.{WalkState}
 
 -- each parent has a smaller number than its scope
 abbrev pub ParentsFall : List Scope → Type 0
@@ -17,26 +17,26 @@ abbrev pub WaitsBelow : ℕ → Pending → Type 0
 WaitsBelow n e = e.lookup_scope < n
 
 -- parents fall, and each reference waits in a scope that exists
-pub record IsSound (w : Standing) : Type 0 where
+pub record IsSound (w : WalkState) : Type 0 where
   pub falls : ParentsFall w.tables.scopes
   pub waits : AllByRecursion (WaitsBelow (length w.tables.scopes)) w.waiting
 
 -- so many references wait at least, and the first of them in scopes before the scope
-pub record FirstBelow (c start : ℕ) (w : Standing) : Type 0 where
+pub record FirstBelow (c start : ℕ) (w : WalkState) : Type 0 where
   pub enough : start ≤ length w.waiting
   pub below : AllByRecursion (WaitsBelow c) (take start w.waiting)
 
 -- the header of a node: what waited when its scope opened, as far as it is open
-abbrev pub IsHeader : Option OpenScope → ℕ → Standing → Type 0
+abbrev pub IsHeader : Option OpenScope → ℕ → WalkState → Type 0
 IsHeader None start w = start ≤ length w.waiting
 IsHeader (Some s) start w = FirstBelow s.number start w
 
 -- between two children: all is sound, and the header is kept
-pub record HoldsAt (w : Standing) (own : Option OpenScope) (start : ℕ) : Type 0 where
+pub record HoldsAt (w : WalkState) (own : Option OpenScope) (start : ℕ) : Type 0 where
   pub sound : IsSound w
   pub header : IsHeader own start w
 
 -- where the header starts once a child in the role is reached
-abbrev pub start_at : Place → Role → Option OpenScope → ℕ → Standing → ℕ
+abbrev pub start_at : Place → Role → Option OpenScope → ℕ → WalkState → ℕ
 start_at p r (Some s) start w = start
 start_at p r None start w = cond (is_inside p.node.kind r) (length w.waiting) start

@@ -6,7 +6,7 @@ use Rattle.semantic_model.specs.Place.{OpenScope}
 use Rattle.semantic_model.specs.Declaration.{How, plain, hoisted, moved, caught, Declaration, stands_in}
 use Rattle.semantic_model.specs.Step.{Step, entering, opening, header_ending, closing, leaving, steps}
 use Rattle.semantic_model.specs.Event.{Event, declares, takes_over, ends_header, events_of, written_declarations}
-use Rattle.walk_model.specs.Standing.{Standing, nothing_made}
+use Rattle.walk_model.specs.WalkState.{WalkState, nothing_made}
 use Rattle.walk_model.specs.Naming.{naming_of}
 use Rattle.walk_model.specs.Declares.{declare, declare_anew}
 use Rattle.walk_model.specs.Hoists.{hoist, declare_and_move}
@@ -16,24 +16,24 @@ use Rattle.walk_model.specs.Opens.{note_eval, note_reference, open_scope, close_
 abbrev pub numbers : List OpenScope → List ℕ
 numbers scopes = map (λ s. s.number) scopes
 
-abbrev pub declare_by : How → Standing → Declaration → Standing
+abbrev pub declare_by : How → WalkState → Declaration → WalkState
 declare_by plain w d = declare w d.target.number (naming_of d)
 declare_by hoisted w d = hoist w (numbers d.passed) d.target.number (naming_of d)
 declare_by moved w d = declare_and_move w (stands_in d) d.target.number (naming_of d)
 declare_by caught w d = declare_anew w d.target.number (naming_of d)
 
 -- what one event does
-abbrev pub act : Standing → Event → Standing
+abbrev pub act : WalkState → Event → WalkState
 act w (declares d) = declare_by d.how w d
 act w (takes_over c b) = record w { tables = taken_over w.tables c b }
 act w (ends_header c) = end_header w c
 
-abbrev pub act_all : Standing → List Event → Standing
+abbrev pub act_all : WalkState → List Event → WalkState
 act_all w [] = w
 act_all w (e ∷ es) = act_all (act w e) es
 
 -- what comes before the events of a step
-abbrev pub prepare : Standing → Step → Standing
+abbrev pub prepare : WalkState → Step → WalkState
 prepare w (entering p) = note_eval (note_reference w p) p
 prepare w (opening p s) = open_scope w p s
 prepare w (header_ending p s) = w
@@ -41,14 +41,14 @@ prepare w (closing p s) = close_scope w s.number
 prepare w (leaving p) = w
 
 -- what one step does, among the written declarations of the program
-abbrev pub after : List Declaration → Standing → Step → Standing
+abbrev pub after : List Declaration → WalkState → Step → WalkState
 after ds w step = act_all (prepare w step) (events_of ds step)
 
 -- what steps do in order
-abbrev pub after_all : List Declaration → Standing → List Step → Standing
+abbrev pub after_all : List Declaration → WalkState → List Step → WalkState
 after_all ds w [] = w
 after_all ds w (step ∷ more) = after_all ds (after ds w step) more
 
 -- the walk over a program: its steps, and then what waits is settled
-abbrev pub walked : Tree → Standing
+abbrev pub walked : Tree → WalkState
 walked program = settle_rest (after_all (written_declarations (steps program)) nothing_made (steps program))

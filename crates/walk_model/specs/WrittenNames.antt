@@ -16,7 +16,7 @@ use Rattle.semantic_tree.specs.Views.{is, is_with_text, child_of, holds}
 use Rattle.semantic_model.specs.Names.{bound_names}
 use Rattle.semantic_model.specs.Inside.{is_inside, is_parameter_decorator}
 use Rattle.semantic_model.specs.Binder.{is_statement}
-use Rattle.semantic_model.specs.Declaration.{Declaration, standing}
+use Rattle.semantic_model.specs.Declaration.{Declaration, scope_it_stands_in}
 use Rattle.semantic_model.specs.Event.{counts_past}
 
 -- a name, declared in the scope that a node opens
@@ -90,4 +90,4 @@ names_written program = written_in program.root None (record { innermost = 0; ar
 -- whether one of the name that counts stands in the scope that the node opens
 abbrev pub any_standing : ℕ → Name → List Declaration → Bool
 any_standing opener name [] = false
-any_standing opener name (e ∷ es) = (counts_past e && (standing e).opener == opener && bytes_eq e.name name) || any_standing opener name es
+any_standing opener name (e ∷ es) = (counts_past e && (scope_it_stands_in e).opener == opener && bytes_eq e.name name) || any_standing opener name es

@@ -9,7 +9,7 @@ ghost use Rattle.scoping.specs.Kept.{without_marked, without_typescript, deliste
 
 use super::Scoping;
 use crate::kept::{retain_unmarked_in_each, retain_values_in_each};
-use crate::places::take_out;
+use crate::positions::take_out;
 use semantic_syntax::{Ident, ReferenceId, SymbolId};
 
 impl Scoping {

@@ -1,5 +1,5 @@
-use Rattle.count_model.proofs.StepCosts.{asked_once}
+use Rattle.count_model.proofs.StepCosts.{probes_once}
 use Rattle.count_model.proofs.laws.walk_asks_once.Goals as goal
 
 pub returns : goal.returns
-returns c = asked_once
+returns c = probes_once

@@ -1,4 +1,4 @@
-use Rattle.semantic_model.proofs.Shape.{has_form}
+use Rattle.semantic_model.proofs.form.Shape.{has_form}
 use Rattle.program_laws.proofs.NodeNames.{nodes_have_names, tied_nodes_have_names}
 use Rattle.program_laws.proofs.names.nodes_have_names.Goals as goal
 

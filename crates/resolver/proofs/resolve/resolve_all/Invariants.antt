@@ -1,7 +1,7 @@
 use Rattle.std.proofs.Common.{◌≡◌, map, take}
 use Rattle.std.specs.List.{sum_by}
 use Rattle.semantic_syntax.specs.Counts.{raised}
-use Rattle.resolver.specs.Settling.{last_outcome, last_asks}
+use Rattle.resolver.specs.Settling.{last_outcome, last_probes}
 use Rattle.resolver.proofs.resolve.resolve_all.Given as goal
 
 abbrev pub invariant-loop-entry : goal.invariant-loop-entry
@@ -9,5 +9,5 @@ invariant-loop-entry g l =
     let source = g.B.BindingSource.meaning l.source in
     record {
       outcomes : l.outcomes ≡ map (last_outcome source) (take l.entry-index l.pending);
-      cost : l.steps ≡ raised l.fn.steps (sum_by (last_asks source) (take l.entry-index l.pending));
+      cost : l.steps ≡ raised l.fn.steps (sum_by (last_probes source) (take l.entry-index l.pending));
     }

@@ -1,7 +1,7 @@
 use Rattle.std.proofs.Common.{◌≡◌, map, take, drop}
 use Rattle.std.specs.List.{sum_by}
 use Rattle.semantic_syntax.specs.Counts.{raised}
-use Rattle.resolver.specs.Settling.{header_outcome, header_asks}
+use Rattle.resolver.specs.Settling.{header_outcome, header_probes}
 use Rattle.resolver.proofs.resolve.resolve_header.Given as goal
 
 abbrev pub invariant-loop-entry : goal.invariant-loop-entry
@@ -9,5 +9,5 @@ invariant-loop-entry g l =
     let source = g.B.BindingSource.meaning l.source in
     record {
       outcomes : l.outcomes ≡ map (header_outcome source l.scope) (take l.entry-index (drop l.start l.pending));
-      cost : l.steps ≡ raised l.fn.steps (sum_by (header_asks source l.scope) (take l.entry-index (drop l.start l.pending)));
+      cost : l.steps ≡ raised l.fn.steps (sum_by (header_probes source l.scope) (take l.entry-index (drop l.start l.pending)));
     }

@@ -3,8 +3,8 @@ use Rattle.indexmap.specs.IndexMap.{spare}
 use Rattle.scoping.specs.Flat.{IsRekeyed}
 use Rattle.scoping.proofs.binding_table.rekey.Given as goal
 
-abbrev pub invariant-loop-place : goal.invariant-loop-place
-invariant-loop-place l = record {
-  room : length l.slots ≤ spare l.places + l.place;
-  moved : IsRekeyed l.initial.places.entries l.places.entries l.from l.to l.slots l.place;
+abbrev pub invariant-loop-position : goal.invariant-loop-position
+invariant-loop-position l = record {
+  room : length l.slots ≤ spare l.positions + l.position;
+  moved : IsRekeyed l.initial.positions.entries l.positions.entries l.from l.to l.slots l.position;
 }

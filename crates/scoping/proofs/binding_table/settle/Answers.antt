@@ -1,49 +1,49 @@
 use Rattle.std.proofs.Common.{◌≡◌, None, Some, get_or, sym, ap, arith}
 use Rattle.scoping.specs.Kept.{stays, rows_without_types}
 use Rattle.scoping.proofs.Filled.{filled-move, kept-clear}
-use Rattle.scoping.proofs.Indexed.{place_told, free_slot, stands-clear, stands-move, told_here, told_elsewhere}
+use Rattle.scoping.proofs.Indexed.{position_told, free_slot, stands-clear, stands-move, told_here, told_elsewhere}
 use Rattle.scoping.proofs.Results.{where_present}
 use Rattle.scoping.proofs.binding_table.settle.Goals as goal
 
-pub returns-then-not-stays-clause-places : goal.returns-then-not-stays-clause-places
-returns-then-not-stays-clause-places c =
+pub returns-then-not-stays-clause-positions : goal.returns-then-not-stays-clause-positions
+returns-then-not-stays-clause-positions c =
     let xs = c.args.slots.now in
-    let es = c.args.places.now.entries in
+    let es = c.args.positions.now.entries in
     let n = c.in-Some.bound.0 in
-    let is : get_or xs c.args.place None ≡ Some c.in-Some.bound = sym c.in-Some.ensures in
-    let at = place_told xs _ c.requires.places n c.in-Some.bound.1 c.args.place is in
-    rw c.clear.ensures (stands-clear xs _ c.requires.places n _ c.args.place at (told_here es c.swap_remove-place.new.self.entries c.args.scope n None c.swap_remove-place.ensures.updates.0))
+    let is : get_or xs c.args.position None ≡ Some c.in-Some.bound = sym c.in-Some.ensures in
+    let at = position_told xs _ c.requires.positions n c.in-Some.bound.1 c.args.position is in
+    rw c.clear.ensures (stands-clear xs _ c.requires.positions n _ c.args.position at (told_here es c.swap_remove-position.new.self.entries c.args.scope n None c.swap_remove-position.ensures.updates.0))
 
 pub returns-then-not-stays-clause-elsewhere : goal.returns-then-not-stays-clause-elsewhere
-returns-then-not-stays-clause-elsewhere c = told_elsewhere c.args.places.now.entries c.swap_remove-place.new.self.entries c.args.scope c.in-Some.bound.0 None c.swap_remove-place.ensures.updates.0
+returns-then-not-stays-clause-elsewhere c = told_elsewhere c.args.positions.now.entries c.swap_remove-position.new.self.entries c.args.scope c.in-Some.bound.0 None c.swap_remove-position.ensures.updates.0
 
 pub returns-then-not-stays-clause-kept : goal.returns-then-not-stays-clause-kept
-returns-then-not-stays-clause-kept c = rw c.clear.ensures (kept-clear (λ b. stays c.args.rows.now b.1) c.args.place c.in-Some.bound c.args.slots.now (sym c.in-Some.ensures) (sym c.if-not-stays.ensures))
+returns-then-not-stays-clause-kept c = rw c.clear.ensures (kept-clear (λ b. stays c.args.rows.now b.1) c.args.position c.in-Some.bound c.args.slots.now (sym c.in-Some.ensures) (sym c.if-not-stays.ensures))
 
-pub returns-clause-places : goal.returns-clause-places
-returns-clause-places c =
+pub returns-clause-positions : goal.returns-clause-positions
+returns-clause-positions c =
     let xs = c.args.slots.now in
-    let es = c.args.places.now.entries in
+    let es = c.args.positions.now.entries in
     let n = c.in-Some.bound.0 in
-    let is : get_or xs c.args.place None ≡ Some c.in-Some.bound = sym c.in-Some.ensures in
-    let at = place_told xs _ c.requires.places n c.in-Some.bound.1 c.args.place is in
-    let told = where_present c.insert-previous.result _ c.args.place c.insert-previous.ensures.absent at c.insert-previous.ensures.updates in
+    let is : get_or xs c.args.position None ≡ Some c.in-Some.bound = sym c.in-Some.ensures in
+    let at = position_told xs _ c.requires.positions n c.in-Some.bound.1 c.args.position is in
+    let told = where_present c.insert-previous.result _ c.args.position c.insert-previous.ensures.absent at c.insert-previous.ensures.updates in
     rw (c.fill.ensures, c.clear.ensures)
-    (stands-move xs _ c.requires.places n _ c.args.place c.args.packed c.in-Some.bound.1 at (omega (arith, c.requires.within, c.requires.packed.behind))
-    (free_slot xs c.args.place c.args.packed c.requires.packed.behind c.requires.packed.gap)
+    (stands-move xs _ c.requires.positions n _ c.args.position c.args.packed c.in-Some.bound.1 at (omega (arith, c.requires.within, c.requires.packed.behind))
+    (free_slot xs c.args.position c.args.packed c.requires.packed.behind c.requires.packed.gap)
     (told_here es c.insert-previous.new.self.entries c.args.scope n (Some c.args.packed) told.0))
 
 pub returns-clause-elsewhere : goal.returns-clause-elsewhere
 returns-clause-elsewhere c =
     let xs = c.args.slots.now in
-    let es = c.args.places.now.entries in
+    let es = c.args.positions.now.entries in
     let n = c.in-Some.bound.0 in
-    let is : get_or xs c.args.place None ≡ Some c.in-Some.bound = sym c.in-Some.ensures in
-    let at = place_told xs _ c.requires.places n c.in-Some.bound.1 c.args.place is in
-    let told = where_present c.insert-previous.result _ c.args.place c.insert-previous.ensures.absent at c.insert-previous.ensures.updates in
+    let is : get_or xs c.args.position None ≡ Some c.in-Some.bound = sym c.in-Some.ensures in
+    let at = position_told xs _ c.requires.positions n c.in-Some.bound.1 c.args.position is in
+    let told = where_present c.insert-previous.result _ c.args.position c.insert-previous.ensures.absent at c.insert-previous.ensures.updates in
     told_elsewhere es c.insert-previous.new.self.entries c.args.scope n (Some c.args.packed) told.0
 
 pub returns-clause-kept : goal.returns-clause-kept
 returns-clause-kept c =
     rw (c.fill.ensures, c.clear.ensures)
-    (ap (rows_without_types c.args.rows.now) (filled-move c.args.packed c.args.place c.in-Some.bound c.args.slots.now c.requires.packed.behind (sym c.in-Some.ensures) c.requires.packed.gap))
+    (ap (rows_without_types c.args.rows.now) (filled-move c.args.packed c.args.position c.in-Some.bound c.args.slots.now c.requires.packed.behind (sym c.in-Some.ensures) c.requires.packed.gap))

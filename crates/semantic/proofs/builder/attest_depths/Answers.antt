@@ -1,6 +1,6 @@
 use Rattle.semantic_tree.proofs.ShapedLaws.{IsShaped-no_fault}
-use Rattle.count_model.proofs.Depths.{asked_within}
+use Rattle.count_model.proofs.Depths.{probes_within}
 use Rattle.semantic.proofs.builder.attest_depths.Goals as goal
 
 pub returns : goal.returns
-returns c = asked_within c.args.program.now (IsShaped-no_fault c.args.program.now c.root.ensures.shaped)
+returns c = probes_within c.args.program.now (IsShaped-no_fault c.args.program.now c.root.ensures.shaped)

@@ -1,5 +1,5 @@
-use Rattle.semantic_model.proofs.Shape.{has_form}
-use Rattle.semantic_model.proofs.Owned.{bindings_owned}
+use Rattle.semantic_model.proofs.form.Shape.{has_form}
+use Rattle.semantic_model.proofs.bindings.Owned.{bindings_owned}
 use Rattle.semantic_model.proofs.laws.bindings_are_symbols.Goals as goal
 
 pub returns : goal.returns

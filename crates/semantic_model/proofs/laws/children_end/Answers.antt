@@ -1,4 +1,4 @@
-use Rattle.semantic_model.proofs.Turns.{steps_end}
+use Rattle.semantic_model.proofs.steps.Turns.{steps_end}
 use Rattle.semantic_model.proofs.laws.children_end.Goals as goal
 
 pub returns : goal.returns

@@ -1,4 +1,4 @@
-use Rattle.semantic_model.proofs.Turns.{steps_turn}
+use Rattle.semantic_model.proofs.steps.Turns.{steps_turn}
 use Rattle.semantic_model.proofs.laws.children_take_turns.Goals as goal
 
 pub returns : goal.returns

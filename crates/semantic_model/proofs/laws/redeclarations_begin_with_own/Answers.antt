@@ -1,4 +1,4 @@
-use Rattle.semantic_model.proofs.Afterwards.{lists_begin}
+use Rattle.semantic_model.proofs.fits.Afterwards.{lists_begin}
 use Rattle.semantic_model.proofs.laws.redeclarations_begin_with_own.Goals as goal
 
 pub returns : goal.returns

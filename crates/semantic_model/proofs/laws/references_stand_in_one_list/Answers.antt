@@ -1,5 +1,5 @@
-use Rattle.semantic_model.proofs.Afterwards.{one_list}
-use Rattle.semantic_model.proofs.Whole.{tables_fit}
+use Rattle.semantic_model.proofs.fits.Afterwards.{one_list}
+use Rattle.semantic_model.proofs.fits.TablesFit.{tables_fit}
 use Rattle.semantic_model.proofs.laws.references_stand_in_one_list.Goals as goal
 
 pub returns : goal.returns

@@ -1,4 +1,4 @@
-use Rattle.semantic_model.proofs.Compose.{steps-append}
+use Rattle.semantic_model.proofs.steps.Compose.{steps-append}
 use Rattle.semantic_model.proofs.laws.steps_compose.Goals as goal
 
 pub returns : goal.returns

@@ -1,6 +1,6 @@
 use Rattle.semantic_tree.specs.Renamed.{swap}
-use Rattle.semantic_model.proofs.AlikeProgram.{swap_keeps}
-use Rattle.semantic_model.proofs.AlikeStates.{states_renamed}
+use Rattle.semantic_model.proofs.swapped.AlikeProgram.{swap_keeps}
+use Rattle.semantic_model.proofs.swapped.AlikeStates.{states_renamed}
 use Rattle.semantic_model.proofs.laws.swapped_names_leave_namespace_states.Goals as goal
 
 pub returns : goal.returns

@@ -1,6 +1,6 @@
 use Rattle.semantic_tree.specs.Renamed.{swap}
-use Rattle.semantic_model.proofs.AlikeProgram.{swap_keeps}
-use Rattle.semantic_model.proofs.AlikeNodes.{node_tables_renamed}
+use Rattle.semantic_model.proofs.swapped.AlikeProgram.{swap_keeps}
+use Rattle.semantic_model.proofs.swapped.AlikeNodes.{node_tables_renamed}
 use Rattle.semantic_model.proofs.laws.swapped_names_leave_node_tables.Goals as goal
 
 pub returns : goal.returns

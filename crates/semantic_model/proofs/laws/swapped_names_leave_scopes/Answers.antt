@@ -1,5 +1,5 @@
 use Rattle.semantic_tree.specs.Renamed.{swap}
-use Rattle.semantic_model.proofs.AlikeProgram.{swap_keeps, scopes_renamed}
+use Rattle.semantic_model.proofs.swapped.AlikeProgram.{swap_keeps, scopes_renamed}
 use Rattle.semantic_model.proofs.laws.swapped_names_leave_scopes.Goals as goal
 
 pub returns : goal.returns

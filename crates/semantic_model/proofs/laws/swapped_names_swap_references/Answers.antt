@@ -1,5 +1,5 @@
 use Rattle.semantic_tree.specs.Renamed.{swap}
-use Rattle.semantic_model.proofs.AlikeProgram.{references_renamed}
+use Rattle.semantic_model.proofs.swapped.AlikeProgram.{references_renamed}
 use Rattle.semantic_model.proofs.laws.swapped_names_swap_references.Goals as goal
 
 pub returns : goal.returns

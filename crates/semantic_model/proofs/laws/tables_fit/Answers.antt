@@ -1,4 +1,4 @@
-use Rattle.semantic_model.proofs.Whole.{tables_fit}
+use Rattle.semantic_model.proofs.fits.TablesFit.{tables_fit}
 use Rattle.semantic_model.proofs.laws.tables_fit.Goals as goal
 
 pub returns : goal.returns

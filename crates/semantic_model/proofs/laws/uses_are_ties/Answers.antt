@@ -1,5 +1,5 @@
-use Rattle.semantic_model.proofs.Afterwards.{uses_are_ties}
-use Rattle.semantic_model.proofs.Whole.{tables_fit}
+use Rattle.semantic_model.proofs.fits.Afterwards.{uses_are_ties}
+use Rattle.semantic_model.proofs.fits.TablesFit.{tables_fit}
 use Rattle.semantic_model.proofs.laws.uses_are_ties.Goals as goal
 
 pub returns : goal.returns

@@ -12,13 +12,13 @@ use Rattle.semantic_tree.specs.declared.node.Node.{Node}
 use Rattle.check_model.specs.DiagnosticsOf.{diagnostics_of}
 use Rattle.check_walk.specs.SoFar.{so_far}
 use Rattle.semantic_model.specs.TablesOf.{tables_of}
-use Rattle.semantic_model.proofs.Afterwards.{uses_are_ties, one_list, lists_begin}
-use Rattle.semantic_model.proofs.Owned.{bindings_owned}
-use Rattle.semantic_model.proofs.Shape.{has_form}
-use Rattle.semantic_model.proofs.Whole.{tables_fit}
+use Rattle.semantic_model.proofs.fits.Afterwards.{uses_are_ties, one_list, lists_begin}
+use Rattle.semantic_model.proofs.bindings.Owned.{bindings_owned}
+use Rattle.semantic_model.proofs.form.Shape.{has_form}
+use Rattle.semantic_model.proofs.fits.TablesFit.{tables_fit}
 use Rattle.semantic_diagnostics.specs.declared.diagnostic.Diagnostic.{Diagnostic}
 use Rattle.walk_model.specs.Walks.{walked}
-use Rattle.walk_model.proofs.RootSteps.{root_scope}
+use Rattle.walk_model.proofs.turns.RootSteps.{root_scope}
 use Rattle.semantic_walk.specs.Begun.{IsBegun, FitsProgram, IsAnalysis}
 use Rattle.semantic_walk.specs.AtPlace.{IsComing, left_at}
 use Rattle.semantic_walk.specs.Leaving.{IsFit}

@@ -1,7 +1,7 @@
 use Rattle.std.proofs.Common.{◌≡◌, List, ◌++◌, Result, Ok, Err, OnOk, ap, ◌∙◌}
 use Rattle.semantic_kinds.specs.declared.role.Role.TheVariants as roles
 use Rattle.semantic_tree.specs.Sound.{is_sound, shows_sign}
-use Rattle.semantic_model.proofs.Clauses.{first_holds}
+use Rattle.semantic_model.proofs.form.Clauses.{first_holds}
 use Rattle.semantic_diagnostics.specs.declared.diagnostic.Diagnostic.{Diagnostic}
 use Rattle.check_context.specs.Tells.{Tells}
 use Rattle.check_walk.proofs.Conditions.{child_good}

@@ -1,4 +1,4 @@
-use Rattle.walk_model.proofs.Agreed.{has_declared}
+use Rattle.walk_model.proofs.declares.DeclaredAll.{has_declared}
 use Rattle.walk_model.proofs.laws.walk_declares.Goals as goal
 
 pub returns : goal.returns

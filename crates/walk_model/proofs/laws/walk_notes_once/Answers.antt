@@ -1,4 +1,4 @@
-use Rattle.walk_model.proofs.NotedOnce.{notes_once}
+use Rattle.walk_model.proofs.once.NotedOnce.{notes_once}
 use Rattle.walk_model.proofs.laws.walk_notes_once.Goals as goal
 
 pub returns : goal.returns

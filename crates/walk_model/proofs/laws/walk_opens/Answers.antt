@@ -1,4 +1,4 @@
-use Rattle.walk_model.proofs.OpenedAll.{has_opened}
+use Rattle.walk_model.proofs.opens.OpenedAll.{has_opened}
 use Rattle.walk_model.proofs.laws.walk_opens.Goals as goal
 
 pub returns : goal.returns

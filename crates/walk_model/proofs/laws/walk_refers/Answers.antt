@@ -1,4 +1,4 @@
-use Rattle.walk_model.proofs.GivesTables.{has_referred}
+use Rattle.walk_model.proofs.refers.GivesTables.{has_referred}
 use Rattle.walk_model.proofs.laws.walk_refers.Goals as goal
 
 pub returns : goal.returns

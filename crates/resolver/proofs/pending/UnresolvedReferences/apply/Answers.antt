@@ -4,12 +4,12 @@ use Rattle.resolver.proofs.pending.UnresolvedReferences.apply.Goals.{in-Pending,
 use Rattle.resolver.proofs.pending.UnresolvedReferences.apply.Goals as goal
 
 pub loop-outcome-init : goal.loop-outcome-init
-loop-outcome-init c = rw c.self.view_is (record { place_is = omega arith; behind = omega arith; length_is = refl; rest = refl })
+loop-outcome-init c = rw c.self.view_is (record { position_is = omega arith; behind = omega arith; length_is = refl; rest = refl })
 
 pub index-entry-requires : goal.index-entry-requires
 index-entry-requires c =
     let more = rw c.as_slice-outcome-items.ensures at c.loop-outcome-test.true in
-    omega (arith, more, c.requires, c.loop-outcome.invariant.place_is, c.loop-outcome.invariant.length_is)
+    omega (arith, more, c.requires, c.loop-outcome.invariant.position_is, c.loop-outcome.invariant.length_is)
 
 pub loop-outcome-preserved : goal.loop-outcome-preserved
 loop-outcome-preserved c =

@@ -2,7 +2,7 @@ use Rattle.std.proofs.Common.{[], map, get_or, sym, ap, ◌∙◌}
 use Rattle.std.proofs.Math.ListN.{set}
 use Rattle.std.proofs.lemmas.List.{length-map, map-set}
 use Rattle.scoping.specs.Flat.{filled}
-use Rattle.scoping.proofs.Indexed.{rekeyed_all, taken_places, shown_row, row_read, stands-same, unfilled}
+use Rattle.scoping.proofs.Indexed.{rekeyed_all, taken_positions, shown_row, row_read, stands-same, unfilled}
 use Rattle.scoping.proofs.binding_table.BindingTable.take_over.Goals as goal
 
 pub rekey-requires-clause-to : goal.rekey-requires-clause-to
@@ -17,9 +17,9 @@ invariant_of-self-2 c =
     let rows = c.self.inside.scopes.items in
     let source = rw length-map at (rw (← c.self.view_is) at c.requires.from) in
     let target = rw length-map at (rw (← c.self.view_is) at c.requires.to) in
-    let all = rekeyed_all c.reserve.new.self.entries c.rekey.new.places.entries c.args.from c.args.to c.replace-slots.result c.rekey.ensures in
+    let all = rekeyed_all c.reserve.new.self.entries c.rekey.new.positions.entries c.args.from c.args.to c.replace-slots.result c.rekey.ensures in
     rw (c.index-3.ensures, c.index-4.ensures, c.replace-slots.ensures.after, c.new-empty.ensures)
-    (taken_places c.self.inside.places.entries c.rekey.new.places.entries rows c.args.from c.args.to c.replace-slots.result source target c.requires.apart c.self.invariant all.0 all.1
+    (taken_positions c.self.inside.positions.entries c.rekey.new.positions.entries rows c.args.from c.args.to c.replace-slots.result source target c.requires.apart c.self.invariant all.0 all.1
     (rw c.in_ok-reserve.ensures.entries at c.rekey.ensures.elsewhere))
 
 pub returns-clause-ok : goal.returns-clause-ok

@@ -1,14 +1,14 @@
 use Rattle.std.proofs.Common.{ℕ, Some, subst, sym, ap, ◌∙◌, nat_eq}
 use Rattle.std.specs.Map.{lookup}
-use Rattle.scoping.specs.NodeEntries.{HasNone, IsPlaceOf}
+use Rattle.scoping.specs.NodeEntries.{HasNone, IsPositionOf}
 use Rattle.scoping.proofs.Rising.{lookup_at, lookup_behind}
 use Rattle.scoping.proofs.node_map.NodeMap.get.Goals as goal
 
 pub returns-in-Some : goal.returns-in-Some
 returns-in-Some g c =
     let es = c.self.inside.rising.items in
-    let place = subst (λ xs. IsPlaceOf xs c.args.node c.in-Some.place) c.deref.ensures.value c.in-Some.ensures in
-    let found = lookup_at es c.self.invariant c.self.inside.late.entries c.args.node c.in-Some.place c.index.result.now place in
+    let position = subst (λ xs. IsPositionOf xs c.args.node c.in-Some.position) c.deref.ensures.value c.in-Some.ensures in
+    let found = lookup_at es c.self.invariant c.self.inside.late.entries c.args.node c.in-Some.position c.index.result.now position in
     ap (λ (e : ℕ × g.row.T.Denot). Some e.1) c.index.ensures ∙ sym found ∙ ap (lookup (nat_eq c.args.node)) c.self.view_is
 
 pub returns-in-None : goal.returns-in-None

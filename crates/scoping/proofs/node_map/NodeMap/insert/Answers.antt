@@ -1,6 +1,6 @@
 use Rattle.std.proofs.Common.{◌≡◌, ℕ, ◌++◌, set, length, subst, sym, ap, ◌∙◌, nat_eq}
 use Rattle.indexmap.specs.IndexMap.{insert_entry}
-use Rattle.scoping.specs.NodeEntries.{AreBefore, AreRising, HasNone, IsPlaceOf}
+use Rattle.scoping.specs.NodeEntries.{AreBefore, AreRising, HasNone, IsPositionOf}
 use Rattle.scoping.proofs.Rising.{insert_at, insert_behind, rise_behind, rise_set, pushed}
 use Rattle.scoping.proofs.node_map.NodeMap.insert.Goals as goal
 
@@ -21,17 +21,17 @@ returns-then-is_behind-clause-ok g c =
 pub invariant_of-self-in-Some : goal.invariant_of-self-in-Some
 invariant_of-self-in-Some g c =
     let es = c.self.inside.rising.items in
-    let place = subst (λ xs. IsPlaceOf xs c.args.node c.in-Some.place) c.deref-2.ensures.value c.in-Some.ensures in
-    subst (λ (e : ℕ × g.row.T.Denot). AreRising (set es c.in-Some.place (e.0, c.args.value))) (sym c.index_mut.ensures.value)
-    (rise_set es c.self.invariant c.in-Some.place c.args.value c.index_mut.result.now place.in_range)
+    let position = subst (λ xs. IsPositionOf xs c.args.node c.in-Some.position) c.deref-2.ensures.value c.in-Some.ensures in
+    subst (λ (e : ℕ × g.row.T.Denot). AreRising (set es c.in-Some.position (e.0, c.args.value))) (sym c.index_mut.ensures.value)
+    (rise_set es c.self.invariant c.in-Some.position c.args.value c.index_mut.result.now position.in_range)
 
 pub returns-in-Some-clause-ok : goal.returns-in-Some-clause-ok
 returns-in-Some-clause-ok g c =
     let es = c.self.inside.rising.items in
     let late = c.self.inside.late.entries in
-    let place = subst (λ xs. IsPlaceOf xs c.args.node c.in-Some.place) c.deref-2.ensures.value c.in-Some.ensures in
-    ap (λ (e : ℕ × g.row.T.Denot). set es c.in-Some.place (e.0, c.args.value) ++ late) c.index_mut.ensures.value
-    ∙ sym (insert_at es c.self.invariant late c.args.node c.in-Some.place c.args.value c.index_mut.result.now place)
+    let position = subst (λ xs. IsPositionOf xs c.args.node c.in-Some.position) c.deref-2.ensures.value c.in-Some.ensures in
+    ap (λ (e : ℕ × g.row.T.Denot). set es c.in-Some.position (e.0, c.args.value) ++ late) c.index_mut.ensures.value
+    ∙ sym (insert_at es c.self.invariant late c.args.node c.in-Some.position c.args.value c.index_mut.result.now position)
     ∙ ap (λ xs. insert_entry nat_eq xs c.args.node c.args.value) c.self.view_is
 
 pub returns-in_ok-insert-in-None-clause-ok : goal.returns-in_ok-insert-in-None-clause-ok

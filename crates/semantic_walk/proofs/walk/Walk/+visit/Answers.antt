@@ -7,7 +7,7 @@ use Rattle.semantic_tree.specs.declared.node.Node.{Node}
 use Rattle.semantic_model.specs.Place.{Place, OpenScope}
 use Rattle.semantic_model.specs.Cursor.{cursor_behind}
 use Rattle.semantic_model.specs.Step.{scope_at, next_at, ending_after}
-use Rattle.walk_model.specs.Standing.{Standing}
+use Rattle.walk_model.specs.WalkState.{WalkState}
 use Rattle.walk_model.specs.Waits.{HoldsAt, start_at}
 use Rattle.walk_model.specs.Walks.{after_all}
 use Rattle.semantic_walk.specs.Walker.{Walker}
@@ -76,12 +76,12 @@ loop-child_role-preserved g t c =
           let went : past ≡ walked_over ds v place None next =
           c.in_ok-leave.ensures.made place refl (shows_rows within place left comes.root) ∙ ap (λ (u : Walker). left_at u place) (c.in_ok-visit.ensures.walks ds place None next refl refl comes) ∙ left_is ds v place None next comes in
           let holds : HoldsAt past.made scope start = holds_past ds p h.scope h.next h.cursor h.start child rest w v past c.loop-child_role.turn h.between came.0 went in
-          let made : Standing = after_all ds past.made (ending_after p child.0 scope (forest_of rest)) in
+          let made : WalkState = after_all ds past.made (ending_after p child.0 scope (forest_of rest)) in
           let kind_same : c.ty-in-Some.result ≡ p.node.kind = c.ty-in-Some.ensures ∙ sym (ap (λ (x : Node). x.kind) node) in
           let ended : c.finish_child.new.self ≡ behind_child past made p (cursor_behind p.node.kind child.0 w.cursor past.cursor) =
           c.in_ok-finish_child.ensures.ends ds p scope start (sym kind_same) came.1 holds
-          ∙ ap (λ (k : AstType). behind_child past made p (cursor_behind k child.0 c.cursor-before.result.bits past.cursor)) kind_same
-          ∙ ap (λ (m : ℕ). behind_child past made p (cursor_behind p.node.kind child.0 m past.cursor)) c.cursor-before.ensures in
+          ∙ ap (λ (k : AstType). behind_child past made p (cursor_behind k child.0 c.current_reference_flags-before.result.bits past.cursor)) kind_same
+          ∙ ap (λ (m : ℕ). behind_child past made p (cursor_behind p.node.kind child.0 m past.cursor)) c.current_reference_flags-before.ensures in
           let asks = left_past ds p h.scope h.next h.cursor h.start child rest w v past came.0 went c.finish_child.new.self c.loop-child_role.steps c.visit.new.steps c.finish_child.new.steps ended
           (c.in_ok-visit.ensures.cost ds place None next refl refl comes) (c.in_ok-finish_child.ensures.cost ds p scope start (sym kind_same) came.1 holds) in
           rests_past ds c.args.self.now p own n child rest w v past c.finish_child.new.self c.loop-child_role.turn c.begin_child.new.turn c.args.steps.now c.loop-child_role.steps c.finish_child.new.steps h came.0 came.1 went ended asks;

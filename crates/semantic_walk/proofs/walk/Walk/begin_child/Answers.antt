@@ -7,7 +7,7 @@ use Rattle.semantic_walk.proofs.walk.Walk.begin_child.Goals as goal
 pub returns-clause-comes : goal.returns-clause-comes
 returns-clause-comes c = λ ds p own n cursor start rest node role between.
     let opens = c.in_ok-open_for.ensures.opens ds p own n cursor start (forest_of ((c.args.role, c.args.child.node.now) ∷ rest)) node role between in
-    (stands_at_child ds p own n cursor start (c.args.role, c.args.child.node.now) rest c.args.parent.node.now c.args.self.now c.open_for.new.self c.come_to.new.self c.args.turn.now c.open_for.new.turn node between opens.0 opens.1 c.come_to.ensures.made, opens.1)
+    (stands_at_child ds p own n cursor start (c.args.role, c.args.child.node.now) rest c.args.parent.node.now c.args.self.now c.open_for.new.self c.stand_at_child.new.self c.args.turn.now c.open_for.new.turn node between opens.0 opens.1 c.stand_at_child.ensures.made, opens.1)
 
 pub returns-then-stands_alike-clause-comes : goal.returns-then-stands_alike-clause-comes
 returns-then-stands_alike-clause-comes c = λ ds p own n cursor start rest node role between.

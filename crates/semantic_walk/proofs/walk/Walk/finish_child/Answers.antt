@@ -3,8 +3,8 @@ use Rattle.std.proofs.lemmas.Result.{on_ok_weaker}
 use Rattle.semantic_syntax.specs.Counts.{raised}
 use Rattle.semantic_tree.specs.Children.{forest_of}
 use Rattle.semantic_model.specs.Step.{Step, ending_after}
-use Rattle.walk_model.specs.Standing.{Standing}
-use Rattle.count_model.specs.Asks.{asked_by_steps}
+use Rattle.walk_model.specs.WalkState.{WalkState}
+use Rattle.count_model.specs.Probes.{probes_of_steps}
 use Rattle.count_model.proofs.StepSums.{raised_none}
 use Rattle.semantic_walk.specs.EvenKinds.{acts_between}
 use Rattle.semantic_walk.specs.Walker.{Walker}
@@ -27,14 +27,14 @@ returns-then-turn-clause-ends g c = λ ds p own start kind turn holds.
 
 pub returns-then-turn-clause-cost : goal.returns-then-turn-clause-cost
 returns-then-turn-clause-cost g c = λ ds p own start kind turn holds.
-    subst (λ (made : Standing). OnOk c.end_child.result (c.end_child.new.steps ≡ raised c.args.steps.now (asked_by_steps ds made (ending_after p c.args.role own (forest_of c.args.rest.now)))))
+    subst (λ (made : WalkState). OnOk c.end_child.result (c.end_child.new.steps ≡ raised c.args.steps.now (probes_of_steps ds made (ending_after p c.args.role own (forest_of c.args.rest.now)))))
     (made_is g c)
     (c.end_child.ensures.cost ds p own start kind turn
     (held_behind p own start c.args.parent c.args.role c.args.turn.now c.args.before.bits c.args.self.now c.come_back.new.self c.turn_cursor.new.self c.come_back.ensures.made c.turn_cursor.ensures.made holds))
 
 pub returns-then-turn-clause-given_up : goal.returns-then-turn-clause-given_up
 returns-then-turn-clause-given_up g c = λ ds p own start kind turn holds.
-    subst (λ (made : Standing). OnErr c.end_child.result (c.end_child.new.steps ≤ raised c.args.steps.now (asked_by_steps ds made (ending_after p c.args.role own (forest_of c.args.rest.now)))))
+    subst (λ (made : WalkState). OnErr c.end_child.result (c.end_child.new.steps ≤ raised c.args.steps.now (probes_of_steps ds made (ending_after p c.args.role own (forest_of c.args.rest.now)))))
     (made_is g c)
     (c.end_child.ensures.given_up ds p own start kind turn
     (held_behind p own start c.args.parent c.args.role c.args.turn.now c.args.before.bits c.args.self.now c.come_back.new.self c.turn_cursor.new.self c.come_back.ensures.made c.turn_cursor.ensures.made holds))
@@ -49,4 +49,4 @@ pub returns-else-turn-clause-cost : goal.returns-else-turn-clause-cost
 returns-else-turn-clause-cost g c = λ ds p own start kind turn holds.
     let even : acts_between p.node.kind ≡ false = sym turn.acts ∙ c.if-turn.false in
     sym (raised_none c.args.steps.now)
-    ∙ ap (λ (xs : List Step). raised c.args.steps.now (asked_by_steps ds c.args.self.now.made xs)) (sym (none_ends p even c.args.role own (forest_of c.args.rest.now)))
+    ∙ ap (λ (xs : List Step). raised c.args.steps.now (probes_of_steps ds c.args.self.now.made xs)) (sym (none_ends p even c.args.role own (forest_of c.args.rest.now)))

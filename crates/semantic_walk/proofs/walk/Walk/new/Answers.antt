@@ -7,10 +7,10 @@ use Rattle.semantic_tree.specs.Tree.{Tree}
 use Rattle.semantic_tree.proofs.ShapedLaws.{IsShaped-no_fault}
 use Rattle.semantic_model.specs.Step.{root_place}
 use Rattle.walk_model.specs.Opens.{open_scope}
-use Rattle.walk_model.specs.Standing.{nothing_made}
+use Rattle.walk_model.specs.WalkState.{nothing_made}
 use Rattle.walk_model.specs.WrittenNames.{Written, is_written, is_sloppy, names_written}
-use Rattle.walk_model.proofs.RootSteps.{root_scope}
-use Rattle.walk_model.proofs.Seats.{root_is_program}
+use Rattle.walk_model.proofs.turns.RootSteps.{root_scope}
+use Rattle.walk_model.proofs.turns.Seats.{root_is_program}
 use Rattle.walk_notes.specs.NoteLists.{nothing_noted}
 use Rattle.semantic_walk.specs.Begun.{notes_classes}
 use Rattle.semantic_walk.specs.Paths.{Way}

@@ -7,7 +7,7 @@ use Rattle.semantic_kinds.specs.declared.kind.AstType.{AstType}
 use Rattle.semantic_kinds.specs.declared.role.Role.{Role}
 use Rattle.semantic_model.specs.Names.{binding_roles, bound_below, bound_names}
 use Rattle.semantic_tree.specs.Views.{is_role_of}
-use Rattle.walk_model.specs.Standing.{Standing}
+use Rattle.walk_model.specs.WalkState.{WalkState}
 use Rattle.walk_model.specs.Naming.{Naming}
 use Rattle.table_building.specs.Growth.{Goes}
 use Rattle.table_building.specs.Each.{hoist_each}
@@ -40,7 +40,7 @@ loop-role-preserved t c =
     let within : i < length items = omega arith in
     let k : AstType = c.args.part.node.now.kind in
     let f : Node → Naming = named_by c.args.node.node.now c.args.row c.args.is_pure in
-    let w : Standing = c.loop-role.self in
+    let w : WalkState = c.loop-role.self in
     let told = ap (λ (j : AstType). is_role_of child.0 (binding_roles j)) (sym c.ty-in-loop-role.ensures) ∙ sym c.binds_under.ensures in
     elim c.if-binds_under.branch [
       | then-binds_under+in_ok-hoist_names b ↦
@@ -49,17 +49,17 @@ loop-role-preserved t c =
           b.self-is ∙ b.in_ok-hoist_names.ensures.made ∙ ap (λ (x : Node). hoist_each w c.args.route.now.passed.items c.args.route.now.target (map f (bound_names x))) b.new.ensures in
           record {
             items = c.loop-role.invariant.items;
-            rest = ap (λ (v : Standing). hoist_each v c.args.route.now.passed.items c.args.route.now.target (map f (bound_below k (forest_of (drop (i + 1) items))))) made ∙ hoists_here f k items i child within c.loop-role-item.is w c.args.route.now.passed.items c.args.route.now.target binds ∙ c.loop-role.invariant.rest;
+            rest = ap (λ (v : WalkState). hoist_each v c.args.route.now.passed.items c.args.route.now.target (map f (bound_below k (forest_of (drop (i + 1) items))))) made ∙ hoists_here f k items i child within c.loop-role-item.is w c.args.route.now.passed.items c.args.route.now.target binds ∙ c.loop-role.invariant.rest;
             room = hoisted_room k items i child within c.loop-role-item.is f w c.if-binds_under.self c.args.route.now.passed.items c.args.route.now.target 4294967295 binds c.loop-role.invariant.room made;
-            goes = goes-trans _ _ _ c.loop-role.invariant.goes (subst (λ (v : Standing). Goes w v) (sym b.self-is) b.in_ok-hoist_names.ensures.goes);
+            goes = goes-trans _ _ _ c.loop-role.invariant.goes (subst (λ (v : WalkState). Goes w v) (sym b.self-is) b.in_ok-hoist_names.ensures.goes);
           })
       | else-binds_under b ↦
           (let quiet : is_role_of child.0 (binding_roles k) ≡ false = told ∙ b.if-binds_under.false in
           let stays : c.if-binds_under.self ≡ w = b.self-is in
           record {
             items = c.loop-role.invariant.items;
-            rest = ap (λ (v : Standing). hoist_each v c.args.route.now.passed.items c.args.route.now.target (map f (bound_below k (forest_of (drop (i + 1) items))))) stays ∙ ap (λ (xs : List Node). hoist_each w c.args.route.now.passed.items c.args.route.now.target (map f xs)) (sym (named_past k items i child within c.loop-role-item.is quiet)) ∙ c.loop-role.invariant.rest;
-            room = subst (λ (v : Standing). length v.tables.symbols + length (bound_below k (forest_of (drop (i + 1) items))) ≤ 4294967295) (sym stays) (past_room k items i child within c.loop-role-item.is (length w.tables.symbols) 4294967295 quiet c.loop-role.invariant.room);
-            goes = subst (λ (v : Standing). Goes c.args.self.now v) (sym stays) c.loop-role.invariant.goes;
+            rest = ap (λ (v : WalkState). hoist_each v c.args.route.now.passed.items c.args.route.now.target (map f (bound_below k (forest_of (drop (i + 1) items))))) stays ∙ ap (λ (xs : List Node). hoist_each w c.args.route.now.passed.items c.args.route.now.target (map f xs)) (sym (named_past k items i child within c.loop-role-item.is quiet)) ∙ c.loop-role.invariant.rest;
+            room = subst (λ (v : WalkState). length v.tables.symbols + length (bound_below k (forest_of (drop (i + 1) items))) ≤ 4294967295) (sym stays) (past_room k items i child within c.loop-role-item.is (length w.tables.symbols) 4294967295 quiet c.loop-role.invariant.room);
+            goes = subst (λ (v : WalkState). Goes c.args.self.now v) (sym stays) c.loop-role.invariant.goes;
           })
     ]

@@ -2,7 +2,7 @@ use Rattle.std.proofs.Common.{◌≡◌, ◌<◌, ◌≤◌, ◌∙◌, ap, subs
 use Rattle.std.specs.List.{sum_by}
 use Rattle.std.proofs.lemmas.Result.{on_ok_weaker, on_err_weaker}
 use Rattle.semantic_syntax.specs.Counts.{raised}
-use Rattle.resolver.specs.Settling.{header_asks}
+use Rattle.resolver.specs.Settling.{header_probes}
 use Rattle.semantic_model.specs.Outcome as model
 use Rattle.table_building.proofs.Asking.{headers-asked}
 use Rattle.table_building.proofs.declared.Declared.header_outcomes.Given as given
@@ -46,10 +46,10 @@ returns-clause-within g c =
 
 module _ (g : given.Over) (c : goal.After-resolve_header g) where
   -- what the look-ups ask, in the words of the definitions
-  asks : sum_by (header_asks (source_of c.self.inside.scoping) c.args.scope) (drop c.args.start c.self.inside.pending)
-      ≡ sum_by (model.header_asks (source_of c.self.inside.scoping) c.args.scope) (drop c.args.start (map pending_of c.self.inside.pending))
+  asks : sum_by (header_probes (source_of c.self.inside.scoping) c.args.scope) (drop c.args.start c.self.inside.pending)
+      ≡ sum_by (model.header_probes (source_of c.self.inside.scoping) c.args.scope) (drop c.args.start (map pending_of c.self.inside.pending))
   asks = headers-asked (source_of c.self.inside.scoping) c.args.scope (drop c.args.start c.self.inside.pending)
-      ∙ ap (sum_by (model.header_asks (source_of c.self.inside.scoping) c.args.scope)) (drop_same c.args.start c.self.inside.pending)
+      ∙ ap (sum_by (model.header_probes (source_of c.self.inside.scoping) c.args.scope)) (drop_same c.args.start c.self.inside.pending)
 
 pub returns-clause-cost : goal.returns-clause-cost
 returns-clause-cost g c = rw (← c.self.view_is) (on_ok_weaker c.resolve_header.result (λ e. e ∙ ap (raised c.args.steps.now) (asks g c)) c.resolve_header.ensures.cost)

@@ -2,7 +2,7 @@ use Rattle.std.proofs.Common.{◌≡◌, ◌≤◌, ◌∙◌, ap, subst, length
 use Rattle.std.specs.List.{sum_by}
 use Rattle.std.proofs.lemmas.Result.{on_ok_weaker, on_err_weaker}
 use Rattle.semantic_syntax.specs.Counts.{raised}
-use Rattle.resolver.specs.Settling.{last_asks}
+use Rattle.resolver.specs.Settling.{last_probes}
 use Rattle.semantic_model.specs.Outcome as model
 use Rattle.table_building.proofs.Asking.{lasts-asked}
 use Rattle.table_building.proofs.declared.Declared.last_outcomes.Given as given
@@ -37,7 +37,7 @@ returns-clause-within g c =
 
 module _ (g : given.Over) (c : goal.After-resolve_all g) where
   -- what the look-ups ask, in the words of the definitions
-  asks : sum_by (last_asks (source_of c.self.inside.scoping)) c.self.inside.pending ≡ sum_by (model.last_asks (source_of c.self.inside.scoping)) (map pending_of c.self.inside.pending)
+  asks : sum_by (last_probes (source_of c.self.inside.scoping)) c.self.inside.pending ≡ sum_by (model.last_probes (source_of c.self.inside.scoping)) (map pending_of c.self.inside.pending)
   asks = lasts-asked (source_of c.self.inside.scoping) c.self.inside.pending
 
 pub returns-clause-cost : goal.returns-clause-cost

@@ -1,0 +1,224 @@
+-- Each place of a program in a catch clause's own scope is followed by the take-over of that scope.
+use Rattle.std.proofs.Common.{◌≡◌, ℕ, ◌+◌, List, [], ◌∷◌, ◌++◌, Option, Some, None, Bool, true, false, cond, ◌&&◌, ◌||◌, not, ◌⊎◌, inl, inr, refl, sym, ap, subst, ◌∙◌, append_assoc}
+use Rattle.std.proofs.lemmas.Bool.{cases_Bool}
+use Rattle.semantic_tree.specs.Forest.{Forest, nothing, tree}
+use Rattle.semantic_tree.specs.Tree.{Tree}
+use Rattle.semantic_tree.specs.declared.node.Node.{Node}
+use Rattle.semantic_kinds.specs.Kinds.{same_kind}
+use Rattle.semantic_kinds.specs.Roles.{same_role}
+use Rattle.semantic_kinds.specs.Classes.{holds_kind}
+use Rattle.semantic_kinds.specs.declared.kind.AstType.{AstType}
+use Rattle.semantic_kinds.specs.declared.kind.AstType.TheVariants as kind
+use Rattle.semantic_kinds.specs.declared.role.Role.{Role}
+use Rattle.semantic_kinds.specs.declared.role.Role.TheVariants as role
+use Rattle.semantic_tree.specs.Views.{is}
+use Rattle.semantic_model.specs.Place.{Place, OpenScope, innermost, outside}
+use Rattle.semantic_model.specs.Inside.{opens, is_inside, is_in_header, is_parameter_decorator, scopes_in}
+use Rattle.semantic_model.specs.ScopeKind.{opened_scope}
+use Rattle.semantic_model.specs.Cursor.{on_entering}
+use Rattle.semantic_model.specs.Step.{Step, entering, leaving, steps_below, steps, root_place, opening_at, ending_after, scope_at, next_at, child_place, chain_within, cursor_past}
+use Rattle.semantic_model.proofs.form.Clauses.{kind_is, first_holds, second_holds, is_nothing, ends_with_block, clauses_end, later_ends}
+use Rattle.semantic_model.proofs.form.ParameterShape.{holds_inside, is_parameter, stands_under, parameters_stand}
+use Rattle.semantic_model.proofs.alone.BodyFollows.{kind_flips, taken_in, taken_later, taken_first, FollowsIn, follows_later, AllFollowed, past_opening, past_last, past_ending, block_opens, body_child, body_comes}
+use Rattle.semantic_model.proofs.fold.Orders.{HasForm}
+
+-- a list of parameters, or a parameter
+abbrev pub holds_parameters : AstType → Bool
+holds_parameters k = same_kind k kind.FormalParameters || is_parameter k
+
+-- an own scope with a body is a clause's
+abbrev pub OwnFact : Place → Option OpenScope → Type 0
+OwnFact p None = Unit {0}
+OwnFact p (Some s) = is kind.CatchClause p.node ≡ false → s.body ≡ None
+
+opened_fact : (p : Place) (n : ℕ) → is kind.CatchClause p.node ≡ false → (opened_scope p n).body ≡ None
+opened_fact p n h = rw h refl
+
+own_fact : (p : Place) (r : Role) (own : Option OpenScope) (n : ℕ) → OwnFact p own → OwnFact p (scope_at p r own n)
+own_fact p r (Some s) n h = h
+own_fact p r None n h = go (is_inside p.node.kind r)
+  where
+    go : (b : Bool) → OwnFact p (cond b (Some (opened_scope p n)) None)
+    go true = opened_fact p n
+    go false = tt
+
+-- what the children of a place that stand around it need
+pub record Around (p : Place) (rest : List Step) : Type 0 where
+  pub chain : is kind.BlockStatement p.node ≡ false → FollowsIn p.chain rest
+  pub outer : holds_parameters p.node.kind ≡ true → FollowsIn (outside p.chain) rest
+
+decorated : (k : AstType) (r : Role) → is_parameter_decorator k r ≡ true → holds_parameters k ≡ true
+decorated k r h = go (cases_Bool (same_kind kind.FormalParameter k)) (first_holds (holds_kind (kind.FormalParameter ∷ kind.FormalParameterRest ∷ []) k) _ h)
+  where
+    or_third : (a b d : Bool) → d ≡ true → (a || (b || d)) ≡ true
+    or_third true b d e = refl
+    or_third false true d e = refl
+    or_third false false d e = e
+
+    or_second : (a b d : Bool) → b ≡ true → (a || (b || d)) ≡ true
+    or_second true b d e = refl
+    or_second false b d e = rw e refl
+
+    last : (a : Bool) → (a || false) ≡ true → a ≡ true
+    last true e = refl
+    last false e = e
+
+    go : (same_kind kind.FormalParameter k ≡ true) ⊎ (same_kind kind.FormalParameter k ≡ false) → (same_kind kind.FormalParameter k || (same_kind kind.FormalParameterRest k || false)) ≡ true → holds_parameters k ≡ true
+    go (inl e) i = or_second (same_kind k kind.FormalParameters) (same_kind k kind.FormalParameter) (same_kind k kind.FormalParameterRest) (kind_flips kind.FormalParameter k e)
+    go (inr e) i = or_third (same_kind k kind.FormalParameters) (same_kind k kind.FormalParameter) (same_kind k kind.FormalParameterRest) (kind_flips kind.FormalParameterRest k (last (same_kind kind.FormalParameterRest k) (rw e at i)))
+
+scope_open : (p : Place) (r : Role) (own : Option OpenScope) (n : ℕ) → is_inside p.node.kind r ≡ true → scope_at p r own n ≡ None → ⊥
+scope_open p r (Some s) n h e = absurd cc
+scope_open p r None n h e = let q : Some (opened_scope p n) ≡ None = rw h at e in absurd cc
+
+block_inside : (p : Place) (r : Role) → is kind.BlockStatement p.node ≡ true → is_inside p.node.kind r ≡ true
+block_inside p r h = subst (λ k. is_inside k r ≡ true) (sym (kind_is p.node.kind kind.BlockStatement h)) refl
+
+-- a child in its parent's scope, or around it
+within_follows : (p : Place) (r : Role) (scope : Option OpenScope) (ss : List Step) → (is_inside p.node.kind r ≡ true → scope ≡ None → ⊥) → OwnFact p scope → (is kind.BlockStatement p.node ≡ false → FollowsIn p.chain ss) → (is kind.CatchClause p.node ≡ true → (s : OpenScope) → scope ≡ Some s → taken_in s.number ss ≡ true) → FollowsIn (chain_within p r scope) ss
+within_follows p r None ss is_open own around clause = elim (cases_Bool (is kind.BlockStatement p.node)) [
+  | inl t ↦ absurd (is_open (block_inside p r t) refl)
+  | inr f ↦ around f
+]
+within_follows p r (Some s) ss is_open own around clause = go (is_inside p.node.kind r) refl
+  where
+    go : (b : Bool) → is_inside p.node.kind r ≡ b → FollowsIn (cond b (record s { in_header = is_in_header p.node.kind r } ∷ p.chain) p.chain) ss
+    go true e = λ b q. elim (cases_Bool (is kind.CatchClause p.node)) [
+      | inl t ↦ clause t s refl
+      | inr f ↦ (let w : None ≡ Some b = sym (own f) ∙ q in absurd cc)
+    ]
+    go false e = elim (cases_Bool (is kind.BlockStatement p.node)) [
+      | inl t ↦ (let w : true ≡ false = sym (block_inside p r t) ∙ e in absurd cc)
+      | inr f ↦ around f
+    ]
+
+child_follows : (p : Place) (scope : Option OpenScope) (cursor : ℕ) (r : Role) (node : Node) (ss : List Step) → (is_inside p.node.kind r ≡ true → scope ≡ None → ⊥) → OwnFact p scope → Around p ss → (is kind.CatchClause p.node ≡ true → (s : OpenScope) → scope ≡ Some s → taken_in s.number ss ≡ true) → FollowsIn (child_place p scope cursor r node).chain ss
+child_follows p scope cursor r node ss is_open own around clause = go (is_parameter_decorator p.node.kind r) refl
+  where
+    go : (b : Bool) → is_parameter_decorator p.node.kind r ≡ b → FollowsIn (cond b (outside p.chain) (chain_within p r scope)) ss
+    go true e = around.outer (decorated p.node.kind r e)
+    go false e = within_follows p r scope ss is_open own around.chain clause
+
+not_true : (b : Bool) → not b ≡ true → b ≡ false
+not_true true h = absurd cc
+not_true false h = refl
+
+-- a list of parameters stands in a function's own scope
+list_outer : (p : Place) (scope : Option OpenScope) (cursor : ℕ) (r : Role) (node : Node) (ss : List Step) → (is_inside p.node.kind r ≡ true → scope ≡ None → ⊥) → (is kind.BlockStatement p.node ≡ false → FollowsIn p.chain ss) → holds_inside p.node.kind r ≡ true → FollowsIn (outside (child_place p scope cursor r node).chain) ss
+list_outer p scope cursor r node ss is_open around h =
+    let parts : (is_inside p.node.kind r && not (is_parameter_decorator p.node.kind r) && not (same_kind p.node.kind kind.BlockStatement)) ≡ true = first_holds (is_inside p.node.kind r && not (is_parameter_decorator p.node.kind r) && not (same_kind p.node.kind kind.BlockStatement)) (not (same_kind p.node.kind kind.CatchClause)) h in
+    let block : is kind.BlockStatement p.node ≡ false = not_true (same_kind p.node.kind kind.BlockStatement) (second_holds (is_inside p.node.kind r && not (is_parameter_decorator p.node.kind r)) (not (same_kind p.node.kind kind.BlockStatement)) parts) in
+    let two : (is_inside p.node.kind r && not (is_parameter_decorator p.node.kind r)) ≡ true = first_holds (is_inside p.node.kind r && not (is_parameter_decorator p.node.kind r)) (not (same_kind p.node.kind kind.BlockStatement)) parts in
+    let inside : is_inside p.node.kind r ≡ true = first_holds (is_inside p.node.kind r) (not (is_parameter_decorator p.node.kind r)) two in
+    let plain : is_parameter_decorator p.node.kind r ≡ false = not_true (is_parameter_decorator p.node.kind r) (second_holds (is_inside p.node.kind r) (not (is_parameter_decorator p.node.kind r)) two) in
+    rw plain (go scope is_open inside (around block))
+  where
+    go : (o : Option OpenScope) → (is_inside p.node.kind r ≡ true → o ≡ None → ⊥) → is_inside p.node.kind r ≡ true → FollowsIn p.chain ss → FollowsIn (outside (chain_within p r o)) ss
+    go None f i c = absurd (f i refl)
+    go (Some s) f i c = rw i c
+
+-- a parameter stands where its list does
+parameter_outer : (p : Place) (scope : Option OpenScope) (cursor : ℕ) (r : Role) (node : Node) (ss : List Step) → same_kind p.node.kind kind.FormalParameters ≡ true → FollowsIn (outside p.chain) ss → FollowsIn (outside (child_place p scope cursor r node).chain) ss
+parameter_outer p scope cursor r node ss h c = subst (λ k. FollowsIn (outside (cond (is_parameter_decorator k r) (outside p.chain) (chain_by k scope))) ss) (sym (kind_is p.node.kind kind.FormalParameters h)) (go scope)
+  where
+    chain_by : AstType → Option OpenScope → List OpenScope
+    chain_by k None = p.chain
+    chain_by k (Some s) = cond (is_inside k r) (record s { in_header = is_in_header k r } ∷ p.chain) p.chain
+
+    go : (o : Option OpenScope) → FollowsIn (outside (chain_by kind.FormalParameters o)) ss
+    go None = c
+    go (Some s) = c
+
+around_later : (p : Place) (xs ys : List Step) → Around p ys → Around p (xs ++ ys)
+around_later p xs ys a = record { chain = λ h. follows_later p.chain xs ys (a.chain h); outer = λ h. follows_later (outside p.chain) xs ys (a.outer h) }
+
+or_same : (a b : Bool) → a ≡ false → (a || b) ≡ true → b ≡ true
+or_same a b e h = rw e at h
+
+or_first : (a b : Bool) → a ≡ true → (a || b) ≡ true
+or_first a b h = rw h refl
+
+-- a list or a parameter among the children
+child_outer : (p : Place) (scope : Option OpenScope) (cursor : ℕ) (r : Role) (node : Node) (ss : List Step) → (is_inside p.node.kind r ≡ true → scope ≡ None → ⊥) → Around p ss → stands_under p.node.kind r node.kind ≡ true → holds_parameters node.kind ≡ true → FollowsIn (outside (child_place p scope cursor r node).chain) ss
+child_outer p scope cursor r node ss is_open a s h = elim (cases_Bool (same_kind node.kind kind.FormalParameters)) [
+  | inl e ↦ list_outer p scope cursor r node ss is_open a.chain (rw e at s)
+  | inr e ↦ (let parameter : is_parameter node.kind ≡ true = or_same (same_kind node.kind kind.FormalParameters) (is_parameter node.kind) e h in
+      let under : same_kind p.node.kind kind.FormalParameters ≡ true = rw (e, parameter) at s in
+      parameter_outer p scope cursor r node ss under (a.outer (or_first (same_kind p.node.kind kind.FormalParameters) (is_parameter p.node.kind) under)))
+]
+
+-- the list of steps after a child, in order
+in_turn : (xs ys es ws rest : List Step) (a z : Step) → xs ++ (a ∷ (ys ++ z ∷ [])) ++ es ++ ws ++ rest ≡ xs ++ (a ∷ (ys ++ (z ∷ (es ++ (ws ++ rest)))))
+in_turn xs ys es ws rest a z =
+    append_assoc (xs ++ (a ∷ (ys ++ z ∷ [])) ++ es) ws rest
+    ∙ append_assoc (xs ++ (a ∷ (ys ++ z ∷ []))) es (ws ++ rest)
+    ∙ append_assoc xs (a ∷ (ys ++ z ∷ [])) (es ++ (ws ++ rest))
+    ∙ ap (λ ss. xs ++ (a ∷ ss)) (append_assoc ys (z ∷ []) (es ++ (ws ++ rest)))
+
+and_false : (a b : Bool) → (a && b) ≡ false → a ≡ true → b ≡ false
+and_false true b h e = h
+and_false false b h e = absurd cc
+
+pub followed : (p : Place) (own : Option OpenScope) (n cursor : ℕ) (f : Forest) (rest : List Step) → Around p rest → OwnFact p own → (is kind.CatchClause p.node ≡ true → is_nothing f ≡ false → ends_with_block f ≡ true) → clauses_end f ≡ true → parameters_stand p.node.kind f ≡ true → AllFollowed rest → AllFollowed (steps_below p own n cursor f ++ rest)
+followed p own n cursor nothing rest a o c e s h = past_last p own n rest h
+followed p own n cursor (tree r k span text marks below id after) rest a o c e s h =
+    let node : Node = record { kind = k; span = span; text = text; marks = marks; children = below; node_id = id } in
+    let scope : Option OpenScope = scope_at p r own n in
+    let next : ℕ = next_at p r own n in
+    let child : Place = child_place p scope cursor r node in
+    let inner : ℕ = on_entering k child.cursor in
+    let past : ℕ = cursor_past p r cursor child in
+    let xs : List Step = opening_at p r own n in
+    let ys : List Step = steps_below child None next inner below in
+    let es : List Step = ending_after p r scope after in
+    let m : ℕ = next + cond (opens k) 1 0 + scopes_in below in
+    let ws : List Step = steps_below p scope m past after in
+    let behind : List Step = es ++ (ws ++ rest) in
+    let is_open : is_inside p.node.kind r ≡ true → scope ≡ None → ⊥ = scope_open p r own n in
+    let o_scope : OwnFact p scope = own_fact p r own n o in
+    let e_parts : (clauses_end below && clauses_end after) ≡ true = second_holds (cond (same_kind k kind.CatchClause) (ends_with_block below) true) (clauses_end below && clauses_end after) e in
+    let s_parts : (parameters_stand k below && parameters_stand p.node.kind after) ≡ true = second_holds (stands_under p.node.kind r k) (parameters_stand k below && parameters_stand p.node.kind after) s in
+    let a_behind : Around p behind = around_later p es (ws ++ rest) (around_later p ws rest a) in
+    let c_after : is kind.CatchClause p.node ≡ true → is_nothing after ≡ false → ends_with_block after ≡ true = λ i j. clause_after i j in
+    let ok_rest : AllFollowed (ws ++ rest) = followed p scope m past after rest a o_scope c_after (second_holds (clauses_end below) (clauses_end after) e_parts) (second_holds (parameters_stand k below) (parameters_stand p.node.kind after) s_parts) h in
+    let ok_behind : AllFollowed behind = past_ending p r scope after (ws ++ rest) ok_rest in
+    let outer : holds_parameters k ≡ true → FollowsIn (outside child.chain) behind = child_outer p scope cursor r node behind is_open a_behind (first_holds (stands_under p.node.kind r k) (parameters_stand k below && parameters_stand p.node.kind after) s) in
+    let c_below : is kind.CatchClause node ≡ true → is_nothing below ≡ false → ends_with_block below ≡ true = λ i j. clause_below (first_holds (cond (same_kind k kind.CatchClause) (ends_with_block below) true) (clauses_end below && clauses_end after) e) i in
+    let below_ok : Around child (leaving child ∷ behind) → AllFollowed (ys ++ (leaving child ∷ behind)) =
+    λ b. followed child None next inner below (leaving child ∷ behind) b tt c_below (first_holds (clauses_end below) (clauses_end after) e_parts) (first_holds (parameters_stand k below) (parameters_stand p.node.kind after) s_parts) ok_behind in
+    subst AllFollowed (sym (in_turn xs ys es ws rest (entering child) (leaving child)))
+    (past_opening p r own n (entering child ∷ (ys ++ (leaving child ∷ behind)))
+    (elim (cases_Bool (is kind.CatchClause p.node && same_role r role.Body)) [
+      | inl it ↦ (let catch : is kind.CatchClause p.node ≡ true = first_holds (is kind.CatchClause p.node) (same_role r role.Body) it in
+          let body : same_role r role.Body ≡ true = second_holds (is kind.CatchClause p.node) (same_role r role.Body) it in
+          let block : is kind.BlockStatement node ≡ true = first_holds (same_kind k kind.BlockStatement) (is_nothing after) (rw body at (c catch refl)) in (
+            λ b q. taken_first (innermost child.chain).number ys (leaving child ∷ behind) (block_opens child next inner below (body_child p scope cursor r node catch body block)),
+            below_ok (record { chain = λ i. (let w : true ≡ false = sym block ∙ i in absurd cc); outer = outer }),
+          ))
+      | inr other ↦ (let taken : is kind.CatchClause p.node ≡ true → (t : OpenScope) → scope ≡ Some t → taken_in t.number behind ≡ true =
+          λ i t j. taken_later t.number es (ws ++ rest) (taken_first t.number ws rest
+          (subst (λ z. taken_in t.number (steps_below p z m past after) ≡ true) (sym j) (body_comes p t m past after i (later_ends r k after (and_false (is kind.CatchClause p.node) (same_role r role.Body) other i) (c i refl))))) in
+          let follows : FollowsIn child.chain behind = child_follows p scope cursor r node behind is_open o_scope a_behind taken in (
+            follows_later child.chain ys (leaving child ∷ behind) follows,
+            below_ok (record { chain = λ i. follows; outer = outer }),
+          ))
+    ]))
+  where
+    clause_after : is kind.CatchClause p.node ≡ true → is_nothing after ≡ false → ends_with_block after ≡ true
+    clause_after i j = elim (cases_Bool (same_role r role.Body)) [
+      | inl b ↦ (let w : is_nothing after ≡ true = second_holds (same_kind k kind.BlockStatement) (is_nothing after) (rw b at (c i refl)) in let v : true ≡ false = sym w ∙ j in absurd cc)
+      | inr b ↦ later_ends r k after b (c i refl)
+    ]
+
+    clause_below : cond (same_kind k kind.CatchClause) (ends_with_block below) true ≡ true → same_kind k kind.CatchClause ≡ true → ends_with_block below ≡ true
+    clause_below q i = rw i at q
+
+pub followed_program : (p : Tree) → HasForm p → AllFollowed (steps p)
+followed_program p h =
+    let root : Place = root_place p in (
+      λ b q. absurd cc,
+      followed root None 0 (on_entering p.root.kind 0) p.root.children (leaving root ∷ [])
+          (record { chain = λ i b q. absurd cc; outer = λ i b q. absurd cc }) tt
+          (λ i j. (let q : kind.Program ≡ kind.CatchClause = sym h.root ∙ kind_is p.root.kind kind.CatchClause i in absurd cc))
+          h.clauses h.parameters tt,
+    )

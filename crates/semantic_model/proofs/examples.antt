@@ -1,0 +1,3 @@
+-- Small programs, computed.
+pub mod SmallPrograms
+pub mod ComputedTables

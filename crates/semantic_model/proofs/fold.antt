@@ -1,0 +1,8 @@
+-- What holds through the fold, change by change.
+pub mod Actions
+pub mod Changes
+pub mod Soundness
+pub mod TakeOvers
+pub mod BodyChains
+pub mod Declared
+pub mod Orders

@@ -1,0 +1,4 @@
+-- The form of a program: clauses end with their body, parameters stand in lists of functions.
+pub mod Clauses
+pub mod ParameterShape
+pub mod Shape

@@ -1,0 +1,4 @@
+-- Steps, one after the other.
+pub mod Compose
+pub mod Turns
+pub mod Opened

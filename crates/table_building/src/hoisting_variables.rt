@@ -1,0 +1,69 @@
+//! Names that a scope doesn't bind, but knows of, since a `var` passed it or a function moved out of it: a lexical
+//! declaration conflicts with them (ECMAScript 14.2.1, VarDeclaredNames).
+
+ghost use Rattle.std.specs.Prelude.{◌≡◌, [], OnOk, OnErr};
+ghost use Rattle.scoping.specs.Names.{name_of};
+ghost use Rattle.semantic_model.specs.Binding.{get, put};
+
+use indexmap::IndexMap;
+use scoping::name_table::NameTable;
+use semantic_syntax::{Ident, ScopeId, SymbolId};
+use std::alloc::{AllocError, Global};
+use std::marker::Model;
+
+/// The names that scopes remember, each with its symbol. Contracts see the triples that the definitions call
+/// `remembered`.
+#[derive(Drop)]
+pub struct HoistingVariables {
+    names: NameTable,
+    symbols: IndexMap<(ScopeId, usize), SymbolId>,
+}
+
+impl Model for HoistingVariables {
+    ghost use Rattle.std.specs.Prelude.{List};
+    ghost use Rattle.semantic_model.specs.Binding.{Binding};
+
+    ghost Value = { List Binding };
+
+    ghost use Rattle.table_building.specs.Numbered.{remembered, IsNumbered};
+
+    ghost view = { remembered };
+
+    ghost invariant = { IsNumbered };
+}
+
+impl HoistingVariables {
+    /// No scope remembers a name yet.
+    pub fn new(alloc: Global) -> HoistingVariables
+        ensures { result ≡ [] }
+    {
+        HoistingVariables {
+            names: NameTable::new(alloc),
+            symbols: IndexMap::new(alloc),
+        }
+    }
+
+    /// The symbol that the scope remembers for the name.
+    pub fn get(&self, scope: ScopeId, name: Ident<'_>) -> Option<SymbolId>
+        ensures { result ≡ get self.now scope (name_of name.entry) }
+    {
+        let number = self.names.find(name)?;
+        let symbol = self.symbols.get(&(scope, number))?;
+        Some(*symbol)
+    }
+
+    /// The scope remembers the name with the symbol. After want of memory all is as before.
+    pub fn put(
+        &mut self,
+        scope: ScopeId,
+        name: Ident<'_>,
+        symbol: SymbolId,
+    ) -> Result<(), AllocError>
+        ensures ok { OnOk result (self.new ≡ put self.old scope (name_of name.entry) symbol) }
+        ensures err { OnErr result (self.new ≡ self.old) }
+    {
+        let number = self.names.intern(name)?;
+        self.symbols.insert((scope, number), symbol)?;
+        Ok(())
+    }
+}

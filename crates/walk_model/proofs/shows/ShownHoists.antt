@@ -1,0 +1,219 @@
+-- What the walk does for `var` variables and block functions shows what the definitions do.
+use Rattle.std.proofs.Common.{◌≡◌, ℕ, ◌<◌, List, [], ◌∷◌, refl, sym, ap, subst, ◌∙◌, Option, Some, None, cond, Bool, true, false, ◌⊎◌, inl, inr, length, arith}
+use Rattle.std.specs.Option.{unwrap_or}
+use Rattle.semantic_syntax.specs.Tables.{Name}
+use Rattle.semantic_syntax.specs.Reading.{bound_in}
+use Rattle.semantic_model.specs.Place.{OpenScope}
+use Rattle.semantic_model.specs.Binding.{Binding, get, put, remove, move}
+use Rattle.semantic_model.specs.Declaration.{Declaration, stands_in}
+use Rattle.semantic_model.specs.Fold.{State, found, update, redeclared, in_scope, note_symbol, against, declare_in, chosen, or_else, unless_expression}
+use Rattle.semantic_model.specs.Hoist.{PassedSymbol, passed_symbol, passed_symbol_or, counts, asked_symbols, against_all, remembering, move_symbol, hoist_by, hoist, move_out, move_function}
+use Rattle.semantic_model.proofs.fits.Outwards.{flags_at}
+use Rattle.semantic_model.proofs.lists.BindingLaws.{same_key_tells, get-put_same, get-put_other}
+use Rattle.walk_model.specs.WalkState.{WalkState}
+use Rattle.walk_model.specs.Naming.{naming_of}
+use Rattle.walk_model.specs.Declares as writes
+use Rattle.walk_model.specs.Hoists as reaches
+use Rattle.walk_model.specs.Walks.{numbers}
+use Rattle.walk_model.proofs.shows.SymbolLists.{update_twice}
+use Rattle.walk_model.proofs.shows.Represents.{Shows, Represents, bound_as, found_as}
+use Rattle.walk_model.proofs.shows.ShownChanges.{represents_note_symbol, represents_redeclare, represents_set_symbol_scope, represents_against, represents_declare_in, chosen_as, represents_remember, represents_rebind}
+
+-- the symbol that counts
+flags_as : (n : ℕ) (w : WalkState) (st : State) (y : ℕ) → Shows n w st → (reaches.value_symbol w.tables (Some y)) ≡ cond (counts st (Some y)) (Some y) None
+flags_as n w st y h = rw (h.symbols, flags_at st.symbols y) refl
+
+passed_symbol_step : (n : ℕ) (w : WalkState) (st : State) (c : ℕ) (o : Option ℕ) (later : Option PassedSymbol) → Shows n w st
+    → reaches.passed_symbol_or c (reaches.value_symbol w.tables o) later ≡ cond (counts st o) (passed_symbol_or c o) later
+passed_symbol_step n w st c None later h = refl
+passed_symbol_step n w st c (Some y) later h = rw (flags_as n w st y h) (by (counts st (Some y)))
+  where
+    by : (b : Bool) → reaches.passed_symbol_or c (cond b (Some y) None) later ≡ cond b (passed_symbol_or c (Some y)) later
+    by true = refl
+    by false = refl
+
+pub passed_symbol_as : (n : ℕ) (w : WalkState) (st : State) (cs : List OpenScope) (x : Name) → Shows n w st → reaches.passed_symbol w (numbers cs) x ≡ passed_symbol st cs x
+passed_symbol_as n w st [] x h = refl
+passed_symbol_as n w st (c ∷ cs) x h =
+    rw (found_as n w st c.number x h, passed_symbol_as n w st cs x h) (passed_symbol_step n w st c.number (found st c.number x) (passed_symbol st cs x) h)
+
+-- conflicts don't change what is asked
+asked_against : (st : State) (d : Declaration) (y : ℕ) (cs : List OpenScope) (x : Name) → asked_symbols (against st d y) cs x ≡ asked_symbols st cs x
+asked_against st d y [] x = refl
+asked_against st d y (c ∷ cs) x = rw (asked_against st d y cs x) refl
+
+pub against_way_as : (n : ℕ) (w : WalkState) (st : State) (d : Declaration) (cs : List OpenScope) → Represents n w st
+    → Represents n (reaches.against_way w (naming_of d) (numbers cs)) (against_all st d (asked_symbols st cs d.name))
+against_way_as n w st d [] h = h
+against_way_as n w st d (c ∷ cs) h = rw (found_as n w st c.number d.name h.shows) (by (λ v s r. against_way_as n v s d cs r) (found st c.number d.name) refl)
+  where
+    Rest : Type 0
+    Rest = (v : WalkState) (s : State) → Represents n v s → Represents n (reaches.against_way v (naming_of d) (numbers cs)) (against_all s d (asked_symbols s cs d.name))
+
+    counted : Rest → (y : ℕ) (b : Bool) → Represents n (reaches.unless_passed_symbol (cond b (Some y) None) (writes.against w (naming_of d) y) (reaches.against_way (writes.against w (naming_of d) y) (naming_of d) (numbers cs)))
+        (against_all st d (y ∷ cond b [] (asked_symbols st cs d.name)))
+    counted rest y true = represents_against n w st y d h
+    counted rest y false =
+        subst (λ ys. Represents n (reaches.against_way (writes.against w (naming_of d) y) (naming_of d) (numbers cs)) (against_all (against st d y) d ys))
+        (asked_against st d y cs d.name) (rest (writes.against w (naming_of d) y) (against st d y) (represents_against n w st y d h))
+
+    by : Rest → (o : Option ℕ) → found st c.number d.name ≡ o
+        → Represents n (reaches.unless_passed_symbol (reaches.value_symbol w.tables o) (reaches.against_found w (naming_of d) o) (reaches.against_way (reaches.against_found w (naming_of d) o) (naming_of d) (numbers cs)))
+        (against_all st d (asked_symbols st (c ∷ cs) d.name))
+    by rest None e = rw e (rest w st h)
+    by rest (Some y) e = rw (e, flags_as n w st y h.shows) (counted rest y (counts st (Some y)))
+
+pub remember_all_as : (n : ℕ) (w : WalkState) (st : State) (cs : List OpenScope) (x : Name) (y : ℕ) → Represents n w st
+    → Represents n (reaches.remember_all w (numbers cs) x y) (remembering st cs x y)
+remember_all_as n w st [] x y h = h
+remember_all_as n w st (c ∷ cs) x y h =
+    remember_all_as n (reaches.remember w c.number x y) (record st { remembered = put st.remembered c.number x y }) cs x y (represents_remember n w st c.number x y h)
+
+pub move_symbol_as : (n : ℕ) (w : WalkState) (st : State) (from to y : ℕ) (x : Name) → from < n → to < n → (from ≡ to → ⊥) → Represents n w st
+    → Represents n (reaches.move_symbol w from to y x) (move_symbol st from to x y (get st.bindings to x))
+move_symbol_as n w st from to y x l k apart h = rw (bound_as n w st to x h.shows) (by (get st.bindings to x))
+  where
+    by : (o : Option ℕ) → Represents n (reaches.unless_bound o w (reaches.rebind w x y from to)) (move_symbol st from to x y o)
+    by None = represents_rebind n w st x y from to l k apart h
+    by (Some z) = h
+
+-- a state of the walk in which a declaration got a symbol, by whether it is pure
+abbrev got : Bool → WalkState → ℕ → Declaration → WalkState
+got b w y d = record w { nodes = (writes.note_symbol w y (naming_of d)).nodes; tables = cond b (writes.pure_with w.tables y) w.tables }
+
+-- it is the same whether the declaration gets its symbol before or after the move
+move_then_note_symbol : (w : WalkState) (from to y : ℕ) (d : Declaration) → writes.note_symbol (reaches.move_symbol w from to y d.name) y (naming_of d) ≡ reaches.move_symbol (writes.note_symbol w y (naming_of d)) from to y d.name
+move_then_note_symbol w from to y d = by d.is_pure (bound_in w.tables to d.name) refl
+  where
+    by : (b : Bool) (o : Option ℕ) → bound_in w.tables to d.name ≡ o → got b (reaches.move_symbol w from to y d.name) y d ≡ reaches.move_symbol (got b w y d) from to y d.name
+    by true None e = rw e refl
+    by true (Some z) e = rw e refl
+    by false None e = rw e refl
+    by false (Some z) e = rw e refl
+
+hoist_none : (n : ℕ) (w : WalkState) (st : State) (d : Declaration) → d.target.number < n → Represents n w st
+    → Represents n (reaches.remember_all (writes.note_symbol (writes.with_symbol_in w d.target.number (naming_of d)) (writes.symbol_in w d.target.number (naming_of d)) (naming_of d)) (numbers d.passed) d.name (writes.symbol_in w d.target.number (naming_of d)))
+    (hoist_by st d None)
+hoist_none n w st d l h =
+    let o : Option ℕ = found st d.target.number d.name in
+    rw (found_as n w st d.target.number d.name h.shows)
+    (subst (λ y. Represents n (reaches.remember_all (writes.note_symbol (writes.symbol_by w d.target.number (naming_of d) o) (unwrap_or o (length w.tables.symbols)) (naming_of d)) (numbers d.passed) d.name y) (hoist_by st d None))
+    (sym (chosen_as n w st o h.shows))
+    (remember_all_as n (writes.note_symbol (writes.symbol_by w d.target.number (naming_of d) o) (unwrap_or o (length w.tables.symbols)) (naming_of d)) (declare_in st d.target.number d o) d.passed d.name (chosen st o)
+    (represents_declare_in n w st d.target.number d o l h)))
+
+hoist_some : (n : ℕ) (w : WalkState) (st : State) (d : Declaration) (r : PassedSymbol) → r.scope < n → d.target.number < n → (r.scope ≡ d.target.number → ⊥) → Represents n w st
+    → Represents n (reaches.remember_all (writes.note_symbol (reaches.move_symbol (writes.redeclare w r.symbol (naming_of d)) r.scope d.target.number r.symbol d.name) r.symbol (naming_of d)) (numbers d.passed) d.name r.symbol)
+    (hoist_by st d (Some r))
+hoist_some n w st d r l k apart h =
+    let redone : State = record st { symbols = update (redeclared d) st.symbols r.symbol } in
+    let again : WalkState = writes.redeclare w r.symbol (naming_of d) in
+    let got_it : Represents n (writes.note_symbol again r.symbol (naming_of d)) (note_symbol redone d r.symbol) = represents_note_symbol n again redone r.symbol d (represents_redeclare n w st r.symbol d h) in
+    let went : Represents n (reaches.move_symbol (writes.note_symbol again r.symbol (naming_of d)) r.scope d.target.number r.symbol d.name) (move_symbol (note_symbol redone d r.symbol) r.scope d.target.number d.name r.symbol (get st.bindings d.target.number d.name)) =
+    move_symbol_as n (writes.note_symbol again r.symbol (naming_of d)) (note_symbol redone d r.symbol) r.scope d.target.number r.symbol d.name l k apart got_it in
+    remember_all_as n (writes.note_symbol (reaches.move_symbol again r.scope d.target.number r.symbol d.name) r.symbol (naming_of d))
+    (move_symbol (note_symbol redone d r.symbol) r.scope d.target.number d.name r.symbol (get st.bindings d.target.number d.name)) d.passed d.name r.symbol
+    (subst (λ v. Represents n v (move_symbol (note_symbol redone d r.symbol) r.scope d.target.number d.name r.symbol (get st.bindings d.target.number d.name))) (sym (move_then_note_symbol again r.scope d.target.number r.symbol d)) went)
+
+-- the scopes are open, and apart from the target
+abbrev pub ArePassed : ℕ → List OpenScope → ℕ → Type 0
+ArePassed n [] t = Unit {0}
+ArePassed n (c ∷ cs) t = (c.number < n) × (c.number ≡ t → ⊥) × ArePassed n cs t
+
+passed_symbol_passed : (n : ℕ) (st : State) (cs : List OpenScope) (t : ℕ) (x : Name) (r : PassedSymbol) → ArePassed n cs t → passed_symbol st cs x ≡ Some r → (r.scope < n) × (r.scope ≡ t → ⊥)
+passed_symbol_passed n st [] t x r a e = absurd cc
+passed_symbol_passed n st (c ∷ cs) t x r a e = by (passed_symbol_passed n st cs t x r a.2) (counts st (found st c.number x)) (found st c.number x) e
+  where
+    by : (passed_symbol st cs x ≡ Some r → (r.scope < n) × (r.scope ≡ t → ⊥)) → (b : Bool) (o : Option ℕ) → cond b (passed_symbol_or c.number o) (passed_symbol st cs x) ≡ Some r → (r.scope < n) × (r.scope ≡ t → ⊥)
+    by rest true None q = absurd cc
+    by rest true (Some y) q =
+        let i : c.number ≡ r.scope = ap scope_or q in
+        (subst (λ m. m < n) i a.0, λ j. a.1 (i ∙ j))
+      where
+        scope_or : Option PassedSymbol → ℕ
+        scope_or None = 0
+        scope_or (Some g) = g.scope
+    by rest false o q = rest q
+
+pub hoist_as : (n : ℕ) (w : WalkState) (st : State) (d : Declaration) → d.target.number < n → ArePassed n d.passed d.target.number → Represents n w st
+    → Represents n (reaches.hoist w (numbers d.passed) d.target.number (naming_of d)) (hoist st d)
+hoist_as n w st d l a h = rw (passed_symbol_as n w st d.passed d.name h.shows) (by (passed_symbol st d.passed d.name) refl)
+  where
+    noted : Represents n (reaches.against_way w (naming_of d) (numbers d.passed)) (against_all st d (asked_symbols st d.passed d.name))
+    noted = against_way_as n w st d d.passed h
+
+    by : (o : Option PassedSymbol) → passed_symbol st d.passed d.name ≡ o
+        → Represents n (reaches.remember_all (writes.note_symbol (reaches.hoisted_by (reaches.against_way w (naming_of d) (numbers d.passed)) d.target.number (naming_of d) o) (reaches.hoisted_symbol (reaches.against_way w (naming_of d) (numbers d.passed)) d.target.number (naming_of d) o) (naming_of d)) (numbers d.passed) d.name (reaches.hoisted_symbol (reaches.against_way w (naming_of d) (numbers d.passed)) d.target.number (naming_of d) o))
+        (hoist_by (against_all st d (asked_symbols st d.passed d.name)) d o)
+    by None e = hoist_none n (reaches.against_way w (naming_of d) (numbers d.passed)) (against_all st d (asked_symbols st d.passed d.name)) d l noted
+    by (Some r) e =
+        let q : (r.scope < n) × (r.scope ≡ d.target.number → ⊥) = passed_symbol_passed n st d.passed d.target.number d.name r a e in
+        hoist_some n (reaches.against_way w (naming_of d) (numbers d.passed)) (against_all st d (asked_symbols st d.passed d.name)) d r q.0 l q.1 noted
+
+-- what is moved out of a block is the symbol itself, or nothing
+abbrev pub IsMovable : State → ℕ → Name → ℕ → Type 0
+IsMovable st c x y = (get st.bindings c x ≡ Some y) ⊎ (get st.bindings c x ≡ None)
+
+unless_some : (st : State) (o : Option ℕ) (y : ℕ) → unless_expression st o ≡ Some y → o ≡ Some y
+unless_some st None y h = h
+unless_some st (Some r) y h = grind arith
+
+-- a scope binds the symbol that was found in it, or remembers it
+found_movable : (st : State) (c : ℕ) (x : Name) (y : ℕ) → found st c x ≡ Some y → IsMovable st c x y
+found_movable st c x y e = go (get st.bindings c x) refl e
+  where
+    go : (o : Option ℕ) → get st.bindings c x ≡ o → unless_expression st (or_else o (get st.remembered c x)) ≡ Some y → IsMovable st c x y
+    go None g f = inr g
+    go (Some r) g f = inl (g ∙ unless_some st (Some r) y f)
+
+declared_movable : (st : State) (d : Declaration) (c : ℕ) (o : Option ℕ) → found st c d.name ≡ o → IsMovable (declare_in st c d o) c d.name (chosen st o)
+declared_movable st d c None e = inl (get-put_same st.bindings c d.name (length st.symbols))
+declared_movable st d c (Some s) e = found_movable st c d.name s e
+
+move_some : (bs : List Binding) (c t y : ℕ) (x : Name) → get bs c x ≡ Some y → move bs c t x ≡ put (remove bs c x) t x y
+move_some bs c t y x g = rw (move, g) refl
+
+move_absent : (bs : List Binding) (c t : ℕ) (x : Name) → get bs c x ≡ None → move bs c t x ≡ bs
+move_absent bs c t x g = rw (move, g) refl
+
+move_out_none : (n : ℕ) (w : WalkState) (st : State) (c t y : ℕ) (x : Name) → c < n → t < n → (c ≡ t → ⊥) → IsMovable st c x y → Represents n w st
+    → Represents n (reaches.remember (reaches.set_symbol_scope (reaches.rebind_bound w x (get st.bindings c x) c t) y t) c x y) (move_out st c t x y None)
+move_out_none n w st c t y x l k apart (inl g) h =
+    subst (λ o. Represents n (reaches.remember (reaches.set_symbol_scope (reaches.rebind_bound w x o c t) y t) c x y) (move_out st c t x y None)) (sym g)
+    (subst (λ bs. Represents n (reaches.remember (reaches.set_symbol_scope (reaches.rebind w x y c t) y t) c x y) (record st { bindings = bs; symbols = update (in_scope t) st.symbols y; remembered = put st.remembered c x y })) (sym (move_some st.bindings c t y x g))
+    (represents_remember n (reaches.set_symbol_scope (reaches.rebind w x y c t) y t) (record st { bindings = put (remove st.bindings c x) t x y; symbols = update (in_scope t) st.symbols y }) c x y
+    (subst (λ ys. Represents n (reaches.set_symbol_scope (reaches.rebind w x y c t) y t) (record st { bindings = put (remove st.bindings c x) t x y; symbols = ys })) (update_twice (in_scope t) (in_scope t) st.symbols y)
+    (represents_set_symbol_scope n (reaches.rebind w x y c t) (record st { bindings = put (remove st.bindings c x) t x y; symbols = update (in_scope t) st.symbols y }) y t
+    (represents_rebind n w st x y c t l k apart h)))))
+move_out_none n w st c t y x l k apart (inr g) h =
+    subst (λ o. Represents n (reaches.remember (reaches.set_symbol_scope (reaches.rebind_bound w x o c t) y t) c x y) (move_out st c t x y None)) (sym g)
+    (subst (λ bs. Represents n (reaches.remember (reaches.set_symbol_scope w y t) c x y) (record st { bindings = bs; symbols = update (in_scope t) st.symbols y; remembered = put st.remembered c x y })) (sym (move_absent st.bindings c t x g))
+    (represents_remember n (reaches.set_symbol_scope w y t) (record st { symbols = update (in_scope t) st.symbols y }) c x y (represents_set_symbol_scope n w st y t h)))
+
+pub move_out_as : (n : ℕ) (w : WalkState) (st : State) (c t y : ℕ) (x : Name) → c < n → t < n → (c ≡ t → ⊥) → IsMovable st c x y → Represents n w st
+    → Represents n (reaches.move_out w c t y x) (move_out st c t x y (get st.bindings t x))
+move_out_as n w st c t y x l k apart m h = rw (bound_as n w st t x h.shows) (by (get st.bindings t x))
+  where
+    by : (o : Option ℕ) → Represents n (reaches.unless_bound o w (reaches.remember (reaches.set_symbol_scope (reaches.move_name w x c t) y t) c x y)) (move_out st c t x y o)
+    by None = subst (λ o. Represents n (reaches.remember (reaches.set_symbol_scope (reaches.rebind_bound w x o c t) y t) c x y) (move_out st c t x y None)) (sym (bound_as n w st c x h.shows)) (move_out_none n w st c t y x l k apart m h)
+    by (Some z) = h
+
+target_kept : (st : State) (c t : ℕ) (d : Declaration) (o : Option ℕ) → (c ≡ t → ⊥) → get (declare_in st c d o).bindings t d.name ≡ get st.bindings t d.name
+target_kept st c t d None apart = elim (same_key_tells c t d.name d.name) [
+  | inl k ↦ absurd (apart k.1)
+  | inr k ↦ get-put_other st.bindings c d.name (length st.symbols) t d.name k.0
+]
+target_kept st c t d (Some y) apart = refl
+
+pub declare_and_move_as : (n : ℕ) (w : WalkState) (st : State) (d : Declaration) → stands_in d < n → d.target.number < n → (stands_in d ≡ d.target.number → ⊥) → Represents n w st
+    → Represents n (reaches.declare_and_move w (stands_in d) d.target.number (naming_of d)) (move_function st d)
+declare_and_move_as n w st d l k apart h =
+    let c : ℕ = stands_in d in
+    let o : Option ℕ = found st c d.name in
+    let done : Represents n (writes.note_symbol (writes.symbol_by w c (naming_of d) o) (unwrap_or o (length w.tables.symbols)) (naming_of d)) (declare_in st c d o) = represents_declare_in n w st c d o l h in
+    rw (found_as n w st c d.name h.shows)
+    (subst (λ y. Represents n (reaches.move_out (writes.note_symbol (writes.symbol_by w c (naming_of d) o) y (naming_of d)) c d.target.number y d.name) (move_function st d)) (sym (chosen_as n w st o h.shows))
+    (subst (λ p. Represents n (reaches.move_out (writes.note_symbol (writes.symbol_by w c (naming_of d) o) (chosen st o) (naming_of d)) c d.target.number (chosen st o) d.name) (move_out (declare_in st c d o) c d.target.number d.name (chosen st o) p))
+    (target_kept st c d.target.number d o apart)
+    (move_out_as n (writes.note_symbol (writes.symbol_by w c (naming_of d) o) (chosen st o) (naming_of d)) (declare_in st c d o) c d.target.number (chosen st o) d.name l k apart (declared_movable st d c o refl)
+    (subst (λ y. Represents n (writes.note_symbol (writes.symbol_by w c (naming_of d) o) y (naming_of d)) (declare_in st c d o)) (chosen_as n w st o h.shows) done))))
