@@ -1,6 +1,6 @@
 #!/bin/sh
-# Tries the wrong bodies of the costliest crates, which the gate leaves out: each edit of crates/NAME/wrong-bodies changes a
-# body, and the prover must refuse it. It works on a scratch copy and takes from some minutes to half an hour a crate. The
+# Tries the wrong bodies that the gate leaves out: each edit of crates/NAME/wrong-bodies changes a body, and the prover must
+# refuse it. It works on a scratch copy and takes from some minutes to half an hour a crate. The
 # words are crates; with none it takes all that have such edits. The status is 1 where an edit isn't refused. It needs rt.
 set -eu
 cd "$(dirname "$0")/.."

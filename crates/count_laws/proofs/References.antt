@@ -1,5 +1,5 @@
 -- A program has a reference for each identifier reference.
-use Rattle.std.proofs.Common.{◌≡◌, ℕ, suc, ◌+◌, List, [], ◌∷◌, ◌++◌, Option, Some, None, Bool, true, false, ◌&&◌, not, cond, length, refl, ap, arith}
+use Rattle.std.proofs.Common.{◌≡◌, ℕ, suc, ◌+◌, List, [], ◌∷◌, ◌++◌, Option, Some, None, Bool, true, false, cond, length, refl, ap, arith}
 use Rattle.std.specs.List.{cons_option}
 use Rattle.std.proofs.lemmas.List.{length-map}
 use Rattle.semantic_kinds.specs.declared.kind.AstType.TheVariants as kind
@@ -9,10 +9,9 @@ use Rattle.semantic_tree.specs.Children.{single}
 use Rattle.semantic_tree.specs.Forest.{Forest, nothing, tree}
 use Rattle.semantic_tree.specs.Tree.{Tree}
 use Rattle.semantic_tree.specs.declared.node.Node.{Node}
-use Rattle.semantic_tree.specs.Views.{is, has_role}
-use Rattle.semantic_model.specs.Inside.{opens, is_inside, any_inside, header_roles, is_in_header, scopes_in}
+use Rattle.semantic_tree.specs.Views.{is}
+use Rattle.semantic_model.specs.Inside.{opens, scopes_in}
 use Rattle.semantic_model.specs.Place.{Place, OpenScope}
-use Rattle.semantic_model.specs.ScopeKind.{opened_scope}
 use Rattle.semantic_model.specs.Cursor.{on_entering}
 use Rattle.semantic_model.specs.Step.{Step, entering, opening, header_ending, closing, leaving, scope_at, next_at, opening_at, ending_after, opening_last, child_place, cursor_past, steps_below, root_place, steps}
 use Rattle.semantic_model.specs.Reference.{Occurrence, reference_at, references}
@@ -21,6 +20,7 @@ use Rattle.semantic_model.specs.Fold.{State, start}
 use Rattle.semantic_model.specs.Hoist.{run}
 use Rattle.semantic_model.specs.Tie.{ties}
 use Rattle.semantic_model.specs.TablesOf.{entry_of, tables_of}
+use Rattle.semantic_model.proofs.steps.TurnCases.{opening_case, ending_case, last_case}
 use Rattle.semantic_tree.specs.KindCounts.{how_many}
 use Rattle.count_laws.specs.Counted.{is_reference}
 use Rattle.count_laws.specs.Room.{referred_by, in_all}
@@ -46,31 +46,13 @@ entered_append : (xs ys : List Step) → entered (xs ++ ys) ≡ entered xs + ent
 entered_append = all-append referred_by
 
 none_opening : (p : Place) (r : Role) (own : Option OpenScope) (n : ℕ) → entered (opening_at p r own n) ≡ 0
-none_opening p r (Some s) n = refl
-none_opening p r None n = by (is_inside p.node.kind r)
-  where
-    by : (b : Bool) → entered (cond b (opening p (opened_scope p n) ∷ []) []) ≡ 0
-    by true = refl
-    by false = refl
+none_opening p r own n = opening_case (λ ss. entered ss ≡ 0) p r own n refl refl
 
 none_ending : (p : Place) (r : Role) (own : Option OpenScope) (after : Forest) → entered (ending_after p r own after) ≡ 0
-none_ending p r None after = refl
-none_ending p r (Some s) after =
-    by (is_in_header p.node.kind r && not (has_role (header_roles p.node.kind) after)) (is_inside p.node.kind r && not (any_inside p.node.kind after))
-  where
-    by : (a b : Bool) → entered (cond a (header_ending p s ∷ []) [] ++ cond b (closing p s ∷ []) []) ≡ 0
-    by true true = refl
-    by true false = refl
-    by false true = refl
-    by false false = refl
+none_ending p r own after = ending_case (λ ss. entered ss ≡ 0) p r own after refl (λ s. refl) (λ s. refl) (λ s. refl)
 
 none_last : (p : Place) (own : Option OpenScope) (n : ℕ) → entered (opening_last p own n) ≡ 0
-none_last p (Some s) n = refl
-none_last p None n = by (opens p.node.kind)
-  where
-    by : (b : Bool) → entered (cond b (opening p (opened_scope p n) ∷ closing p (opened_scope p n) ∷ []) []) ≡ 0
-    by true = refl
-    by false = refl
+none_last p own n = last_case (λ ss. entered ss ≡ 0) p own n refl refl
 
 entered_below : (p : Place) (own : Option OpenScope) (n cursor : ℕ) (f : Forest) → entered (steps_below p own n cursor f) ≡ how_many is_reference f
 entered_below p own n cursor nothing = none_last p own n

@@ -1,5 +1,5 @@
 -- A program has no more symbols than nodes that may declare one.
-use Rattle.std.proofs.Common.{◌≡◌, ℕ, ◌+◌, ◌≤◌, List, [], ◌∷◌, Option, Some, None, length, map, refl, ap, ◌∙◌, arith, inl, inr, length-append}
+use Rattle.std.proofs.Common.{◌≡◌, ℕ, ◌+◌, ◌≤◌, List, [], ◌∷◌, Option, Some, None, length, refl, ap, ◌∙◌, arith, inl, inr, length-append}
 use Rattle.std.proofs.lemmas.Bool.Decides.{leb_tells}
 use Rattle.std.proofs.lemmas.List.{length-map}
 use Rattle.semantic_syntax.specs.Tables.{Name, Symbol, Bindings}
@@ -14,15 +14,15 @@ use Rattle.semantic_model.specs.Event.{Event, declares, takes_over, ends_header,
 use Rattle.semantic_model.specs.Fold.{State, Made, start, found, update, united, redeclared, in_scope, note_symbol, make, against, declare_in, chosen, new_symbol}
 use Rattle.semantic_model.specs.Binding.{get, bound_by}
 use Rattle.semantic_model.specs.Hoist.{PassedSymbol, passed_symbol, asked_symbols, against_all, move_symbol, hoist_by, move_out, move_function, declare_by, rescoped, act, run}
-use Rattle.semantic_model.specs.NodeTable.{belonging}
 use Rattle.semantic_model.specs.TablesOf.{tables_of}
 use Rattle.semantic_model.proofs.lists.Bounds.{update_length}
-use Rattle.walk_model.proofs.once.SymbolsOnce.{symbols_times}
+use Rattle.walk_model.proofs.once.SymbolsOnce.{nodes_are, symbols_times}
+use Rattle.walk_model.proofs.once.Weighing.{identifiers}
 use Rattle.semantic_tree.specs.KindCounts.{how_many}
 use Rattle.count_laws.specs.Counted.{is_symbol}
 use Rattle.count_laws.proofs.Fewer.{no_longer}
 use Rattle.count_laws.proofs.SymbolNodes.{symbol_ids, ids_counted, ids_times}
-use Rattle.count_laws.proofs.MadeOnce.{identifiers, made_within}
+use Rattle.count_laws.proofs.MadeOnce.{made_within}
 
 -- each symbol that is made has a declaration that made it
 abbrev Covers : State → State → Type 0
@@ -101,13 +101,9 @@ identifiers_fewer p h e x =
     let once = symbols_times x p h e in
     let nodes = ids_times x (single role.Root p.root) in
     elim (leb_tells 1 (times x (identifiers ms))) [
-      | inl q ↦ (let stands = made_within x p q.1 in omega (arith, same x ms, once, nodes, stands))
+      | inl q ↦ (let stands = made_within x p q.1 in omega (arith, nodes_are x ms, once, nodes, stands))
       | inr q ↦ omega (arith, q.1)
     ]
-  where
-    same : (x : ℕ) (ms : List Made) → times x (map (λ b. b.node) (map belonging ms)) ≡ times x (identifiers ms)
-    same x [] = refl
-    same x (m ∷ ms) = omega (arith, same x ms)
 
 -- so no more are made than there are nodes that may declare one
 pub made_counted : (p : Tree) → first_fault p ≡ None → IsNumbered p.root → length (run start (events (steps p))).made ≤ how_many is_symbol (single role.Root p.root)

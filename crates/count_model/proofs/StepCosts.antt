@@ -3,7 +3,7 @@ use Rattle.std.proofs.Common.{◌≡◌, ℕ, ◌+◌, ◌≤◌, List, [], ◌�
 use Rattle.std.specs.Prelude.{slice_get}
 use Rattle.std.specs.List.{AllByRecursion, sum_by, cons_option}
 use Rattle.std.proofs.lemmas.Bool.Decides.{eqb_tells}
-use Rattle.std.proofs.lemmas.List.{length-append, append_assoc, append-nil}
+use Rattle.std.proofs.lemmas.List.{append_assoc, append-nil}
 use Rattle.std.proofs.lemmas.List.Sums.{sum_by-cons, sum_by_push}
 use Rattle.semantic_kinds.specs.declared.kind.AstType.TheVariants as kind
 use Rattle.semantic_syntax.specs.Tables.{Scope}
@@ -24,25 +24,23 @@ use Rattle.semantic_model.specs.Tie.{Tie, ties, answers, until_end_of}
 use Rattle.semantic_model.specs.Outcome.{Pending, header_outcome, header_probes, last_probes}
 use Rattle.semantic_model.specs.TablesOf.{is_direct_eval}
 use Rattle.semantic_model.proofs.steps.Compose.{run-append}
-use Rattle.semantic_model.proofs.lists.Growth.{start_is_sound}
 use Rattle.walk_model.specs.WalkState.{WalkState, nothing_made}
 use Rattle.walk_model.specs.Opens.{note_reference, refer}
 use Rattle.walk_model.specs.Walks as walk
 use Rattle.walk_model.proofs.places.Nested.{AreNested, open_past, seen_past}
 use Rattle.walk_model.proofs.places.Grounds.{AllGrounded, all_grounded}
-use Rattle.walk_model.proofs.declares.Simulated.{nothing_as, program_nested}
+use Rattle.walk_model.proofs.declares.Simulated.{program_nested}
 use Rattle.walk_model.proofs.headers.TouchedScopes.{AllTouch}
 use Rattle.walk_model.proofs.opens.LeftByDeclaring.{acts_untouched}
-use Rattle.walk_model.proofs.opens.OpenedAll.{nothing_opened}
 use Rattle.walk_model.proofs.opens.OpenedScopes.{bare_past, calls_past, entering_declares, opening_declares}
 use Rattle.walk_model.proofs.headers.Headed.{AllLess, awaiting_past, awaiting_after, flags_past, AreHeaded}
 use Rattle.walk_model.proofs.headers.HeadedProgram.{program_headed, program_awaits}
 use Rattle.walk_model.proofs.headers.Frozen.{Frozen, frozen, between, between_low, between_high, later_touch}
 use Rattle.walk_model.proofs.refers.HeaderEnds.{At, Waits}
-use Rattle.walk_model.proofs.refers.Settling.{none}
 use Rattle.walk_model.proofs.refers.TrackedReferences.{numbered, with_ways, tracks_length, ties_length, IsDone, until_is}
 use Rattle.walk_model.proofs.refers.Referred.{Inv, referred_past, referred_next, same_eval, same_closing}
 use Rattle.walk_model.proofs.refers.ReferredSteps.{inv_step}
+use Rattle.walk_model.proofs.refers.GivesTables.{same_count, inv_nothing}
 use Rattle.count_model.specs.Probes.{probes, probes_of_step, probes_of_steps, probes_in_end}
 use Rattle.count_model.proofs.LeftToAsk.{scopes_from, cost, cost_of, left_for, left_of, all_pay, all_pay_last, HasTie, among_ties, each, reference_at_tie, more_at, next_at}
 use Rattle.count_model.proofs.EndCosts.{pays_at_end, pays_last}
@@ -51,13 +49,6 @@ use Rattle.count_model.proofs.EndCosts.{pays_at_end, pays_last}
 from_innermost : (ss : List OpenScope) → scopes_from (innermost ss).number ss ≡ ss
 from_innermost [] = refl
 from_innermost (s ∷ ss) = elim (eqb_tells s.number s.number) [ inl q ↦ rw q.0 refl | inr q ↦ absurd (q.1 refl) ]
-
-same_count : (fs : List ℕ) (seen : List (List ℕ)) (step : Step) → length fs ≡ length seen → length (flags_past fs step) ≡ length (seen_past seen step)
-same_count fs seen (entering p) e = e
-same_count fs seen (opening p s) e = omega (arith, e, length-append fs (s.flags ∷ []), length-append seen (walk.numbers p.chain ∷ []))
-same_count fs seen (header_ending p s) e = e
-same_count fs seen (closing p s) e = e
-same_count fs seen (leaving p) e = e
 
 -- the innermost of the open scopes is the last that was opened
 first_most : (c : ℕ) (cs : List ℕ) (x : ℕ) → AllLess cs c → contains (c ∷ cs) x ≡ true → x ≤ c
@@ -208,24 +199,6 @@ module _ (ds : List Declaration) (final : State) (es : List Event) (final_is : f
       (a ∙ referred_next rs step ss) (b ∙ sym (append_assoc done evs rest)) (ap (λ x. run x evs) c ∙ sym (run-append done evs start)) (same_count fs seen step e) k.1 g.1 h.1 none_awaits next in
       omega (arith, later, step_pays stack seen calls bare awaiting fs rs done w st step ss a b c k g h i, costs_next step ss)
 
-  inv_nothing : Inv (ties final es 0 whole) final es [] [] [] [] [] [] [] [] nothing_made start
-  inv_nothing = record {
-    represents = nothing_as;
-    scopes = nothing_opened;
-    flags = refl;
-    sound = start_is_sound;
-    within = record { bindings = λ e a. absurd a; remembered = λ e a. absurd a };
-    sided = tt;
-    order = tt;
-    old = tt;
-    less = tt;
-    inner = tt;
-    ends = tt;
-    tracks = none;
-    lists = record { uses = refl; beyond = λ s l. refl; free = refl };
-    nodes = refl;
-  }
-
 abbrev probes_by : State → List Event → List Occurrence → ℕ
 probes_by final es [] = 0
 probes_by final es (r ∷ rs) = probes_in r.name r.way (answers final es r) + probes_by final es rs
@@ -242,5 +215,5 @@ probes_once p h =
     let final : State = run start es in
     let rs : List Occurrence = references (steps p) in
     let paid : probes_of_steps ds nothing_made (steps p) + probes_in_end (walk.after_all ds nothing_made (steps p)) ≡ 0 + sum_by (cost_of final es) rs =
-    steps_pay ds final es refl rs [] [] [] [] [] [] [] [] nothing_made start (steps p) refl refl refl refl (program_nested p) (all_grounded p h) (program_headed p h) (program_awaits p h) (inv_nothing ds final es refl rs) in
+    steps_pay ds final es refl rs [] [] [] [] [] [] [] [] nothing_made start (steps p) refl refl refl refl (program_nested p) (all_grounded p h) (program_headed p h) (program_awaits p h) (inv_nothing ds (ties final es 0 rs) final es refl) in
     omega (arith, paid, probes_is final es rs)

@@ -14,11 +14,10 @@ use Rattle.semantic_syntax.specs.Told.{source_of}
 use Rattle.semantic_model.specs.Cursor.{on_entering}
 use Rattle.semantic_model.specs.Declaration.{Declaration}
 use Rattle.semantic_model.specs.Event.{written_declarations}
-use Rattle.semantic_model.specs.Inside.{opens, is_inside}
 use Rattle.semantic_model.specs.Outcome.{Pending, is_below, header_probes}
 use Rattle.semantic_model.specs.Place.{Place, OpenScope}
-use Rattle.semantic_model.specs.ScopeKind.{opened_scope}
 use Rattle.semantic_model.specs.Step.{Step, entering, opening, header_ending, closing, leaving, steps_below, steps_of, opening_at, ending_after, opening_last, cursor_past, root_place, steps}
+use Rattle.semantic_model.proofs.steps.TurnCases.{opening_case, last_case}
 use Rattle.walk_model.specs.WalkState.{WalkState, nothing_made}
 use Rattle.walk_model.specs.Waits.{HoldsAt}
 use Rattle.walk_model.specs.Walks.{after, after_all}
@@ -34,20 +33,10 @@ use Rattle.count_model.proofs.StepCosts.{probes_once}
 
 -- a scope that opens asks nothing
 pub opening_asks : (ds : List Declaration) (w : WalkState) (p : Place) (r : Role) (own : Option OpenScope) (n : ℕ) → probes_of_steps ds w (opening_at p r own n) ≡ 0
-opening_asks ds w p r (Some s) n = refl
-opening_asks ds w p r None n = by (is_inside p.node.kind r)
-  where
-    by : (b : Bool) → probes_of_steps ds w (cond b (opening p (opened_scope p n) ∷ []) []) ≡ 0
-    by true = refl
-    by false = refl
+opening_asks ds w p r own n = opening_case (λ ss. probes_of_steps ds w ss ≡ 0) p r own n refl refl
 
 pub last_asks_none : (ds : List Declaration) (w : WalkState) (p : Place) (own : Option OpenScope) (n : ℕ) → probes_of_steps ds w (opening_last p own n) ≡ 0
-last_asks_none ds w p (Some s) n = refl
-last_asks_none ds w p None n = by (opens p.node.kind)
-  where
-    by : (b : Bool) → probes_of_steps ds w (cond b (opening p (opened_scope p n) ∷ closing p (opened_scope p n) ∷ []) []) ≡ 0
-    by true = refl
-    by false = refl
+last_asks_none ds w p own n = last_case (λ ss. probes_of_steps ds w ss ≡ 0) p own n refl refl
 
 -- references that wait outside of a header ask nothing at its end
 asks_nothing : (source : Source) (c start : ℕ) (es : List Pending) → AllByRecursion (λ e. is_below source c e ≡ false) (take start es) → sum_by (header_probes source c) es ≡ sum_by (header_probes source c) (drop start es)

@@ -18,7 +18,7 @@ flags_beyond t s h = ap (λ e. e.flags.bits) (scope_beyond t.scopes s h)
 alone : (t : Tables) (n c : ℕ) → length t.scopes ≤ c → list_any (has_arguments t) (chain_within (parent_of t.scopes) n c) ≡ false
 unfolding chain_within
 alone t zero c h = refl
-alone t (suc n) c h = rw (scope_beyond t.scopes c h) refl
+alone t (suc n) c h = rw (scope_beyond t.scopes c h, flags_beyond t c h) refl
 
 -- nor is it in a function
 pub function_beyond : (t : Tables) (c : ℕ) → length t.scopes ≤ c → is_in_function t c ≡ false

@@ -126,7 +126,12 @@ fn pack_each(
     ensures kept { map filled scopes.new.items ≡ map (rows_without_types rows.now) (map filled scopes.old.items) }
 {
     for scope in 0..scopes.len() {
-        pack(positions, &mut scopes[scope], ScopeId::new(scope as u32), rows);
+        pack(
+            positions,
+            &mut scopes[scope],
+            ScopeId::new(scope as u32),
+            rows,
+        );
     }
 }
 

@@ -2,3 +2,5 @@
 pub mod Compose
 pub mod Turns
 pub mod Opened
+pub mod TurnCases
+pub mod StepFolds

@@ -175,7 +175,13 @@ impl<'a> Walk<'a> {
     {
         let inside = is_ambient_inside(parent.node(), turn.is_ambient);
         self.current_scope = self.scope_of_child(turn, parent.ty(), role);
-        self.current_reference_flags = before_child(parent, inside, role, child, self.current_reference_flags);
+        self.current_reference_flags = before_child(
+            parent,
+            inside,
+            role,
+            child,
+            self.current_reference_flags,
+        );
         self.is_ambient = is_ambient_in_child(parent.node(), turn.is_ambient, role);
     }
 
@@ -355,7 +361,12 @@ impl<'a> Walk<'a> {
         ensures made { self.new ≡ record self.old { cursor = cursor_behind parent role before.bits self.old.cursor } }
         ensures goes { Goes self.old.made self.new.made }
     {
-        self.current_reference_flags = behind_child(parent, role, before, self.current_reference_flags);
+        self.current_reference_flags = behind_child(
+            parent,
+            role,
+            before,
+            self.current_reference_flags,
+        );
     }
 
     /// Behind a child: the walk stands in the node again, and its header or scope may end.

@@ -4,7 +4,7 @@ ghost use Rattle.std.specs.Prelude.{◌≡◌, ◌<◌, ◌++◌, None, length, 
 ghost use Rattle.std.specs.Str.{bytes_eq};
 ghost use Rattle.std.specs.Map.{lookup};
 ghost use Rattle.scoping.specs.Names.{name_of};
-ghost use Rattle.semantic_syntax.specs.Reading.{scope_of};
+ghost use Rattle.semantic_syntax.specs.Reading.{scope_of, bound_in};
 ghost use Rattle.semantic_model.specs.Binding.{get};
 ghost use Rattle.semantic_model.specs.Fold.{or_else};
 ghost use Rattle.walk_model.specs.Opens.{open_in};
@@ -149,7 +149,7 @@ impl<'a> Declared<'a> {
     /// The symbol that the scope binds to the name.
     pub(crate) fn bound(&self, scope: ScopeId, name: Ident<'_>) -> Option<SymbolId>
         requires { scope < length self.now.tables.scopes }
-        ensures value { result ≡ walked.bound_to self.now.tables scope (name_of name.entry) }
+        ensures value { result ≡ bound_in self.now.tables scope (name_of name.entry) }
         ensures within { IfSome result (λ y. y < length self.now.tables.symbols) }
     {
         self.scoping.attest();
@@ -176,7 +176,7 @@ impl<'a> Declared<'a> {
     /// The symbol that the scope binds to the name, else the one that it remembers.
     fn known(&self, scope: ScopeId, name: Ident<'_>) -> Option<SymbolId>
         requires { scope < length self.now.tables.scopes }
-        ensures value { result ≡ or_else (walked.bound_to self.now.tables scope (name_of name.entry)) (get self.now.remembered scope (name_of name.entry)) }
+        ensures value { result ≡ or_else (bound_in self.now.tables scope (name_of name.entry)) (get self.now.remembered scope (name_of name.entry)) }
         ensures within { IfSome result (λ y. y < length self.now.tables.symbols) }
     {
         if let Some(symbol) = self.bound(scope, name) {

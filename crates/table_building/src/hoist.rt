@@ -184,7 +184,12 @@ impl<'a> Declared<'a> {
         ensures goes { Goes self.old self.new }
     {
         self.redeclare(passed_symbol.symbol, declaration)?;
-        self.move_symbol(passed_symbol.scope, target, passed_symbol.symbol, Ident::new(declaration.name))
+        self.move_symbol(
+            passed_symbol.scope,
+            target,
+            passed_symbol.symbol,
+            Ident::new(declaration.name),
+        )
     }
 
     /// The symbol of a `var`: that of a passed scope that counts, which moves to the target, else it is declared in

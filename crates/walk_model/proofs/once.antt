@@ -8,3 +8,4 @@ pub mod DeclaredTimes
 pub mod DeclaredBelow
 pub mod SymbolsOnce
 pub mod NotedOnce
+pub mod Weighing

@@ -14,7 +14,7 @@ use Rattle.semantic_model.specs.Cursor.{on_entering}
 use Rattle.semantic_model.specs.Declaration.{passed_before, first_with, route_from, outward_to}
 use Rattle.semantic_model.specs.Binder.{is_var}
 use Rattle.semantic_model.specs.Step.{Step, entering, opening, header_ending, closing, leaving, steps_below, steps_of, steps, root_place, opening_at, ending_after, opening_last, scope_at, next_at, child_place, chain_within, cursor_past}
-use Rattle.semantic_model.proofs.steps.Opened.{openings, openings-append, opened_below, none_after}
+use Rattle.semantic_model.proofs.steps.Opened.{openings, openings-append, opened_below, none_after, next_opened}
 
 -- the nearest var scope from the innermost outward, or the innermost itself where there is none
 abbrev pub var_scope : List OpenScope → ℕ
@@ -154,14 +154,6 @@ module _ (v : ℕ → ℕ) where
       go : (t : Bool) → AllNear (cond t (outside p.chain) (chain_within p r own))
       go true = outside_near p.chain a
       go false = within_near p r own a o
-
-  next_opened : (p : Place) (r : Role) (own : Option OpenScope) (n : ℕ) → n + openings (opening_at p r own n) ≡ next_at p r own n
-  next_opened p r (Some s) n = omega arith
-  next_opened p r None n = go (is_inside p.node.kind r)
-    where
-      go : (t : Bool) → n + openings (cond t (opening p (opened_scope p n) ∷ []) []) ≡ cond t (suc n) n
-      go true = omega arith
-      go false = omega arith
 
   near_steps : (p : Place) (own : Option OpenScope) (n cursor : ℕ) (f : Forest) → AllNear p.chain → OwnNear p own → NearAt n (steps_below p own n cursor f) → AllPlacesNear (steps_below p own n cursor f)
   near_steps p own n cursor nothing a o b = last_near p own n

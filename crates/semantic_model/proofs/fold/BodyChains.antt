@@ -19,7 +19,7 @@ use Rattle.semantic_model.specs.ScopeKind.{strict_if, opened_scope}
 use Rattle.semantic_model.specs.Event.{is_catch_body}
 use Rattle.semantic_model.specs.Cursor.{on_entering}
 use Rattle.semantic_model.specs.Step.{Step, entering, opening, header_ending, closing, leaving, steps_below, opening_at, ending_after, opening_last, scope_at, next_at, child_place, chain_within, cursor_past}
-use Rattle.semantic_model.proofs.steps.Opened.{openings, openings-append, opened_below, none_after}
+use Rattle.semantic_model.proofs.steps.Opened.{openings, openings-append, opened_below, none_after, next_opened}
 use Rattle.semantic_model.proofs.form.Clauses.{kind_is, first_holds, second_holds, ends_with_block, clauses_end, nothing_follows, later_ends}
 
 module _ (table : List (Option ℕ)) where
@@ -223,14 +223,6 @@ module _ (table : List (Option ℕ)) where
       go : (t : Bool) → AllInTable (cond t (outside p.chain) (chain_within p r own))
       go true = outside_in p.chain a
       go false = within_in p r own a o
-
-  next_opened : (p : Place) (r : Role) (own : Option OpenScope) (n : ℕ) → n + openings (opening_at p r own n) ≡ next_at p r own n
-  next_opened p r (Some s) n = omega arith
-  next_opened p r None n = go (is_inside p.node.kind r)
-    where
-      go : (t : Bool) → n + openings (cond t (opening p (opened_scope p n) ∷ []) []) ≡ cond t (suc n) n
-      go true = omega arith
-      go false = omega arith
 
   -- a clause at the start of its children
   clause_starts : (k : AstType) (below : Forest) → cond (same_kind k kind.CatchClause) (ends_with_block below) true ≡ true → same_kind k kind.CatchClause ≡ true → (below ≡ below) × (ends_with_block below ≡ true)

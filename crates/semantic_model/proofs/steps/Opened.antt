@@ -58,6 +58,15 @@ opening_here : (p : Place) (r : Role) (own : Option OpenScope) (n : ℕ) → ope
 opening_here p r (Some s) n = refl
 opening_here p r None n = open_or (is_inside p.node.kind r) p (opened_scope p n) (inside_opens p.node.kind r)
 
+-- the number of scopes past the opening
+pub next_opened : (p : Place) (r : Role) (own : Option OpenScope) (n : ℕ) → n + openings (opening_at p r own n) ≡ next_at p r own n
+next_opened p r (Some s) n = omega arith
+next_opened p r None n = by (is_inside p.node.kind r)
+  where
+    by : (b : Bool) → n + openings (cond b (opening p (opened_scope p n) ∷ []) []) ≡ cond b (suc n) n
+    by true = omega arith
+    by false = omega arith
+
 pub none_after : (p : Place) (r : Role) (own : Option OpenScope) (after : Forest) → openings (ending_after p r own after) ≡ 0
 none_after p r None after = refl
 none_after p r (Some s) after =

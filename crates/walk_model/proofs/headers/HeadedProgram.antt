@@ -1,5 +1,5 @@
 -- The steps of a program are headed.
-use Rattle.std.proofs.Common.{◌≡◌, ℕ, suc, ◌+◌, ◌≤◌, List, [], ◌∷◌, ◌++◌, Option, Some, None, Bool, true, false, cond, ◌||◌, not, ◌⊎◌, inl, inr, refl, sym, ap, subst, ◌∙◌, length, arith}
+use Rattle.std.proofs.Common.{◌≡◌, ℕ, ◌+◌, ◌≤◌, List, [], ◌∷◌, ◌++◌, Option, Some, None, Bool, true, false, cond, ◌||◌, not, ◌⊎◌, inl, inr, refl, sym, ap, subst, ◌∙◌, length, arith}
 use Rattle.semantic_tree.specs.Forest.{Forest, nothing, tree}
 use Rattle.semantic_tree.specs.Tree.{Tree}
 use Rattle.semantic_tree.specs.Faults.{first_fault}
@@ -10,12 +10,12 @@ use Rattle.semantic_kinds.specs.declared.kind.AstType.TheVariants as kind
 use Rattle.semantic_kinds.specs.declared.role.Role.{Role}
 use Rattle.semantic_tree.specs.Views.{has_role}
 use Rattle.semantic_model.specs.Place.{Place, OpenScope}
-use Rattle.semantic_model.specs.Inside.{opens, is_inside, header_roles, is_in_header, scopes_in}
+use Rattle.semantic_model.specs.Inside.{opens, header_roles, is_in_header, scopes_in}
 use Rattle.semantic_model.specs.ScopeKind.{opened_scope}
 use Rattle.semantic_model.specs.Cursor.{on_entering}
 use Rattle.semantic_model.specs.Step.{Step, entering, opening, closing, leaving, steps_below, steps, opening_at, ending_after, opening_last, scope_at, next_at, child_place, cursor_past, root_place}
 use Rattle.semantic_model.proofs.form.Clauses.{kind_is, second_holds}
-use Rattle.semantic_model.proofs.steps.Opened.{openings, openings-append, opened_below, none_after}
+use Rattle.semantic_model.proofs.steps.Opened.{openings, openings-append, opened_below, none_after, next_opened}
 use Rattle.walk_model.proofs.places.Grounds.{is_open_inside}
 use Rattle.walk_model.proofs.places.Shapes.{holds_below}
 use Rattle.walk_model.proofs.headers.NoStatements.{table_closes, place_closes}
@@ -81,14 +81,6 @@ or_same false b = refl
 older_own : (awaiting fs : List ℕ) (p : Place) (own : Option OpenScope) (f : Forest) → OwnHeadOf awaiting fs p own f → (s : OpenScope) → own ≡ Some s → AllLess awaiting s.number
 older_own awaiting fs p None f o s z = absurd cc
 older_own awaiting fs p (Some t) f o s z = let i : t ≡ s = cc in subst (λ (u : OpenScope). AllLess awaiting u.number) i o.older
-
-next_opened : (p : Place) (r : Role) (own : Option OpenScope) (n : ℕ) → n + openings (opening_at p r own n) ≡ next_at p r own n
-next_opened p r (Some s) n = omega arith
-next_opened p r None n = go (is_inside p.node.kind r)
-  where
-    go : (t : Bool) → n + openings (cond t (opening p (opened_scope p n) ∷ []) []) ≡ cond t (suc n) n
-    go true = omega arith
-    go false = omega arith
 
 pub headed_below : (p : Place) (own : Option OpenScope) (n cursor : ℕ) (f : Forest) (awaiting fs : List ℕ) → length fs ≡ n → AreFlagged fs p.chain → ChainLess p.chain n → AllMatch awaiting p.chain → IsSheltered awaiting p → AllLess awaiting n → OwnHeadOf awaiting fs p own f → Shaped p.node.kind f
     → LeadsOn (awaiting_with p own f awaiting) awaiting fs (steps_below p own n cursor f)

@@ -1,5 +1,5 @@
 -- No node is declared more often below a place than it stands there.
-use Rattle.std.proofs.Common.{◌≡◌, ℕ, ◌+◌, ◌≤◌, List, [], ◌∷◌, ◌++◌, Option, Some, None, Bool, true, false, cond, ◌&&◌, not, refl, arith}
+use Rattle.std.proofs.Common.{◌≡◌, ℕ, ◌+◌, ◌≤◌, List, [], ◌∷◌, ◌++◌, Option, Some, None, Bool, true, false, cond, ◌&&◌, refl, arith}
 use Rattle.semantic_kinds.specs.declared.kind.AstType.{AstType}
 use Rattle.semantic_kinds.specs.declared.kind.AstType.TheVariants as kind
 use Rattle.semantic_kinds.specs.declared.role.Role.{Role}
@@ -7,16 +7,16 @@ use Rattle.semantic_tree.specs.Forest.{Forest, nothing, tree}
 use Rattle.semantic_tree.specs.Tree.{Tree}
 use Rattle.semantic_tree.specs.Faults.{first_fault}
 use Rattle.semantic_tree.specs.declared.node.Node.{Node}
-use Rattle.semantic_tree.specs.Views.{has_role}
 use Rattle.semantic_model.specs.Place.{Place, OpenScope}
-use Rattle.semantic_model.specs.Inside.{opens, is_inside, any_inside, header_roles, is_in_header, scopes_in}
+use Rattle.semantic_model.specs.Inside.{opens, is_inside, scopes_in}
 use Rattle.semantic_model.specs.ScopeKind.{opened_scope}
 use Rattle.semantic_model.specs.Cursor.{on_entering}
 use Rattle.semantic_model.specs.Binder.{declared_by}
 use Rattle.semantic_model.specs.Event.{declared_at}
-use Rattle.semantic_model.specs.Step.{Step, entering, opening, header_ending, closing, leaving, steps_below, steps, opening_at, ending_after, opening_last, scope_at, next_at, child_place, cursor_past, root_place}
+use Rattle.semantic_model.specs.Step.{Step, entering, opening, closing, leaving, steps_below, steps, opening_at, ending_after, opening_last, scope_at, next_at, child_place, cursor_past, root_place}
 use Rattle.semantic_model.proofs.form.Clauses.{first_holds, second_holds}
 use Rattle.semantic_model.proofs.form.Shape.{has_form}
+use Rattle.semantic_model.proofs.steps.TurnCases.{ending_case}
 use Rattle.walk_model.proofs.places.Shapes.{holds_below}
 use Rattle.walk_model.proofs.once.NameTimes.{name_roles, declared_times, reached, node_times}
 use Rattle.walk_model.proofs.once.QuietNames.{names_quietly, tree_quiet}
@@ -29,7 +29,7 @@ module _ (x : ℕ) where
   step_times [] = 0
   step_times (s ∷ ss) = declared_times x (declared_at s) + step_times ss
 
-  steps_append : (xs ys : List Step) → step_times (xs ++ ys) ≡ step_times xs + step_times ys
+  pub steps_append : (xs ys : List Step) → step_times (xs ++ ys) ≡ step_times xs + step_times ys
   steps_append [] ys = omega arith
   steps_append (s ∷ xs) ys = omega (arith, steps_append xs ys)
 
@@ -54,17 +54,10 @@ module _ (x : ℕ) where
       by true = omega (arith, inside_is x p.node.kind p (opened_scope p n))
       by false = omega arith
 
-  none_ending : (p : Place) (r : Role) (own : Option OpenScope) (after : Forest) → step_times (ending_after p r own after) ≡ 0
-  none_ending p r None after = refl
-  none_ending p r (Some s) after = by (is_in_header p.node.kind r && not (has_role (header_roles p.node.kind) after)) (is_inside p.node.kind r && not (any_inside p.node.kind after))
-    where
-      by : (a b : Bool) → step_times (cond a (header_ending p s ∷ []) [] ++ cond b (closing p s ∷ []) []) ≡ 0
-      by true true = refl
-      by true false = refl
-      by false true = refl
-      by false false = refl
+  pub none_ending : (p : Place) (r : Role) (own : Option OpenScope) (after : Forest) → step_times (ending_after p r own after) ≡ 0
+  none_ending p r own after = ending_case (λ ss. step_times ss ≡ 0) p r own after refl (λ s. refl) (λ s. refl) (λ s. refl)
 
-  turn_times : (xs ys es ws : List Step) (child : Place) → step_times (xs ++ (entering child ∷ (ys ++ leaving child ∷ [])) ++ es ++ ws) ≡ step_times xs + (declared_times x (declared_by child.node.kind child) + step_times ys) + step_times es + step_times ws
+  pub turn_times : (xs ys es ws : List Step) (child : Place) → step_times (xs ++ (entering child ∷ (ys ++ leaving child ∷ [])) ++ es ++ ws) ≡ step_times xs + (declared_times x (declared_by child.node.kind child) + step_times ys) + step_times es + step_times ws
   turn_times xs ys es ws child =
       let zs : List Step = entering child ∷ (ys ++ leaving child ∷ []) in
       omega (arith, steps_append (xs ++ zs ++ es) ws, steps_append (xs ++ zs) es, steps_append xs zs, steps_append ys (leaving child ∷ []))

@@ -1,5 +1,5 @@
 -- In a numbered program no node is noted twice as the opener of a scope, or as a reference.
-use Rattle.std.proofs.Common.{◌≡◌, ℕ, suc, ◌+◌, ◌<◌, ◌≤◌, List, [], ◌∷◌, ◌++◌, Option, Some, None, Bool, true, false, cond, ◌&&◌, ◌||◌, not, ◌⊎◌, inl, inr, refl, sym, ap, subst, ◌∙◌, map, flat_map, fold, nat_eq, arith}
+use Rattle.std.proofs.Common.{◌≡◌, ℕ, suc, ◌+◌, ◌<◌, ◌≤◌, List, [], ◌∷◌, ◌++◌, Option, Some, None, Bool, true, false, cond, ◌||◌, ◌⊎◌, inl, inr, refl, sym, ap, subst, ◌∙◌, map, flat_map, fold, nat_eq, arith}
 use Rattle.std.specs.Prelude.{filter_map}
 use Rattle.std.specs.List.{cons_option}
 use Rattle.std.proofs.lemmas.Bool.Decides.{eqb_tells}
@@ -10,9 +10,9 @@ use Rattle.semantic_tree.specs.Tree.{Tree, IsNumbered}
 use Rattle.semantic_tree.specs.declared.node.Node.{Node}
 use Rattle.semantic_kinds.specs.declared.kind.AstType.TheVariants as kind
 use Rattle.semantic_kinds.specs.declared.role.Role.{Role}
-use Rattle.semantic_tree.specs.Views.{is, has_role}
+use Rattle.semantic_tree.specs.Views.{is}
 use Rattle.semantic_model.specs.Place.{Place, OpenScope}
-use Rattle.semantic_model.specs.Inside.{opens, is_inside, any_inside, header_roles, is_in_header, scopes_in}
+use Rattle.semantic_model.specs.Inside.{opens, is_inside, scopes_in}
 use Rattle.semantic_model.specs.ScopeKind.{opened_scope}
 use Rattle.semantic_model.specs.Cursor.{on_entering}
 use Rattle.semantic_model.specs.Declaration.{contains}
@@ -22,6 +22,7 @@ use Rattle.semantic_model.specs.TablesOf.{evals, opened_entry, scopes}
 use Rattle.semantic_model.specs.NodeTable.{Belongs, numbered_from, node_tables}
 use Rattle.semantic_model.proofs.lists.Members.{contains-append}
 use Rattle.semantic_model.proofs.steps.Compose.{flat-append}
+use Rattle.semantic_model.proofs.steps.TurnCases.{opening_case, ending_case, last_case}
 use Rattle.walk_model.specs.Noted.{with_entry, entries_of, pairs_of}
 
 -- no number stands twice
@@ -222,14 +223,7 @@ is_to_open None = true
 is_to_open (Some s) = false
 
 none_ending : (p : Place) (r : Role) (own : Option OpenScope) (after : Forest) → flat_map opener (ending_after p r own after) ≡ []
-none_ending p r None after = refl
-none_ending p r (Some s) after = by (is_in_header p.node.kind r && not (has_role (header_roles p.node.kind) after)) (is_inside p.node.kind r && not (any_inside p.node.kind after))
-  where
-    by : (a b : Bool) → flat_map opener (cond a (header_ending p s ∷ []) [] ++ cond b (closing p s ∷ []) []) ≡ []
-    by true true = refl
-    by true false = refl
-    by false true = refl
-    by false false = refl
+none_ending p r own after = ending_case (λ ss. flat_map opener ss ≡ []) p r own after refl (λ s. refl) (λ s. refl) (λ s. refl)
 
 -- what a child and the others open
 turn_openers : (p : Place) (xs ys es ws : List Step) (child : Place) → flat_map opener es ≡ [] → flat_map opener (xs ++ (entering child ∷ (ys ++ leaving child ∷ [])) ++ es ++ ws) ≡ flat_map opener xs ++ (flat_map opener ys ++ flat_map opener ws)
@@ -274,30 +268,13 @@ openers_below p own n cursor (tree r kd span text marks below id after) k e l =
 
 -- references come in order of their ids
 none_open : (p : Place) (r : Role) (own : Option OpenScope) (n : ℕ) → flat_map referrer (opening_at p r own n) ≡ []
-none_open p r (Some s) n = refl
-none_open p r None n = by (is_inside p.node.kind r)
-  where
-    by : (b : Bool) → flat_map referrer (cond b (opening p (opened_scope p n) ∷ []) []) ≡ []
-    by true = refl
-    by false = refl
+none_open p r own n = opening_case (λ ss. flat_map referrer ss ≡ []) p r own n refl refl
 
 none_last : (p : Place) (own : Option OpenScope) (n : ℕ) → flat_map referrer (opening_last p own n) ≡ []
-none_last p (Some s) n = refl
-none_last p None n = by (opens p.node.kind)
-  where
-    by : (b : Bool) → flat_map referrer (cond b (opening p (opened_scope p n) ∷ closing p (opened_scope p n) ∷ []) []) ≡ []
-    by true = refl
-    by false = refl
+none_last p own n = last_case (λ ss. flat_map referrer ss ≡ []) p own n refl refl
 
 none_ended : (p : Place) (r : Role) (own : Option OpenScope) (after : Forest) → flat_map referrer (ending_after p r own after) ≡ []
-none_ended p r None after = refl
-none_ended p r (Some s) after = by (is_in_header p.node.kind r && not (has_role (header_roles p.node.kind) after)) (is_inside p.node.kind r && not (any_inside p.node.kind after))
-  where
-    by : (a b : Bool) → flat_map referrer (cond a (header_ending p s ∷ []) [] ++ cond b (closing p s ∷ []) []) ≡ []
-    by true true = refl
-    by true false = refl
-    by false true = refl
-    by false false = refl
+none_ended p r own after = ending_case (λ ss. flat_map referrer ss ≡ []) p r own after refl (λ s. refl) (λ s. refl) (λ s. refl)
 
 turn_referrers : (xs ys es ws : List Step) (child : Place) → flat_map referrer xs ≡ [] → flat_map referrer es ≡ []
     → flat_map referrer (xs ++ (entering child ∷ (ys ++ leaving child ∷ [])) ++ es ++ ws) ≡ (referrer (entering child) ++ flat_map referrer ys) ++ flat_map referrer ws

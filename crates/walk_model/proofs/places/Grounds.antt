@@ -16,17 +16,18 @@ use Rattle.semantic_kinds.specs.declared.class.Class.TheVariants as class
 use Rattle.semantic_syntax.specs.declared.scope_flags.TheConstants.ScopeFlags as scope
 use Rattle.semantic_syntax.specs.Sets.{meets, union}
 use Rattle.semantic_syntax.specs.SourceTypes.{is_module}
-use Rattle.semantic_tree.specs.Views.{has_role, has_use_strict}
+use Rattle.semantic_tree.specs.Views.{has_use_strict}
 use Rattle.semantic_model.specs.Place.{Place, OpenScope, outside, is_strict}
-use Rattle.semantic_model.specs.Inside.{opens, is_inside, any_inside, header_roles, is_in_header, is_parameter_decorator, scopes_in}
+use Rattle.semantic_model.specs.Inside.{opens, is_inside, is_in_header, is_parameter_decorator, scopes_in}
 use Rattle.semantic_model.specs.ScopeKind.{opened_scope, strict_if}
 use Rattle.semantic_model.specs.Cursor.{on_entering}
 use Rattle.semantic_model.specs.Binder.{is_var}
-use Rattle.semantic_model.specs.Step.{Step, entering, opening, header_ending, closing, leaving, steps_below, steps, opening_at, ending_after, opening_last, scope_at, next_at, child_place, chain_within, cursor_past, root_place}
+use Rattle.semantic_model.specs.Step.{Step, entering, leaving, steps_below, steps, opening_at, ending_after, opening_last, scope_at, next_at, child_place, chain_within, cursor_past, root_place}
 use Rattle.semantic_model.proofs.form.Clauses.{kind_is, first_holds, second_holds}
 use Rattle.semantic_model.proofs.form.ParameterShape.{holds_inside, is_parameter, stands_under, parameters_stand}
 use Rattle.semantic_model.proofs.fold.Orders.{HasForm}
 use Rattle.semantic_model.proofs.form.Shape.{has_form}
+use Rattle.semantic_model.proofs.steps.TurnCases.{opening_case, ending_case, last_case}
 use Rattle.walk_model.proofs.places.Routes.{HasVar}
 use Rattle.walk_model.proofs.places.Shapes.{HoldParts, holds_below, tree_holds}
 pub use Rattle.walk_model.specs.Shown.{IsGrounded}
@@ -73,30 +74,13 @@ grounded-append [] ys h k = k
 grounded-append (x ∷ xs) ys h k = (h.0, grounded-append xs ys h.1 k)
 
 opening_grounded : (p : Place) (r : Role) (own : Option OpenScope) (n : ℕ) → IsGrounded p → AllGrounded (opening_at p r own n)
-opening_grounded p r (Some s) n g = tt
-opening_grounded p r None n g = go (is_inside p.node.kind r)
-  where
-    go : (b : Bool) → AllGrounded (cond b (opening p (opened_scope p n) ∷ []) [])
-    go true = (g, tt)
-    go false = tt
+opening_grounded p r own n g = opening_case AllGrounded p r own n tt (g, tt)
 
 last_grounded : (p : Place) (own : Option OpenScope) (n : ℕ) → IsGrounded p → AllGrounded (opening_last p own n)
-last_grounded p (Some s) n g = tt
-last_grounded p None n g = go (opens p.node.kind)
-  where
-    go : (b : Bool) → AllGrounded (cond b (opening p (opened_scope p n) ∷ closing p (opened_scope p n) ∷ []) [])
-    go true = (g, (tt, tt))
-    go false = tt
+last_grounded p own n g = last_case AllGrounded p own n tt (g, (tt, tt))
 
 ending_grounded : (p : Place) (r : Role) (own : Option OpenScope) (after : Forest) → AllGrounded (ending_after p r own after)
-ending_grounded p r None after = tt
-ending_grounded p r (Some s) after = go (is_in_header p.node.kind r && not (has_role (header_roles p.node.kind) after)) (is_inside p.node.kind r && not (any_inside p.node.kind after))
-  where
-    go : (a b : Bool) → AllGrounded (cond a (header_ending p s ∷ []) [] ++ cond b (closing p s ∷ []) [])
-    go true true = (tt, (tt, tt))
-    go true false = (tt, tt)
-    go false true = (tt, tt)
-    go false false = tt
+ending_grounded p r own after = ending_case AllGrounded p r own after tt (λ s. (tt, tt)) (λ s. (tt, tt)) (λ s. (tt, (tt, tt)))
 
 -- the root's scope counts
 root_is_var : (p : Place) (n : ℕ) → p.node.kind ≡ kind.Program → is_var (opened_scope p n) ≡ true

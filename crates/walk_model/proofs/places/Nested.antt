@@ -16,9 +16,10 @@ use Rattle.semantic_model.specs.ScopeKind.{opened_scope}
 use Rattle.semantic_model.specs.Cursor.{on_entering}
 use Rattle.semantic_model.specs.Declaration.{contains}
 use Rattle.semantic_model.specs.Step.{Step, entering, opening, header_ending, closing, leaving, steps_below, opening_at, ending_after, opening_last, scope_at, next_at, child_place, chain_within, cursor_past}
-use Rattle.semantic_model.proofs.steps.Opened.{openings, openings-append, opened_below, none_after}
+use Rattle.semantic_model.proofs.steps.Opened.{openings, openings-append, opened_below, none_after, next_opened}
 use Rattle.semantic_model.proofs.lists.Members.{contains_first}
 use Rattle.semantic_model.proofs.form.Clauses.{first_holds}
+use Rattle.semantic_model.proofs.steps.TurnCases.{last_case}
 use Rattle.walk_model.specs.Walks.{numbers}
 
 -- the scopes that are open after a step, innermost first
@@ -256,12 +257,8 @@ at_ending p r (Some s) before after stack seen e =
     go false false t h = record { nested = tt; open_is = refl }
 
 at_last : (p : Place) (own : Option OpenScope) (n : ℕ) (stack : List ℕ) (seen : List (List ℕ)) → length seen ≡ n → IsChain stack seen p.chain → Leads stack stack seen (opening_last p own n)
-at_last p (Some s) n stack seen e h = record { nested = tt; open_is = refl }
-at_last p None n stack seen e h = go (opens p.node.kind)
-  where
-    go : (b : Bool) → Leads stack stack seen (cond b (opening p (opened_scope p n) ∷ closing p (opened_scope p n) ∷ []) [])
-    go true = record { nested = ((h, ap (opened_scope p) (sym e)), (record { around = stack; is = refl }, tt)); open_is = refl }
-    go false = record { nested = tt; open_is = refl }
+at_last p own n stack seen e h =
+    last_case (Leads stack stack seen) p own n (record { nested = tt; open_is = refl }) (record { nested = ((h, ap (opened_scope p) (sym e)), (record { around = stack; is = refl }, tt)); open_is = refl })
 
 pub leads-append : (a b c : List ℕ) (seen : List (List ℕ)) (xs ys : List Step) → Leads a b seen xs → Leads b c (seen_after seen xs) ys → Leads a c seen (xs ++ ys)
 leads-append a b c seen xs ys h k = record {
@@ -272,14 +269,6 @@ leads-append a b c seen xs ys h k = record {
 none_with : (p : Place) (own : Option OpenScope) (stack : List ℕ) → open_with p own nothing stack ≡ stack
 none_with p None stack = refl
 none_with p (Some s) stack = refl
-
-next_opened : (p : Place) (r : Role) (own : Option OpenScope) (n : ℕ) → n + openings (opening_at p r own n) ≡ next_at p r own n
-next_opened p r (Some s) n = omega arith
-next_opened p r None n = go (is_inside p.node.kind r)
-  where
-    go : (t : Bool) → n + openings (cond t (opening p (opened_scope p n) ∷ []) []) ≡ cond t (suc n) n
-    go true = omega arith
-    go false = omega arith
 
 -- what is left of a place is nested, and leaves the scopes around it open
 pub nested_below : (p : Place) (own : Option OpenScope) (n cursor : ℕ) (f : Forest) (stack : List ℕ) (seen : List (List ℕ)) → length seen ≡ n → IsChain stack seen p.chain → IsOwnOf seen p own

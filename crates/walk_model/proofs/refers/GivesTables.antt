@@ -40,7 +40,7 @@ use Rattle.walk_model.proofs.refers.TrackedReferences.{numbered, with_ways, IsDo
 use Rattle.walk_model.proofs.refers.Referred.{Inv, referred_past, referred_after, referred_next}
 use Rattle.walk_model.proofs.refers.ReferredSteps.{inv_step}
 
-same_count : (fs : List ℕ) (seen : List (List ℕ)) (step : Step) → length fs ≡ length seen → length (flags_past fs step) ≡ length (seen_past seen step)
+pub same_count : (fs : List ℕ) (seen : List (List ℕ)) (step : Step) → length fs ≡ length seen → length (flags_past fs step) ≡ length (seen_past seen step)
 same_count fs seen (entering p) e = e
 same_count fs seen (opening p s) e = omega (arith, e, length-append fs (s.flags ∷ []), length-append seen (walk.numbers p.chain ∷ []))
 same_count fs seen (header_ending p s) e = e
@@ -64,7 +64,7 @@ module _ (ds : List Declaration) (all : List Tie) (final : State) (es : List Eve
       subst (λ l. Inv all final es (open_after stack (step ∷ ss)) (seen_after seen (step ∷ ss)) (calls_after calls (step ∷ ss)) (bare_after bare (step ∷ ss)) (awaiting_after awaiting (step ∷ ss)) (flags_after fs (step ∷ ss)) (referred_after rs (step ∷ ss)) l (walk.after_all ds w (step ∷ ss)) (run st (evs ++ rest))) (append_assoc done evs rest)
       (subst (λ x. Inv all final es (open_after stack (step ∷ ss)) (seen_after seen (step ∷ ss)) (calls_after calls (step ∷ ss)) (bare_after bare (step ∷ ss)) (awaiting_after awaiting (step ∷ ss)) (flags_after fs (step ∷ ss)) (referred_after rs (step ∷ ss)) ((done ++ evs) ++ rest) (walk.after_all ds w (step ∷ ss)) x) (sym (run-append evs rest st)) ended)
 
-  inv_nothing : Inv all final es [] [] [] [] [] [] [] [] nothing_made start
+  pub inv_nothing : Inv all final es [] [] [] [] [] [] [] [] nothing_made start
   inv_nothing = record {
     represents = nothing_as;
     scopes = nothing_opened;

@@ -12,7 +12,8 @@ use Rattle.semantic_model.specs.Cursor.{on_entering}
 use Rattle.semantic_model.specs.Declaration.{Declaration}
 use Rattle.semantic_model.specs.Outcome.{Pending}
 use Rattle.semantic_model.specs.Step.{Step, entering, opening, header_ending, closing, leaving, steps_below, steps_of, opening_at, ending_after, opening_last, scope_at, next_at, child_place, chain_within, cursor_past}
-use Rattle.semantic_model.proofs.steps.Opened.{openings, openings-append, opened_below, none_after}
+use Rattle.semantic_model.proofs.steps.Opened.{openings, openings-append, opened_below, none_after, next_opened}
+use Rattle.semantic_model.proofs.steps.TurnCases.{opening_case, last_case}
 use Rattle.walk_model.specs.WalkState.{WalkState, nothing_made}
 use Rattle.walk_model.specs.Opens.{number_of}
 use Rattle.walk_model.specs.Walks.{after, after_all}
@@ -70,12 +71,7 @@ child_descends c n p own cursor r node h o = go (is_parameter_decorator p.node.k
     go false = within own o
 
 from_opening : (c n : ℕ) (p : Place) (r : Role) (own : Option OpenScope) → Descends n p.chain → StepsFrom c n (opening_at p r own n)
-from_opening c n p r (Some s) h = tt
-from_opening c n p r None h = by (is_inside p.node.kind r)
-  where
-    by : (b : Bool) → StepsFrom c n (cond b (opening p (opened_scope p n) ∷ []) [])
-    by true = (head_below n p.chain h, tt)
-    by false = tt
+from_opening c n p r own h = opening_case (StepsFrom c n) p r own n tt (head_below n p.chain h, tt)
 
 own_opened : (c n : ℕ) (p : Place) (r : Role) (own : Option OpenScope) → c ≤ n → Descends n p.chain → OwnFrom c n p own → OwnFrom c (next_at p r own n) p (scope_at p r own n)
 own_opened c n p r (Some s) l h o = o
@@ -84,14 +80,6 @@ own_opened c n p r None l h o = by (is_inside p.node.kind r)
     by : (b : Bool) → OwnFrom c (cond b (suc n) n) p (cond b (Some (opened_scope p n)) None)
     by true = (l, (omega arith, h))
     by false = tt
-
-next_opened : (p : Place) (r : Role) (own : Option OpenScope) (n : ℕ) → n + openings (opening_at p r own n) ≡ next_at p r own n
-next_opened p r (Some s) n = omega arith
-next_opened p r None n = go (is_inside p.node.kind r)
-  where
-    go : (t : Bool) → n + openings (cond t (opening p (opened_scope p n) ∷ []) []) ≡ cond t (suc n) n
-    go true = omega arith
-    go false = omega arith
 
 pub from_ending : (c n : ℕ) (p : Place) (r : Role) (own : Option OpenScope) (rest : Forest) → OwnFrom c n p own → StepsFrom c n (ending_after p r own rest)
 from_ending c n p r None rest o = tt
@@ -104,12 +92,7 @@ from_ending c n p r (Some s) rest o = go (is_in_header p.node.kind r && not (has
     go false false = tt
 
 from_last : (c n : ℕ) (p : Place) (own : Option OpenScope) → Descends n p.chain → StepsFrom c n (opening_last p own n)
-from_last c n p (Some s) h = tt
-from_last c n p None h = by (opens p.node.kind)
-  where
-    by : (b : Bool) → StepsFrom c n (cond b (opening p (opened_scope p n) ∷ closing p (opened_scope p n) ∷ []) [])
-    by true = (head_below n p.chain h, tt)
-    by false = tt
+from_last c n p own h = last_case (StepsFrom c n) p own n tt (head_below n p.chain h, tt)
 
 -- the steps below a place
 pub from_below : (c n : ℕ) (p : Place) (own : Option OpenScope) (cursor : ℕ) (f : Forest) → 0 < n → c ≤ n → Descends n p.chain → OwnFrom c n p own → StepsFrom c n (steps_below p own n cursor f)

@@ -1,17 +1,17 @@
 -- What holds of each scope as it opens holds of all scopes in which a place stands.
-use Rattle.std.proofs.Common.{◌≡◌, ℕ, ◌+◌, List, [], ◌∷◌, ◌++◌, Option, Some, None, Bool, true, false, cond, ◌&&◌, not, refl}
+use Rattle.std.proofs.Common.{◌≡◌, ℕ, ◌+◌, List, [], ◌∷◌, ◌++◌, Option, Some, None, Bool, true, false, cond, refl}
 use Rattle.std.specs.List.{AllByRecursion}
 use Rattle.semantic_syntax.specs.declared.source_type.SourceType.{SourceType}
 use Rattle.semantic_tree.specs.Forest.{Forest, nothing, tree}
 use Rattle.semantic_tree.specs.declared.node.Node.{Node}
 use Rattle.semantic_kinds.specs.declared.role.Role.{Role}
-use Rattle.semantic_tree.specs.Views.{has_role}
 use Rattle.semantic_model.specs.Place.{Place, OpenScope, outside}
-use Rattle.semantic_model.specs.Inside.{opens, is_inside, any_inside, header_roles, is_in_header, is_parameter_decorator, scopes_in}
+use Rattle.semantic_model.specs.Inside.{opens, is_inside, is_in_header, is_parameter_decorator, scopes_in}
 use Rattle.semantic_model.specs.ScopeKind.{opened_scope}
 use Rattle.semantic_model.specs.Cursor.{on_entering}
 use Rattle.semantic_tree.specs.Tree.{Tree}
 use Rattle.semantic_model.specs.Step.{Step, entering, opening, header_ending, closing, leaving, steps_below, steps, opening_at, ending_after, opening_last, scope_at, next_at, child_place, chain_within, cursor_past, root_place}
+use Rattle.semantic_model.proofs.steps.TurnCases.{opening_case, ending_case, last_case}
 
 module _ (P : OpenScope → Type 0) (t : SourceType) where
   -- a scope that opens in those has it, if they have it
@@ -58,12 +58,7 @@ module _ (P : OpenScope → Type 0) (t : SourceType) where
   OwnHeld (Some s) = P s
 
   opening_held : (p : Place) (r : Role) (own : Option OpenScope) (n : ℕ) → IsPlaceHeld p → AllHanded (opening_at p r own n) → AllHeld (opening_at p r own n)
-  opening_held p r (Some s) n h k = tt
-  opening_held p r None n h k = go (is_inside p.node.kind r) k
-    where
-      go : (b : Bool) → AllHanded (cond b (opening p (opened_scope p n) ∷ []) []) → AllHeld (cond b (opening p (opened_scope p n) ∷ []) [])
-      go true k = ((h, k.0 h.0 h.1), tt)
-      go false k = tt
+  opening_held p r own n h = opening_case (λ ss. AllHanded ss → AllHeld ss) p r own n (λ k. tt) (λ k. ((h, k.0 h.0 h.1), tt))
 
   own_held : (p : Place) (r : Role) (own : Option OpenScope) (n : ℕ) → IsPlaceHeld p → OwnHeld own → AllHanded (opening_at p r own n) → OwnHeld (scope_at p r own n)
   own_held p r (Some s) n h o k = o
@@ -74,22 +69,10 @@ module _ (P : OpenScope → Type 0) (t : SourceType) where
       go false k = tt
 
   last_held : (p : Place) (own : Option OpenScope) (n : ℕ) → IsPlaceHeld p → AllHanded (opening_last p own n) → AllHeld (opening_last p own n)
-  last_held p (Some s) n h k = tt
-  last_held p None n h k = go (opens p.node.kind) k
-    where
-      go : (b : Bool) → AllHanded (cond b (opening p (opened_scope p n) ∷ closing p (opened_scope p n) ∷ []) []) → AllHeld (cond b (opening p (opened_scope p n) ∷ closing p (opened_scope p n) ∷ []) [])
-      go true k = ((h, k.0 h.0 h.1), (tt, tt))
-      go false k = tt
+  last_held p own n h = last_case (λ ss. AllHanded ss → AllHeld ss) p own n (λ k. tt) (λ k. ((h, k.0 h.0 h.1), (tt, tt)))
 
   ending_held : (p : Place) (r : Role) (own : Option OpenScope) (after : Forest) → AllHeld (ending_after p r own after)
-  ending_held p r None after = tt
-  ending_held p r (Some s) after = go (is_in_header p.node.kind r && not (has_role (header_roles p.node.kind) after)) (is_inside p.node.kind r && not (any_inside p.node.kind after))
-    where
-      go : (a b : Bool) → AllHeld (cond a (header_ending p s ∷ []) [] ++ cond b (closing p s ∷ []) [])
-      go true true = (tt, (tt, tt))
-      go true false = (tt, tt)
-      go false true = (tt, tt)
-      go false false = tt
+  ending_held p r own after = ending_case AllHeld p r own after tt (λ s. (tt, tt)) (λ s. (tt, tt)) (λ s. (tt, (tt, tt)))
 
   outside_held : (chain : List OpenScope) → AllByRecursion P chain → AllByRecursion P (outside chain)
   outside_held [] h = tt

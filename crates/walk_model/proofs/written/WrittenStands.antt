@@ -1,5 +1,5 @@
 -- The names that are written in a program are those of its declarations that count, each in the scope where it stands.
-use Rattle.std.proofs.Common.{◌≡◌, ℕ, ◌+◌, List, [], ◌∷◌, ◌++◌, Option, Some, None, Bool, true, false, cond, ◌&&◌, ◌||◌, not, refl, sym, ap, ◌∙◌}
+use Rattle.std.proofs.Common.{◌≡◌, ℕ, ◌+◌, List, [], ◌∷◌, ◌++◌, Option, Some, None, Bool, true, false, cond, ◌&&◌, ◌||◌, refl, sym, ap, ◌∙◌}
 use Rattle.std.specs.Prelude.{flat_map}
 use Rattle.std.proofs.lemmas.List.Folds.{list_any-append}
 use Rattle.semantic_kinds.specs.declared.kind.AstType.{AstType}
@@ -13,19 +13,19 @@ use Rattle.semantic_tree.specs.Place.{root_place as top, child_place as under, p
 use Rattle.semantic_tree.specs.Rules.{is_well_formed}
 use Rattle.semantic_tree.specs.declared.node.Node.{Node}
 use Rattle.semantic_tree.specs.declared.place.Place.{Place as Spot}
-use Rattle.semantic_tree.specs.Views.{has_role}
 use Rattle.semantic_model.specs.Place.{Place, OpenScope}
-use Rattle.semantic_model.specs.Inside.{opens, is_inside, any_inside, header_roles, is_in_header, scopes_in}
+use Rattle.semantic_model.specs.Inside.{opens, is_inside, scopes_in}
 use Rattle.semantic_model.specs.ScopeKind.{opened_scope}
 use Rattle.semantic_model.specs.Cursor.{on_entering}
 use Rattle.semantic_model.specs.Binder.{declared_on_entering}
 use Rattle.semantic_model.specs.Event.{declared_at, written_declarations}
-use Rattle.semantic_model.specs.Step.{Step, entering, opening, header_ending, closing, leaving, steps_below, steps, opening_at, ending_after, opening_last, scope_at, next_at, child_place, cursor_past, root_place}
+use Rattle.semantic_model.specs.Step.{Step, entering, opening, closing, leaving, steps_below, steps, opening_at, ending_after, opening_last, scope_at, next_at, child_place, cursor_past, root_place}
 use Rattle.semantic_model.proofs.form.Clauses.{first_holds, second_holds}
 use Rattle.semantic_model.proofs.steps.Compose.{flat-append}
 use Rattle.semantic_model.proofs.form.ParameterShape.{stands_under, parameters_stand}
 use Rattle.semantic_model.proofs.fold.Orders.{HasForm}
 use Rattle.semantic_model.proofs.form.Shape.{NoneMisshapen, has_form, none_misshapen, first_formed, rest_formed, table_kept, fit_kept}
+use Rattle.semantic_model.proofs.steps.TurnCases.{ending_case}
 use Rattle.walk_model.specs.WrittenNames.{Written, is_written, Openers, openers_at, written_by, written_below, names_written, any_standing}
 use Rattle.walk_model.proofs.places.Grounds.{is_open_inside}
 use Rattle.walk_model.proofs.written.OpenersFit.{FitOpeners, IsOwn, own_at, child_fits}
@@ -89,14 +89,7 @@ module _ (x : ℕ) (name : Name) where
       by false e = ap on (sym (nothing_inside p.node.kind p.node e))
 
   ending_none : (p : Place) (r : Role) (own : Option OpenScope) (after : Forest) → any_of (ending_after p r own after) ≡ false
-  ending_none p r None after = refl
-  ending_none p r (Some s) after = by (is_in_header p.node.kind r && not (has_role (header_roles p.node.kind) after)) (is_inside p.node.kind r && not (any_inside p.node.kind after))
-    where
-      by : (a b : Bool) → any_of (cond a (header_ending p s ∷ []) [] ++ cond b (closing p s ∷ []) []) ≡ false
-      by true true = refl
-      by true false = refl
-      by false true = refl
-      by false false = refl
+  ending_none p r own after = ending_case (λ ss. any_of ss ≡ false) p r own after refl (λ s. refl) (λ s. refl) (λ s. refl)
 
   -- entering a node, what is below it, and leaving it
   entered : (p : Place) (ys : List Step) (own below : Bool) → any_of ys ≡ (own || below) → any_of (entering p ∷ (ys ++ leaving p ∷ [])) ≡ (any_in x name (declared_on_entering p) || ((own || below) || false))
