@@ -1,2 +1,4 @@
 pub mod Inputs
 pub mod Meanings
+pub mod Endings
+pub mod Answering

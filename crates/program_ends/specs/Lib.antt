@@ -3,4 +3,7 @@ pub mod Reads
 pub mod Lines
 pub mod Telling
 pub mod Meaning
+pub mod Codes
+pub mod Ending
+pub mod Answering
 pub mod Completeness
