@@ -5,13 +5,15 @@ use Rattle.std.specs.Str.{IsUtf8}
 use Rattle.std.specs.Str.Lines.{lines}
 use Rattle.report_ends.specs.declared.error.ReportError.TheVariants as error
 use Rattle.program_ends.specs.Calls.{SourceCall, SinkCall}
+use Rattle.program_ends.specs.Codes.{code_of}
 use Rattle.program_ends.specs.Completeness.{IsDoneOrMemory, IsUsageOrMemory}
+use Rattle.program_ends.specs.Ending.{TellsEnd}
 use Rattle.program_ends.specs.Lines.{line_of}
 use Rattle.program_ends.specs.declared.stops.Stop.TheVariants as stop
-use Rattle.report.specs.Codes.{code_of, end_of}
+use Rattle.report.specs.Codes.{end_of}
 use Rattle.report.specs.Meaning.{Means, IsClearFor}
 use Rattle.report.specs.Requests.{request_of}
-use Rattle.report.specs.Telling.{Tells, usage_line}
+use Rattle.report.specs.Telling.{usage_line}
 use Rattle.report.specs.declared.status.ReportStatus.{ReportStatus}
 use Rattle.analysis_c.specs.Buffers.{filled}
 use Rattle.analysis_c.specs.declared.Answer.{Answer}
@@ -38,11 +40,11 @@ RanWith tree text report message result =
 
 -- words that aren't UTF-8 are refused
 abbrev pub RefusedWords : List ℕ → List ℕ → List ℕ → ReportStatus → Type 0
-RefusedWords text report message result = (¬ IsUtf8 text) × (report ≡ []) × Tells (sink_of message) usage_line stop.Usage result
+RefusedWords text report message result = (¬ IsUtf8 text) × (report ≡ []) × TellsEnd (sink_of message) usage_line stop.Usage (end_of result)
 
 -- memory was wanting for the words
 abbrev pub LackedMemory : List ℕ → List ℕ → ReportStatus → Type 0
-LackedMemory report message result = (report ≡ []) × Tells (sink_of message) (line_of error.Memory) stop.Memory result
+LackedMemory report message result = (report ≡ []) × TellsEnd (sink_of message) (line_of error.Memory) stop.Memory (end_of result)
 
 -- the report, the line on errors and the status that are answered for a tree's bytes and words
 abbrev pub Answers : List ℕ → List ℕ → List ℕ → List ℕ → ReportStatus → Type 0
@@ -54,7 +56,7 @@ pub record Answered (tree words report report_then message message_then : List �
   pub told : List ℕ
   pub result : ReportStatus
   pub answers : Answers tree words written told result
-  pub status : answer.status ≡ code_of result
+  pub status : answer.status ≡ code_of (end_of result)
   pub report_len : answer.report_len ≡ length written
   pub message_len : answer.message_len ≡ length told
   pub report_filled : report_then ≡ filled report written

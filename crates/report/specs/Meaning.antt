@@ -1,18 +1,18 @@
 -- What each status of the program means.
-use Rattle.std.specs.Prelude.{◌≡◌, ◌⊎◌, ℕ, List, Option, Some, None, Result, Ok, Err, String}
+use Rattle.std.specs.Prelude.{◌≡◌, ℕ, List, Option, Some, None, Result, String}
 use Rattle.std.specs.declared.alloc.Global.{Global}
 use Rattle.semantic_syntax.specs.Tables.{Tables}
 use Rattle.semantic_tree.specs.Tree.{Tree}
 use Rattle.semantic_diagnostics.specs.declared.diagnostic.Diagnostic.{Diagnostic}
 use Rattle.generated_tree.specs.Generated.{generated}
 use Rattle.report_ends.specs.Causes.{Rose}
-use Rattle.report_ends.specs.Streams.{Writes}
 use Rattle.report_ends.specs.declared.error.ReportError.{ReportError}
-use Rattle.report_ends.specs.declared.error.ReportError.TheVariants as error
+use Rattle.program_ends.specs.Answering.{EndsBy}
+use Rattle.program_ends.specs.Answering as answering
 use Rattle.program_ends.specs.Calls.{SourceCall, SinkCall, Unread}
 use Rattle.program_ends.specs.Completeness.{IsClear}
 use Rattle.program_ends.specs.Lines.{tree_line}
-use Rattle.program_ends.specs.Meaning.{End, Finds, Answered, Stopped, MeansOf}
+use Rattle.program_ends.specs.Meaning.{End, Finds, MeansOf}
 use Rattle.program_ends.specs.Reads.{Stands, RefusedFor}
 use Rattle.report.specs.Codes.{end_of, status_for}
 use Rattle.report.specs.Found.{IsBuilt, found_of}
@@ -37,21 +37,13 @@ pub record Answers (request : Request) (end : End) (p : Tree) (text : List ℕ) 
   pub told : text ≡ answer_text request (found_of p tables diagnostics)
   pub ends : end ≡ end_of (status_for diagnostics)
 
--- the sink has taken the text, and this is the status for it; or it has taken a prefix
-abbrev pub WritesAll : {K : Type 0} → (K → Option (List ℕ)) → (K → ℕ) → K → K → List ℕ → ReportStatus → Result ReportStatus ReportError → Type 0
-WritesAll held faults old new text status (Ok given) = (given ≡ status) × Writes held faults old new text (Ok tt)
-WritesAll held faults old new text status (Err cause) = Writes held faults old new text (Err cause)
-
 -- the sink has taken the answer about the program, or a prefix of it; or memory was wanting before there was one
 abbrev pub GivesAnswer : {K : Type 0} → (K → Option (List ℕ)) → (K → ℕ) → K → K → Request → Tree → Result ReportStatus ReportError → Type 0
-GivesAnswer held faults old new request p (Ok status) = (text : List ℕ) × Answers request (end_of status) p text × Writes held faults old new text (Ok tt)
-GivesAnswer held faults old new request p (Err cause) =
-    ((cause ≡ error.Memory) × (held new ≡ held old)) ⊎ ((end : End) × (text : List ℕ) × Answers request end p text × Writes held faults old new text (Err cause))
+GivesAnswer held faults old new request p result = answering.GivesAnswer end_of (Answers request) held faults old new p result
 
 -- what becomes of a request, before it is told
 abbrev pub Ends : Request → SourceCall → SinkCall → Result ReportStatus ReportError → Type 0
-Ends request source out (Ok status) = Answered (IsAbout request.make) (Answers request) source out (end_of status)
-Ends request source out (Err cause) = Stopped (request.make ≡ None) (IsAbout request.make) (Answers request) source out cause
+Ends request source out result = EndsBy end_of (request.make ≡ None) (IsAbout request.make) (Answers request) source out result
 
 -- ---- the whole program
 

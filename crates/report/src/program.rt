@@ -3,12 +3,13 @@ ghost use Rattle.std.specs.Prelude.{◌≡◌, ◌≤◌, ℕ, List, Some, None,
 ghost use Rattle.semantic_tree.specs.Tree.{Tree};
 ghost use Rattle.generated_tree.specs.Generated.{generated, most_functions};
 ghost use Rattle.report_ends.specs.Streams.{Writes};
+ghost use Rattle.program_ends.specs.Answering.{WritesAll};
 ghost use Rattle.program_ends.specs.Calls.{source_call, sink_call};
 ghost use Rattle.program_ends.specs.Completeness.{IsNotRefused, IsDoneOrMemory, IsUsageOrMemory};
 ghost use Rattle.program_ends.specs.Reads.{Stands};
 ghost use Rattle.report.specs.Codes.{status_for, end_of};
 ghost use Rattle.report.specs.Found.{found_in};
-ghost use Rattle.report.specs.Meaning.{WritesAll, GivesAnswer, Ends, Means, IsClearFor};
+ghost use Rattle.report.specs.Meaning.{GivesAnswer, Ends, Means, IsClearFor};
 ghost use Rattle.report.specs.Report.{answer_text};
 ghost use Rattle.report.specs.Requests.{request_of};
 

@@ -1,4 +1,4 @@
-use Rattle.report.proofs.Meanings.{writes_not_all}
+use Rattle.program_ends.proofs.Answering.{writes_not_all}
 use Rattle.report.proofs.program.finish_answer.Goals as goal
 
 pub returns-in_err-write_answer : goal.returns-in_err-write_answer

@@ -1,5 +1,6 @@
 use Rattle.std.proofs.Common.{refl, sym, ◌∙◌}
-use Rattle.report.proofs.Meanings.{means_refused, means_answered, means_stopped, usage_told, answered_done, clear_stopped, none_clear, asked_not_none}
+use Rattle.program_ends.proofs.Endings.{usage_ends}
+use Rattle.report.proofs.Meanings.{means_refused, means_answered, means_stopped, answered_done, clear_stopped, none_clear, asked_not_none}
 use Rattle.report.proofs.program.run.Goals as goal
 
 pub returns-in_default-clause-means : goal.returns-in_default-clause-means
@@ -25,7 +26,7 @@ pub returns-in-Err-clause-usage : goal.returns-in-Err-clause-usage
 returns-in-Err-clause-usage g c = λ none. absurd (asked_not_none _ c.in-Some.request (sym c.read_words.ensures.request ∙ c.in-Some.is) none)
 
 pub returns-in_default-clause-usage : goal.returns-in_default-clause-usage
-returns-in_default-clause-usage g c = λ none. usage_told _ c.refuse_words.result c.refuse_words.ensures
+returns-in_default-clause-usage g c = λ none. usage_ends _ _ _ c.refuse_words.ensures
 
 pub returns-in_default-clause-complete : goal.returns-in_default-clause-complete
 returns-in_default-clause-complete g c = λ clear. absurd (none_clear _ _ _ (sym c.read_words.ensures.request ∙ c.in_default.is) clear)
