@@ -1,10 +1,12 @@
 //! Tells why the program stopped.
 ghost use Rattle.std.specs.Prelude.{◌≡◌, IfOk, string_bytes};
 ghost use Rattle.program_ends.specs.Calls.{sink_call};
+ghost use Rattle.program_ends.specs.Ending.{TellsEnd};
 ghost use Rattle.program_ends.specs.Lines.{line_of};
 ghost use Rattle.program_ends.specs.Telling.{stop_of};
 ghost use Rattle.renamer.specs.Answers.{refusal_line};
-ghost use Rattle.renamer.specs.Telling.{Tells, TellsRefusal, TellsError, usage_line};
+ghost use Rattle.renamer.specs.Codes.{end_of};
+ghost use Rattle.renamer.specs.Telling.{TellsRefusal, TellsError, usage_line};
 
 use crate::refusal::{Refusal, RequestError};
 use crate::status::RenameStatus;
@@ -16,14 +18,14 @@ const USAGE: &str = "usage: renamer SYMBOL NAME\n";
 
 /// Answers words that aren't a symbol's number and a name.
 pub(crate) fn refuse_words<E: Sink>(errs: &mut E) -> RenameStatus
-    ensures { Tells (sink_call E.held E.faults errs.old errs.new) usage_line Stop.Usage result }
+    ensures { TellsEnd (sink_call E.held E.faults errs.old errs.new) usage_line Stop.Usage (end_of result) }
 {
     RenameStatus::from(tell_stop(USAGE, Stop::Usage, errs))
 }
 
 /// Tells what stopped a request, and answers its status, or that memory is wanting.
 fn tell_stopped<E: Sink>(alloc: Global, cause: &ReportError, errs: &mut E) -> RenameStatus
-    ensures { Tells (sink_call E.held E.faults errs.old errs.new) (line_of cause.now) (stop_of cause.now) result }
+    ensures { TellsEnd (sink_call E.held E.faults errs.old errs.new) (line_of cause.now) (stop_of cause.now) (end_of result) }
 {
     RenameStatus::from(tell(alloc, cause, errs))
 }
@@ -42,7 +44,7 @@ fn refusal_line(alloc: Global, refusal: Refusal) -> Result<String, AllocError>
 /// Tells a refusal's line, and answers `Refused`, or that memory is wanting. The sink has taken a prefix of the line
 /// then, and also where it failed.
 fn tell_refusal<E: Sink>(alloc: Global, refusal: Refusal, errs: &mut E) -> RenameStatus
-    ensures { TellsRefusal (sink_call E.held E.faults errs.old errs.new) (refusal_line refusal) result }
+    ensures { TellsRefusal (sink_call E.held E.faults errs.old errs.new) (refusal_line refusal) (end_of result) }
 {
     let Ok(line) = refusal_line(alloc, refusal) else {
         return RenameStatus::Memory;
@@ -55,7 +57,7 @@ fn tell_refusal<E: Sink>(alloc: Global, refusal: Refusal, errs: &mut E) -> Renam
 
 /// Tells why a request isn't done.
 pub(crate) fn tell_error<E: Sink>(alloc: Global, error: &RequestError, errs: &mut E) -> RenameStatus
-    ensures { TellsError (sink_call E.held E.faults errs.old errs.new) error.now result }
+    ensures { TellsError (sink_call E.held E.faults errs.old errs.new) error.now (end_of result) }
 {
     match error {
         RequestError::Refused(refusal) => tell_refusal(alloc, *refusal, errs),

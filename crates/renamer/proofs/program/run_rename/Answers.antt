@@ -1,7 +1,8 @@
 use Rattle.std.proofs.Common.{option_map, refl, sym, ap, ◌∙◌}
 use Rattle.program_ends.specs.Calls.{sink_call}
 use Rattle.renamer.specs.Requests.{asked_by}
-use Rattle.renamer.proofs.Statuses.{means_words, means_done, means_error, done_due, error_due, usage_told, asked_not_none}
+use Rattle.program_ends.proofs.Endings.{usage_ends}
+use Rattle.renamer.proofs.Statuses.{means_words, means_done, means_error, done_due, error_due, asked_not_none}
 use Rattle.renamer.proofs.program.run_rename.Goals as goal
 
 pub returns-in_default-clause-means : goal.returns-in_default-clause-means
@@ -11,7 +12,7 @@ pub returns-in_default-clause-complete : goal.returns-in_default-clause-complete
 returns-in_default-clause-complete g c = λ asked is clear. absurd (asked_not_none _ asked is (sym c.read_words.ensures ∙ ap (option_map asked_by) c.in_default.is))
 
 pub returns-in_default-clause-usage : goal.returns-in_default-clause-usage
-returns-in_default-clause-usage g c = λ none. usage_told _ c.refuse_words.result c.refuse_words.ensures
+returns-in_default-clause-usage g c = λ none. usage_ends _ _ _ c.refuse_words.ensures
 
 pub returns-in-Ok-clause-means : goal.returns-in-Ok-clause-means
 returns-in-Ok-clause-means g c =
