@@ -4,76 +4,45 @@ ghost use Rattle.std.specs.Prelude.{◌≡◌};
 use semantic_syntax::{ReferenceId, SymbolId};
 use std::marker::Model;
 
-/// Ids of symbols, in the order in which they were found.
+/// Ids of one kind, in the order in which they were found.
 #[derive(Drop)]
-pub struct SymbolIdList {
-    ids: Vec<SymbolId>,
+pub struct IdList<I> {
+    ids: Vec<I>,
 }
 
-impl Model for SymbolIdList {
-    ghost use Rattle.std.specs.Prelude.{ℕ, List};
+impl<I> Model for IdList<I> {
+    ghost use Rattle.std.specs.Prelude.{List};
 
-    ghost Value = { List ℕ };
+    ghost Value = { List I };
 
     ghost view = { λ a. a.ids.items };
 }
 
-impl SymbolIdList {
+impl<I: Drop> IdList<I> {
     /// The list over the vector, without taking memory.
-    pub fn new(ids: Vec<SymbolId>) -> SymbolIdList
+    pub fn new(ids: Vec<I>) -> IdList<I>
         ensures { result ≡ ids.items }
     {
-        SymbolIdList { ids }
+        IdList { ids }
     }
 
-    /// The symbols, in order.
-    pub fn as_slice(&self) -> &[SymbolId]
+    /// The ids, in order.
+    pub fn as_slice(&self) -> &[I]
         ensures { result.now ≡ self.now }
     {
         self.ids.as_slice()
     }
 
-    /// The symbols as a vector, without taking memory.
-    pub fn into_vec(self) -> Vec<SymbolId>
+    /// The ids as a vector, without taking memory.
+    pub fn into_vec(self) -> Vec<I>
         ensures { result.items ≡ self }
     {
         self.ids
     }
 }
 
-/// Ids of references, in the order in which they were found.
-#[derive(Drop)]
-pub struct ReferenceIdList {
-    ids: Vec<ReferenceId>,
-}
+/// Symbols.
+pub type SymbolIdList = IdList<SymbolId>;
 
-impl Model for ReferenceIdList {
-    ghost use Rattle.std.specs.Prelude.{ℕ, List};
-
-    ghost Value = { List ℕ };
-
-    ghost view = { λ a. a.ids.items };
-}
-
-impl ReferenceIdList {
-    /// The list over the vector, without taking memory.
-    pub fn new(ids: Vec<ReferenceId>) -> ReferenceIdList
-        ensures { result ≡ ids.items }
-    {
-        ReferenceIdList { ids }
-    }
-
-    /// The references, in order.
-    pub fn as_slice(&self) -> &[ReferenceId]
-        ensures { result.now ≡ self.now }
-    {
-        self.ids.as_slice()
-    }
-
-    /// The references as a vector, without taking memory.
-    pub fn into_vec(self) -> Vec<ReferenceId>
-        ensures { result.items ≡ self }
-    {
-        self.ids
-    }
-}
+/// References.
+pub type ReferenceIdList = IdList<ReferenceId>;

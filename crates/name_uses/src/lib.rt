@@ -12,5 +12,5 @@ mod tree_pass;
 mod undeclared_names;
 
 pub use found_names::{NameReport, names_by, names_in};
-pub use id_lists::{ReferenceIdList, SymbolIdList};
+pub use id_lists::{IdList, ReferenceIdList, SymbolIdList};
 pub use tree_pass::TreePass;
