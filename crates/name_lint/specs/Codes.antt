@@ -1,21 +1,9 @@
--- The exit statuses, and the end that each stands for.
+-- The end that each status stands for.
 use Rattle.std.specs.Prelude.{ℕ, List, []}
 use Rattle.program_ends.specs.Meaning.{End}
 use Rattle.program_ends.specs.Meaning as ends
-use Rattle.program_ends.specs.declared.stops.Stop.{Stop}
-use Rattle.program_ends.specs.declared.stops.Stop.TheVariants as stop
 use Rattle.name_lint.specs.declared.status.NamesStatus.{NamesStatus}
 use Rattle.name_lint.specs.declared.status.NamesStatus.TheVariants.{Done, Found, Usage, Tree, TooLong, Read, Write, Memory}
-
-abbrev pub code_of : NamesStatus → ℕ
-code_of Done = 0
-code_of Found = 1
-code_of Usage = 2
-code_of Tree = 3
-code_of TooLong = 4
-code_of Read = 5
-code_of Write = 6
-code_of Memory = 7
 
 abbrev pub end_of : NamesStatus → End
 end_of Done = ends.done
@@ -26,15 +14,6 @@ end_of TooLong = ends.too_long
 end_of Read = ends.read
 end_of Write = ends.write
 end_of Memory = ends.memory
-
--- the status of a program that is stopped
-abbrev pub status_of : Stop → NamesStatus
-status_of stop.Usage = Usage
-status_of stop.Tree = Tree
-status_of stop.TooLong = TooLong
-status_of stop.Read = Read
-status_of stop.Write = Write
-status_of stop.Memory = Memory
 
 -- whether a symbol is unused, or a reference undeclared
 abbrev pub status_for : (unused undeclared : List ℕ) → NamesStatus

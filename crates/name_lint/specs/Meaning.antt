@@ -1,13 +1,13 @@
 -- What each status of the program means.
-use Rattle.std.specs.Prelude.{◌≡◌, ◌⊎◌, ℕ, List, Option, Result, Ok, Err, String}
+use Rattle.std.specs.Prelude.{◌≡◌, ℕ, List, Option, Result, String}
 use Rattle.std.specs.declared.alloc.Global.{Global}
 use Rattle.semantic_tree.specs.Tree.{Tree}
-use Rattle.report_ends.specs.Streams.{Writes}
 use Rattle.report_ends.specs.declared.error.ReportError.{ReportError}
-use Rattle.report_ends.specs.declared.error.ReportError.TheVariants as error
+use Rattle.program_ends.specs.Answering.{EndsBy}
+use Rattle.program_ends.specs.Answering as answering
 use Rattle.program_ends.specs.Calls.{SourceCall, SinkCall}
 use Rattle.program_ends.specs.Lines.{tree_line}
-use Rattle.program_ends.specs.Meaning.{End, Finds, Answered, Stopped}
+use Rattle.program_ends.specs.Meaning.{End, Finds}
 use Rattle.program_ends.specs.Meaning as ends
 use Rattle.program_ends.specs.Reads.{Stands, RefusedFor}
 use Rattle.name_uses.specs.Known.{names_of}
@@ -29,23 +29,15 @@ pub record Answers (words : List (String Global)) (end : End) (p : Tree) (text :
   pub told : text ≡ lines_of p unused (undeclared (names_of words) p)
   pub ends : end ≡ end_of (status_for unused (undeclared (names_of words) p))
 
--- the sink has taken the text, and this is the status for it; or it has taken a prefix
-abbrev pub WritesAll : {K : Type 0} → (K → Option (List ℕ)) → (K → ℕ) → K → K → List ℕ → NamesStatus → Result NamesStatus ReportError → Type 0
-WritesAll held faults old new text status (Ok given) = (given ≡ status) × Writes held faults old new text (Ok tt)
-WritesAll held faults old new text status (Err cause) = Writes held faults old new text (Err cause)
-
 -- the sink has taken the answer about the program, or a prefix of it; or memory was wanting before there was one
 abbrev pub GivesAnswer : {K : Type 0} → (K → Option (List ℕ)) → (K → ℕ) → K → K → List (String Global) → Tree → Result NamesStatus ReportError → Type 0
-GivesAnswer held faults old new words p (Ok status) = (text : List ℕ) × Answers words (end_of status) p text × Writes held faults old new text (Ok tt)
-GivesAnswer held faults old new words p (Err cause) =
-    ((cause ≡ error.Memory) × (held new ≡ held old)) ⊎ ((end : End) × (text : List ℕ) × Answers words end p text × Writes held faults old new text (Err cause))
+GivesAnswer held faults old new words p result = answering.GivesAnswer end_of (Answers words) held faults old new p result
 
 -- ---- the whole program
 
 -- what becomes of such words, before it is told
 abbrev pub Ends : List (String Global) → SourceCall → SinkCall → Result NamesStatus ReportError → Type 0
-Ends words source out (Ok status) = Answered (Finds Stands) (Answers words) source out (end_of status)
-Ends words source out (Err cause) = Stopped (AreNames words) (Finds Stands) (Answers words) source out cause
+Ends words source out result = EndsBy end_of (AreNames words) (Finds Stands) (Answers words) source out result
 
 -- nothing is refused about a good input
 abbrev pub RefusesNone : Tree → List ℕ → Type 0

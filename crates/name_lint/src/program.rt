@@ -6,12 +6,13 @@ ghost use Rattle.semantic_model.specs.Step.{steps};
 ghost use Rattle.semantic_model.specs.TablesOf.{tables_of};
 ghost use Rattle.node_symbols.specs.Shown.{entries};
 ghost use Rattle.name_uses.specs.Gathered.{text_of, span_of};
+ghost use Rattle.program_ends.specs.Answering.{WritesAll};
 ghost use Rattle.program_ends.specs.Calls.{source_call, sink_call};
 ghost use Rattle.program_ends.specs.Completeness.{IsClear, IsNotRefused, IsDoneOrMemory, IsUsageOrMemory};
 ghost use Rattle.program_ends.specs.Reads.{Stands};
 ghost use Rattle.name_lint.specs.Codes.{status_for, end_of};
 ghost use Rattle.name_lint.specs.Lines.{name_lines};
-ghost use Rattle.name_lint.specs.Meaning.{WritesAll, GivesAnswer, Ends, Means};
+ghost use Rattle.name_lint.specs.Meaning.{GivesAnswer, Ends, Means};
 ghost use Rattle.name_lint.specs.Words.{AreNames};
 
 use crate::finding::drop_analysis;

@@ -1,5 +1,7 @@
-use Rattle.name_lint.proofs.Meanings.{gives_none}
+use Rattle.program_ends.proofs.Answering.{gives_none}
+use Rattle.name_lint.specs.Codes.{end_of}
+use Rattle.name_lint.specs.Meaning.{Answers}
 use Rattle.name_lint.proofs.program.answer.Goals as goal
 
 pub returns-in_err-analysis : goal.returns-in_err-analysis
-returns-in_err-analysis g c = gives_none g.K.Sink.held g.K.Sink.faults c.args.words.now c.args.program.now c.args.out.now c.from_residual.result c.from_residual.ensures.1
+returns-in_err-analysis g c = gives_none g.K.Sink.held g.K.Sink.faults end_of (Answers c.args.words.now) c.args.program.now c.args.out.now c.from_residual.result c.from_residual.ensures.1

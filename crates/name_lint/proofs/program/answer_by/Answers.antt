@@ -8,14 +8,15 @@ use Rattle.name_lint.specs.Codes.{end_of, status_for}
 use Rattle.name_lint.specs.Lines.{name_lines}
 use Rattle.name_lint.proofs.InRange.{unused_below, undeclared_below}
 use Rattle.name_lint.proofs.Lines.{lines_told}
-use Rattle.name_lint.proofs.Meanings.{gives_none, gives}
+use Rattle.program_ends.proofs.Answering.{gives_none, gives}
+use Rattle.name_lint.specs.Meaning.{Answers}
 use Rattle.name_lint.proofs.program.answer_by.Goals as goal
 
 pub returns-in_err-pass : goal.returns-in_err-pass
-returns-in_err-pass g c = gives_none g.K.Sink.held g.K.Sink.faults c.args.words.now c.args.program.now c.args.out.now c.from_residual.result c.from_residual.ensures.1
+returns-in_err-pass g c = gives_none g.K.Sink.held g.K.Sink.faults end_of (Answers c.args.words.now) c.args.program.now c.args.out.now c.from_residual.result c.from_residual.ensures.1
 
 pub returns-in_err-report : goal.returns-in_err-report
-returns-in_err-report g c = gives_none g.K.Sink.held g.K.Sink.faults c.args.words.now c.args.program.now c.args.out.now c.from_residual-in_err-report.result c.from_residual-in_err-report.ensures.1
+returns-in_err-report g c = gives_none g.K.Sink.held g.K.Sink.faults end_of (Answers c.args.words.now) c.args.program.now c.args.out.now c.from_residual-in_err-report.result c.from_residual-in_err-report.ensures.1
 
 pub finish_answer-requires-clause-unused : goal.finish_answer-requires-clause-unused
 finish_answer-requires-clause-unused g c = unused_below c.args.program.now c.args.scoping.now c.in_ok-report.report.unused c.requires.tables c.in_ok-report.ensures.unused
@@ -29,7 +30,7 @@ pub returns : goal.returns
 returns g c =
     let names : map text_of c.references.result.now ≡ reference_names (steps c.args.program.now) = c.references.ensures.names ∙ ap (λ (x : Gathered). x.names) c.in_ok-pass.ensures.gathered in
     let spans : map span_of c.references.result.now ≡ reference_spans (steps c.args.program.now) = c.references.ensures.spans ∙ ap (λ (x : Gathered). x.spans) c.in_ok-pass.ensures.gathered in
-    gives g.K.Sink.held g.K.Sink.faults c.args.words.now c.args.program.now _ _
+    gives g.K.Sink.held g.K.Sink.faults end_of (Answers c.args.words.now) c.args.program.now _ _
     (name_lines c.args.scoping.now (map text_of c.references.result.now) (map span_of c.references.result.now) c.in_ok-report.report.unused c.in_ok-report.report.undeclared)
     (status_for c.in_ok-report.report.unused c.in_ok-report.report.undeclared) c.finish_answer.result
     (record {

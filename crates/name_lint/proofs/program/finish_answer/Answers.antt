@@ -1,4 +1,4 @@
-use Rattle.name_lint.proofs.Meanings.{writes_not_all}
+use Rattle.program_ends.proofs.Answering.{writes_not_all}
 use Rattle.name_lint.proofs.program.finish_answer.Goals as goal
 
 pub returns-in_err-write_names : goal.returns-in_err-write_names

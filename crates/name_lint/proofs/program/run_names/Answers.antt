@@ -1,5 +1,6 @@
 use Rattle.std.proofs.Common.{refl}
-use Rattle.name_lint.proofs.Meanings.{refused_by, means_refused, means_answered, means_stopped, usage_told, answered_done, clear_stopped}
+use Rattle.program_ends.proofs.Endings.{usage_ends}
+use Rattle.name_lint.proofs.Meanings.{refused_by, means_refused, means_answered, means_stopped, answered_done, clear_stopped}
 use Rattle.name_lint.proofs.program.run_names.Goals as goal
 
 pub returns-then-not-are_names-clause-means : goal.returns-then-not-are_names-clause-means
@@ -10,7 +11,7 @@ pub returns-then-not-are_names-clause-complete : goal.returns-then-not-are_names
 returns-then-not-are_names-clause-complete g c = λ names. absurd (refused_by c.are_names.result c.are_names.ensures c.if-not-are_names.true names)
 
 pub returns-then-not-are_names-clause-usage : goal.returns-then-not-are_names-clause-usage
-returns-then-not-are_names-clause-usage g c = λ not_names. usage_told _ c.refuse_words.result c.refuse_words.ensures
+returns-then-not-are_names-clause-usage g c = λ not_names. usage_ends _ _ _ c.refuse_words.ensures
 
 pub answer_input-requires : goal.answer_input-requires
 answer_input-requires g c = c.are_names.ensures.0 c.if-not-are_names.false
