@@ -7,7 +7,8 @@ use Rattle.std.specs.declared.alloc.Global.{Global}
 use Rattle.report_ends.specs.Streams.{HadMoreThan, AppendsPrefix}
 use Rattle.report_ends.specs.declared.error.ReportError.TheVariants as error
 use Rattle.program_ends.specs.Calls.{SourceCall, SinkCall, Unread, Untouched}
-use Rattle.program_ends.specs.Completeness.{IsDoneOrMemory, IsUsageOrMemory}
+use Rattle.program_ends.specs.Completeness.{IsDoneOrMemory}
+use Rattle.program_ends.specs.Ending.{TellsEnd}
 use Rattle.program_ends.specs.Lines.{memory_line}
 use Rattle.program_ends.specs.Meaning.{End, Finds, Answered, AnsweredPart, MayTell, of_usage, of_input, of_length, of_reading, of_writing, of_memory, end_of_stop}
 use Rattle.program_ends.specs.Meaning as ends
@@ -17,24 +18,15 @@ use Rattle.program_ends.specs.declared.stops.Stop.TheVariants as stop
 use Rattle.program_ends.proofs.Meanings.{part_told}
 use Rattle.module_set.specs.declared.error.LinkError.{LinkError}
 use Rattle.module_set.specs.declared.error.LinkError.TheVariants as refusal
-use Rattle.module_linker.specs.Codes.{end_of, status_of, is_loose}
+use Rattle.module_linker.specs.Codes.{end_of, is_loose}
 use Rattle.module_linker.specs.Failing.{IsNotRefused}
 use Rattle.module_linker.specs.Lines.{cause_line, usage_line}
 use Rattle.module_linker.specs.Meaning.{StandsLinked, RefusedFor, Answers, RefusesNone, Fails, Ends, Means, IsClear}
-use Rattle.module_linker.specs.Telling.{Tells, failure_line, failure_stop}
+use Rattle.module_linker.specs.Telling.{failure_line, failure_stop}
 use Rattle.module_linker.specs.declared.failure.LinkFailure.{LinkFailure}
 use Rattle.module_linker.specs.declared.failure.LinkFailure.TheVariants.{Refused, Stopped}
 use Rattle.module_linker.specs.declared.status.LinkStatus.{LinkStatus}
 use Rattle.module_linker.specs.declared.status.LinkStatus.TheVariants as status
-
--- the end of a program that is stopped
-stopped_end : (s : Stop) → end_of (status_of s) ≡ end_of_stop s
-stopped_end stop.Usage = refl
-stopped_end stop.Tree = refl
-stopped_end stop.TooLong = refl
-stopped_end stop.Read = refl
-stopped_end stop.Write = refl
-stopped_end stop.Memory = refl
 
 module _ (source : SourceCall) (out errs : SinkCall) (words : List (String Global)) where
   -- what the program has done at an end
@@ -48,13 +40,13 @@ module _ (source : SourceCall) (out errs : SinkCall) (words : List (String Globa
   abbrev TellsStop : List ℕ → Stop → Stop → Type 0
   TellsStop line wanted told = telling.Tells errs line wanted told
 
-  at_stop : (told : Stop) (result : LinkStatus) → result ≡ status_of told → MeansAt (end_of_stop told) → Means source out errs words result
-  at_stop told result is means = subst MeansAt (sym (ap end_of is ∙ stopped_end told)) means
+  at_stop : (told : Stop) (result : LinkStatus) → end_of result ≡ end_of_stop told → MeansAt (end_of_stop told) → Means source out errs words result
+  at_stop told result is means = subst MeansAt (sym is) means
 
   at_same : (told wanted : Stop) → told ≡ wanted → MeansAt (end_of_stop wanted) → MeansAt (end_of_stop told)
   at_same told wanted same means = subst (λ s. MeansAt (end_of_stop s)) (sym same) means
 
-  pub means_words : (result : LinkStatus) → ((words ≡ []) → ⊥) → Unread source → Untouched out → Tells errs usage_line stop.Usage result → Means source out errs words result
+  pub means_words : (result : LinkStatus) → ((words ≡ []) → ⊥) → Unread source → Untouched out → TellsEnd errs usage_line stop.Usage (end_of result) → Means source out errs words result
   means_words result not_asked unread untouched (told, is, inl line) = at_stop told result is (at_same told stop.Usage line.0 (not_asked, unread, untouched, line.1))
   means_words result not_asked unread untouched (told, is, inr part) = at_stop told result is (at_same told stop.Memory part.0 (inr unread, inl untouched, (usage_line, of_usage, part.1)))
 
@@ -109,7 +101,7 @@ module _ (source : SourceCall) (out errs : SinkCall) (words : List (String Globa
   told_failure (Stopped error.Memory) told asked why (inl line) = at_same told stop.Memory line.0 (lacks memory_line of_memory asked why (part_told errs memory_line line.1))
   told_failure (Stopped error.Memory) told asked why (inr part) = at_same told stop.Memory part.0 (lacks memory_line of_memory asked why part.1)
 
-  pub means_failed : (failure : LinkFailure) (result : LinkStatus) → words ≡ [] → Ends source out (Err failure) → Tells errs (failure_line failure) (failure_stop failure) result → Means source out errs words result
+  pub means_failed : (failure : LinkFailure) (result : LinkStatus) → words ≡ [] → Ends source out (Err failure) → TellsEnd errs (failure_line failure) (failure_stop failure) (end_of result) → Means source out errs words result
   means_failed failure result asked why (told, is, tells) = at_stop told result is (told_failure failure told asked why tells)
 
 -- ---- words
@@ -125,11 +117,6 @@ no_words (word ∷ words) empty is there =
     absurd (omega arith)
 
 -- ---- completeness
-
--- there are words
-pub usage_told : (errs : SinkCall) (result : LinkStatus) → Tells errs usage_line stop.Usage result → IsUsageOrMemory (end_of result)
-usage_told errs result (told, is, inl line) = subst (λ s. IsUsageOrMemory (end_of s)) (sym (is ∙ ap status_of line.0)) tt
-usage_told errs result (told, is, inr part) = subst (λ s. IsUsageOrMemory (end_of s)) (sym (is ∙ ap status_of part.0)) tt
 
 done_by : (b : Bool) → IsDoneOrMemory (end_of (if b then status.Found else status.Done))
 done_by true = tt
@@ -156,7 +143,7 @@ only_memory source out (Stopped error.Read) clear kept why = absurd (clear.sourc
 only_memory source out (Stopped error.Write) clear kept why = absurd (clear.out_holds why.0)
 only_memory source out (Stopped error.Memory) clear kept why = refl
 
-pub clear_failed : (source : SourceCall) (out errs : SinkCall) (failure : LinkFailure) (result : LinkStatus) → IsClear source out → IsNotRefused failure → Ends source out (Err failure) → Tells errs (failure_line failure) (failure_stop failure) result → IsDoneOrMemory (end_of result)
+pub clear_failed : (source : SourceCall) (out errs : SinkCall) (failure : LinkFailure) (result : LinkStatus) → IsClear source out → IsNotRefused failure → Ends source out (Err failure) → TellsEnd errs (failure_line failure) (failure_stop failure) (end_of result) → IsDoneOrMemory (end_of result)
 clear_failed source out errs failure result clear kept why (told, is, inl line) =
-    subst (λ s. IsDoneOrMemory (end_of s)) (sym (is ∙ ap status_of (line.0 ∙ only_memory source out failure clear kept why))) tt
-clear_failed source out errs failure result clear kept why (told, is, inr part) = subst (λ s. IsDoneOrMemory (end_of s)) (sym (is ∙ ap status_of part.0)) tt
+    subst IsDoneOrMemory (sym (is ∙ ap end_of_stop (line.0 ∙ only_memory source out failure clear kept why))) tt
+clear_failed source out errs failure result clear kept why (told, is, inr part) = subst IsDoneOrMemory (sym (is ∙ ap end_of_stop part.0)) tt

@@ -1,25 +1,13 @@
--- The exit statuses, and the end that each stands for.
-use Rattle.std.specs.Prelude.{ℕ, List, Bool, true, false, if◌then◌else◌}
+-- The end that each status stands for.
+use Rattle.std.specs.Prelude.{List, Bool, true, false, if◌then◌else◌}
 use Rattle.std.specs.List.{list_any}
 use Rattle.link_model.specs.declared.outcome.Link.{Link}
 use Rattle.link_model.specs.declared.outcome.LinkOutcome.{LinkOutcome}
 use Rattle.link_model.specs.declared.outcome.LinkOutcome.TheVariants.{Missing, Ring, Ambiguous}
 use Rattle.program_ends.specs.Meaning.{End}
 use Rattle.program_ends.specs.Meaning as ends
-use Rattle.program_ends.specs.declared.stops.Stop.{Stop}
-use Rattle.program_ends.specs.declared.stops.Stop.TheVariants as stop
 use Rattle.module_linker.specs.declared.status.LinkStatus.{LinkStatus}
 use Rattle.module_linker.specs.declared.status.LinkStatus.TheVariants.{Done, Found, Usage, Tree, TooLong, Read, Write, Memory}
-
-abbrev pub code_of : LinkStatus → ℕ
-code_of Done = 0
-code_of Found = 1
-code_of Usage = 2
-code_of Tree = 3
-code_of TooLong = 4
-code_of Read = 5
-code_of Write = 6
-code_of Memory = 7
 
 abbrev pub end_of : LinkStatus → End
 end_of Done = ends.done
@@ -30,15 +18,6 @@ end_of TooLong = ends.too_long
 end_of Read = ends.read
 end_of Write = ends.write
 end_of Memory = ends.memory
-
--- the status of a program that is stopped
-abbrev pub status_of : Stop → LinkStatus
-status_of stop.Usage = Usage
-status_of stop.Tree = Tree
-status_of stop.TooLong = TooLong
-status_of stop.Read = Read
-status_of stop.Write = Write
-status_of stop.Memory = Memory
 
 -- an import that comes to nothing, or to things that differ
 abbrev pub is_loose : LinkOutcome → Bool

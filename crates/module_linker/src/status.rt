@@ -1,6 +1,7 @@
 //! How the program ends.
 ghost use Rattle.std.specs.Prelude.{◌≡◌};
-ghost use Rattle.module_linker.specs.Codes.{code_of};
+ghost use Rattle.program_ends.specs.Codes.{code_of};
+ghost use Rattle.module_linker.specs.Codes.{end_of};
 
 use program_ends::Stop;
 
@@ -28,16 +29,17 @@ pub enum LinkStatus {
 impl LinkStatus {
     /// The exit status, from 0 to 7.
     pub fn code(self) -> u8
-        ensures { result ≡ code_of self }
+        ensures { result ≡ code_of (end_of self) }
     {
         self as u8
     }
 }
 
 impl From<Stop> for LinkStatus {
-    ghost use Rattle.module_linker.specs.Codes.{status_of};
+    ghost use Rattle.program_ends.specs.Meaning.{end_of_stop};
+    ghost use Rattle.module_linker.specs.Codes.{end_of};
 
-    ghost from_gives = { λ stop status. status ≡ status_of stop };
+    ghost from_gives = { λ stop status. end_of status ≡ end_of_stop stop };
 
     fn from(stop: Stop) -> Self {
         match stop {

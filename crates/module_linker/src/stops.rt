@@ -1,9 +1,11 @@
 //! Tells why the program stopped.
 ghost use Rattle.std.specs.Prelude.{◌≡◌, IfOk, string_bytes};
 ghost use Rattle.program_ends.specs.Calls.{sink_call};
+ghost use Rattle.program_ends.specs.Ending.{TellsEnd, Finishes};
 ghost use Rattle.program_ends.specs.Lines.{memory_line};
 ghost use Rattle.module_linker.specs.Lines.{place_line, module_line, tree_refused_line, cause_line, usage_line};
-ghost use Rattle.module_linker.specs.Telling.{stop_of_refusal, failure_line, failure_stop, Tells, Finishes};
+ghost use Rattle.module_linker.specs.Telling.{stop_of_refusal, failure_line, failure_stop};
+ghost use Rattle.module_linker.specs.Codes.{end_of};
 
 use crate::failure::LinkFailure;
 use crate::status::LinkStatus;
@@ -73,7 +75,7 @@ fn stop_of_refusal(error: &LinkError) -> Stop
 
 /// Tells a refusal's line.
 fn tell_refusal<E: Sink>(alloc: Global, error: &LinkError, errs: &mut E) -> LinkStatus
-    ensures { Tells (sink_call E.held E.faults errs.old errs.new) (cause_line error.now) (stop_of_refusal error.now) result }
+    ensures { TellsEnd (sink_call E.held E.faults errs.old errs.new) (cause_line error.now) (stop_of_refusal error.now) (end_of result) }
 {
     match cause_line(alloc, error) {
         Ok(line) => LinkStatus::from(tell_stop(&line, stop_of_refusal(error), errs)),
@@ -88,7 +90,7 @@ pub(crate) fn tell_failure<E: Sink>(
     failure: &LinkFailure,
     errs: &mut E,
 ) -> LinkStatus
-    ensures { Tells (sink_call E.held E.faults errs.old errs.new) (failure_line failure.now) (failure_stop failure.now) result }
+    ensures { TellsEnd (sink_call E.held E.faults errs.old errs.new) (failure_line failure.now) (failure_stop failure.now) (end_of result) }
 {
     match failure {
         LinkFailure::Refused(error) => tell_refusal(alloc, error, errs),
@@ -100,14 +102,14 @@ const USAGE: &str = "usage: module_linker\n";
 
 /// Answers words, for which there is no use.
 pub fn refuse_words<E: Sink>(errs: &mut E) -> LinkStatus
-    ensures { Tells (sink_call E.held E.faults errs.old errs.new) usage_line Stop.Usage result }
+    ensures { TellsEnd (sink_call E.held E.faults errs.old errs.new) usage_line Stop.Usage (end_of result) }
 {
     LinkStatus::from(tell_stop(USAGE, Stop::Usage, errs))
 }
 
 /// Tells that memory is wanting.
 pub fn tell_memory<E: Sink>(alloc: Global, errs: &mut E) -> LinkStatus
-    ensures { Tells (sink_call E.held E.faults errs.old errs.new) memory_line Stop.Memory result }
+    ensures { TellsEnd (sink_call E.held E.faults errs.old errs.new) memory_line Stop.Memory (end_of result) }
 {
     LinkStatus::from(tell(alloc, &ReportError::Memory, errs))
 }
@@ -120,7 +122,7 @@ pub fn finish<E: Sink>(
     flushed: Result<(), WriteFault>,
     errs: &mut E,
 ) -> LinkStatus
-    ensures { Finishes (sink_call E.held E.faults errs.old errs.new) status flushed result }
+    ensures { Finishes (sink_call E.held E.faults errs.old errs.new) (end_of status) flushed (end_of result) }
 {
     match flushed {
         Ok(()) => status,

@@ -1,10 +1,14 @@
 use Rattle.std.proofs.Common.{refl}
+use Rattle.program_ends.proofs.Endings.{usage_ends}
 use Rattle.module_linker.proofs.Meanings.{words_there, no_words, means_words, means_failed, clear_failed}
 use Rattle.module_linker.proofs.program.run_link.Goals as goal
 
 pub returns-then-not-is_empty-clause-means : goal.returns-then-not-is_empty-clause-means
 returns-then-not-is_empty-clause-means g c =
     means_words _ _ _ _ c.refuse_words.result (words_there c.args.words.now c.is_empty.result c.is_empty.ensures c.if-not-is_empty.true) (record { left = refl; faults = refl }) refl c.refuse_words.ensures
+
+pub returns-then-not-is_empty-clause-usage : goal.returns-then-not-is_empty-clause-usage
+returns-then-not-is_empty-clause-usage g c = λ asked. usage_ends _ _ _ c.refuse_words.ensures
 
 pub returns-in-Err-clause-means : goal.returns-in-Err-clause-means
 returns-in-Err-clause-means g c =
