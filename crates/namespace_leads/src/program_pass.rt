@@ -1,4 +1,4 @@
-//! A pass over a program that notes what each node leads to as a statement.
+//! A pass over a program that notes what each node leads to, taken as a statement of a namespace.
 
 ghost use Rattle.std.specs.Prelude.{◌≡◌, List, [], ◌∷◌, Some, map, IfOk, OnOk};
 ghost use Rattle.semantic_kinds.specs.declared.role.Role.TheVariants.{Body as body_role, Specifiers as specifiers_role};

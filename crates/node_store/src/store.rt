@@ -90,7 +90,7 @@ impl<'a> AstNodeStore<'a> {
         }
     }
 
-    /// Begins to keep all nodes, or the path alone. What was kept is dropped; position and count stay.
+    /// Begins to keep all nodes, or the path alone. What was kept is dropped; the current id and the count stay.
     pub fn set_build_nodes(&mut self, yes: bool)
         ensures { self.new ≡ record self.old { kind = emptied yes } }
     {

@@ -42,7 +42,7 @@ impl Marking {
         self.list.len()
     }
 
-    /// The number at a place in the order of marking.
+    /// The number at a position in the order of marking.
     pub fn at(&self, place: usize) -> u32
         requires { place < length self.now.list }
         ensures { result ≡ slice_index self.now.list place }

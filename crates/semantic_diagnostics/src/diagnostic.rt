@@ -5,7 +5,7 @@ use semantic_syntax::{Span, Text};
 use std::alloc::{AllocError, Global};
 use std::marker::Model;
 
-/// A place in the source, and what is said of it, if anything.
+/// A span of the source, and what is said of it, if anything.
 #[derive(Drop)]
 pub struct Label {
     pub span: Span,

@@ -395,7 +395,7 @@ impl AstType {
         AstType::TSNamespaceExportDeclaration,
     ];
 
-    /// The number of the kind: its place in the order of the kinds.
+    /// The number of the kind: its position in the order of the kinds.
     pub fn index(self) -> usize
         ensures { result ≡ kind_number self }
     {

@@ -6,7 +6,7 @@ ghost use Rattle.semantic_kinds.specs.Roles.{role_name, role_named, all_roles};
 
 use crate::lookup::roles_of_length;
 
-/// The place of a child in its parent. `Root` is the root's; `Annotation` is named `type`.
+/// What a child is in its parent. `Root` is the root's; `Annotation` is named `type`.
 #[derive(Clone, Copy, PartialEq, Eq, Debug)]
 pub enum Role {
     Root,

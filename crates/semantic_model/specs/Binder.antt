@@ -116,7 +116,7 @@ function_excluded p =
 abbrev pub is_clause : OpenScope → Bool
 is_clause s = meets s.flags scope.CatchClause.bits
 
--- a plain function in a block of sloppy JavaScript
+-- a plain function in a block of sloppy JavaScript, which may move out of it (ECMAScript, Annex B.3.2)
 abbrev pub is_block_function : Place → Bool
 is_block_function p =
     not (is_special p.node) && not (is_typescript p.source_type) && not (is_strict p.chain)

@@ -77,7 +77,7 @@ move_out st c t x s None =
       remembered = put st.remembered c x s;
     }
 
--- a block function is declared in its block, and moves then
+-- a block function is declared in its block, and moves then (ECMAScript, Annex B.3.2)
 abbrev pub move_function : State → Declaration → State
 move_function st d =
     let c : ℕ = stands_in d in

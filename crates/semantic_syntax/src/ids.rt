@@ -5,7 +5,7 @@ ghost use Rattle.std.specs.Prelude.{◌≡◌, ◌<◌};
 
 use std::marker::Model;
 
-/// The id of a node: its place in preorder, from 0.
+/// The id of a node: its number in preorder, from 0.
 #[derive(Clone, Copy, PartialEq, Eq, PartialOrd, Ord, Hash, Debug)]
 pub struct NodeId {
     number: u32,
@@ -44,7 +44,7 @@ impl NodeId {
     }
 }
 
-/// The id of a scope: its place in order of opening.
+/// The id of a scope: its number in order of opening, from 0.
 #[derive(Clone, Copy, PartialEq, Eq, PartialOrd, Ord, Hash, Debug)]
 pub struct ScopeId {
     number: u32,
@@ -80,7 +80,7 @@ impl ScopeId {
     }
 }
 
-/// The id of a symbol: its place in order of declaring.
+/// The id of a symbol: its number in order of declaring, from 0.
 #[derive(Clone, Copy, PartialEq, Eq, PartialOrd, Ord, Hash, Debug)]
 pub struct SymbolId {
     number: u32,
@@ -116,7 +116,7 @@ impl SymbolId {
     }
 }
 
-/// The id of a reference: its place in preorder.
+/// The id of a reference: its number in preorder, from 0.
 #[derive(Clone, Copy, PartialEq, Eq, PartialOrd, Ord, Hash, Debug)]
 pub struct ReferenceId {
     number: u32,
@@ -152,7 +152,7 @@ impl ReferenceId {
     }
 }
 
-/// The id of a class: its place in preorder.
+/// The id of a class: its number in preorder, from 0.
 #[derive(Clone, Copy, PartialEq, Eq, PartialOrd, Ord, Hash, Debug)]
 pub struct ClassId {
     number: u32,
@@ -188,7 +188,7 @@ impl ClassId {
     }
 }
 
-/// The id of an element of a class: its place in the class.
+/// The id of an element of a class: its position in the class.
 #[derive(Clone, Copy, PartialEq, Eq, PartialOrd, Ord, Hash, Debug)]
 pub struct ElementId {
     number: u32,

@@ -36,7 +36,7 @@ fn child_counts(alloc: Global, rows: &[Row<'_>]) -> Result<Vec<u32>, AllocError>
     Ok(counts)
 }
 
-/// The node of a row, with all below it, which the rows from `place` on list; `place` is then behind these.
+/// The node of a row, with all below it, which the rows from the position `place` on list; it is then behind these.
 fn node_of(
     alloc: Global,
     row: &Row<'_>,
@@ -63,7 +63,7 @@ fn node_of(
     Ok(node)
 }
 
-/// The row at a place, if there is one and it is deeper than this.
+/// The row at a position, if there is one and it is deeper than this.
 fn deeper<'r, 'a>(rows: &'r [Row<'a>], place: usize, depth: u32) -> Option<&'r Row<'a>>
     ensures some { IfSome result (λ row. (depth < row.now.depth) × (place < length rows.now)
         × (map line (drop place rows.now) ≡ line row.now ∷ map line (drop (place + 1) rows.now))) }

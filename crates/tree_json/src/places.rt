@@ -16,7 +16,7 @@ use std::alloc::{AllocError, Global};
 pub(crate) enum TextPlaces<'s, 'a> {
     /// By the texts themselves.
     InPlace,
-    /// By their places in this set.
+    /// By their positions in this set.
     InSet(&'s IndexSet<&'a str>),
 }
 
@@ -68,7 +68,7 @@ pub(crate) fn text_value(
     }
 }
 
-/// The place of a text in a set, or 0 if it is not there.
+/// The position of a text in a set, or 0 if it is not there.
 #[tactic(auto, using(crate::proofs::Spelled::position_spelled))]
 fn place_of(texts: &IndexSet<&str>, text: &str) -> usize
     requires { Each IsSpelled texts.now.keys }

@@ -29,7 +29,7 @@ pub(crate) struct Row<'a> {
 pub(crate) enum RowTexts<'a, 'n> {
     /// In the rows.
     InRows,
-    /// In this list, of which a row tells the place.
+    /// In this list, of which a row tells the position.
     InList(&'n [&'a str]),
 }
 

@@ -16,7 +16,7 @@ use std::marker::Model;
 #[derive(Clone, Copy)]
 struct OpenLabel<'a> {
     name: &'a str,
-    /// The place of the innermost label around it that has the same name, if there is one.
+    /// The position of the innermost label around it that has the same name, if there is one.
     outer: Option<usize>,
 }
 
@@ -25,7 +25,7 @@ struct OpenLabel<'a> {
 #[derive(Drop)]
 pub(crate) struct OpenLabels<'a> {
     labels: Vec<OpenLabel<'a>>,
-    /// The place of the innermost label of each name.
+    /// The position of the innermost label of each name.
     innermost: HashMap<&'a str, usize>,
 }
 
@@ -57,7 +57,7 @@ impl<'a> OpenLabels<'a> {
         }
     }
 
-    /// The place of the innermost label of the name.
+    /// The position of the innermost label of the name.
     pub(crate) fn innermost(&self, name: Ident<'_>) -> Option<usize>
         ensures { result ≡ last_place (chars name.entry.text.now) self.now }
     {
