@@ -39,7 +39,7 @@ impl<'s> BoundName<'s> {
         }
     }
 
-    /// The symbol that the scope binds to the name, if any. Each call is one step.
+    /// The symbol that the scope binds to the name, if any. Each call is one probe.
     pub fn probe<L>(&self, scope: ScopeId, steps: &mut Steps<L>) -> Option<SymbolId>
         requires { scope < length self.now }
         ensures bound { result ≡ slice_index_or self.now scope None }

@@ -25,7 +25,8 @@ pub trait BindingSource<L> {
         ensures step { steps.new ≡ raised steps.old 1 }
         ensures law { IsSource (meaning self.now) };
 
-    /// What the scopes bind to the name, for a look-up that asks several of them. Each one that is asked is one step.
+    /// What the scopes bind to the name, for a look-up that asks several of them. Each one that is asked is one
+    /// probe.
     fn bound_name(&self, name: Ident<'_>) -> BoundName<'_>
         ensures bound { TellsName (meaning self.now) (chars name.entry.text.now) result }
         ensures law { IsSource (meaning self.now) };
