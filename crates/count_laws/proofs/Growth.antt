@@ -18,7 +18,7 @@ use Rattle.semantic_model.specs.Declaration.{How, plain, hoisted, moved, caught,
 use Rattle.semantic_model.specs.Binder.{declared_on_entering, declared_on_opening}
 use Rattle.semantic_model.specs.Event.{takes_over, is_catch_body, taken_over, placed, declares_all}
 use Rattle.semantic_model.specs.Hoist.{PassedSymbol}
-use Rattle.semantic_model.specs.Outcome.{Pending, Outcome, means, is_free, waits, header_outcome}
+use Rattle.semantic_syntax.specs.Outcome.{Pending, Outcome, means, is_free, waits, header_outcome}
 use Rattle.semantic_model.specs.Step.{Step, entering, opening, header_ending, closing, leaving}
 use Rattle.semantic_model.specs.TablesOf.{is_direct_eval}
 use Rattle.walk_model.specs.WalkState.{WalkState}

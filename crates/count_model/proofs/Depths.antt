@@ -17,7 +17,7 @@ use Rattle.semantic_model.specs.Event.{Event, events, written_declarations}
 use Rattle.semantic_model.specs.Fold.{State, start}
 use Rattle.semantic_model.specs.Hoist.{run}
 use Rattle.semantic_syntax.specs.Lookup.{probes_in}
-use Rattle.semantic_model.specs.Outcome.{last_outcome}
+use Rattle.semantic_syntax.specs.Outcome.{last_outcome}
 use Rattle.semantic_model.specs.Outward.{depth}
 use Rattle.semantic_model.specs.TablesOf.{entry_of, tables_of}
 use Rattle.semantic_model.specs.Tie.{ties, answer, answers}

@@ -11,7 +11,7 @@ use Rattle.semantic_model.specs.Reference.{Occurrence}
 use Rattle.semantic_model.specs.Event.{Event}
 use Rattle.semantic_model.specs.Fold.{State}
 use Rattle.semantic_syntax.specs.Lookup.{probes_in}
-use Rattle.semantic_model.specs.Outcome.{Pending, Outcome, means, is_free, waits}
+use Rattle.semantic_syntax.specs.Outcome.{Pending, Outcome, means, is_free, waits}
 use Rattle.semantic_model.specs.Tie.{Tie, ties, answer}
 use Rattle.walk_model.specs.Settles.{staying, waiting_on}
 use Rattle.walk_model.proofs.places.Nested.{Descends}

@@ -1,12 +1,8 @@
 -- How many scopes a look-up asks, along a chain in parts.
 use Rattle.std.proofs.Common.{◌≡◌, ℕ, suc, ◌+◌, ◌≤◌, List, [], ◌∷◌, ◌++◌, Option, Some, None, Bool, true, false, cond, refl, ap, length, arith}
 use Rattle.semantic_syntax.specs.Tables.{Name}
-use Rattle.semantic_syntax.specs.Lookup.{Seen, Asked, Lookup, tied, barred, fits, ends_after, tied_by, or_lookup, lookup, probes_in}
+use Rattle.semantic_syntax.specs.Lookup.{Seen, Asked, Lookup, tied, barred, fits, ends_after, tied_by, or_lookup, lookup, count_or, probes_in}
 use Rattle.walk_model.proofs.refers.Lookups.{answered_in, AreAlike}
-
-abbrev count_or : Option Lookup → ℕ → ℕ
-count_or None later = suc later
-count_or (Some l) later = 1
 
 -- past the scope that answers none is asked
 first_step : (a c s f : ℕ) (t b : Bool) (more : Lookup) (n m : ℕ) → (answered_in more ≡ Some c → m ≡ n)

@@ -14,14 +14,15 @@ use Rattle.semantic_tree.specs.Faults.{first_fault}
 use Rattle.semantic_tree.specs.Views.{is}
 use Rattle.semantic_model.specs.Place.{Place, OpenScope, innermost, at}
 use Rattle.semantic_model.specs.Reference.{Occurrence, reference_at, references}
-use Rattle.semantic_model.specs.Declaration.{Declaration, contains}
+use Rattle.semantic_model.specs.Declaration.{Declaration}
+use Rattle.semantic_syntax.specs.Members.{contains}
 use Rattle.semantic_model.specs.Step.{Step, entering, opening, header_ending, closing, leaving, steps}
 use Rattle.semantic_model.specs.Event.{Event, ends_header, events_of, events, written_declarations}
 use Rattle.semantic_model.specs.Fold.{State, start}
 use Rattle.semantic_model.specs.Hoist.{run}
 use Rattle.semantic_syntax.specs.Lookup.{probes_in}
 use Rattle.semantic_model.specs.Tie.{Tie, ties, answers, until_end_of}
-use Rattle.semantic_model.specs.Outcome.{Pending, header_outcome, header_probes, last_probes}
+use Rattle.semantic_syntax.specs.Outcome.{Pending, header_outcome, header_probes, last_probes}
 use Rattle.semantic_model.specs.TablesOf.{is_direct_eval}
 use Rattle.semantic_model.proofs.steps.Compose.{run-append}
 use Rattle.walk_model.specs.WalkState.{WalkState, nothing_made}

@@ -14,7 +14,7 @@ use Rattle.semantic_syntax.specs.Told.{source_of}
 use Rattle.semantic_model.specs.Cursor.{on_entering}
 use Rattle.semantic_model.specs.Declaration.{Declaration}
 use Rattle.semantic_model.specs.Event.{written_declarations}
-use Rattle.semantic_model.specs.Outcome.{Pending, is_below, header_probes}
+use Rattle.semantic_syntax.specs.Outcome.{Pending, is_below, header_probes}
 use Rattle.semantic_model.specs.Place.{Place, OpenScope}
 use Rattle.semantic_model.specs.Step.{Step, entering, opening, header_ending, closing, leaving, steps_below, steps_of, opening_at, ending_after, opening_last, cursor_past, root_place, steps}
 use Rattle.semantic_model.proofs.steps.TurnCases.{opening_case, last_case}

@@ -6,7 +6,7 @@ use Rattle.semantic_syntax.specs.Told.{source_of}
 use Rattle.semantic_tree.specs.Tree.{Tree}
 use Rattle.semantic_model.specs.Count.{probes_in_all}
 use Rattle.semantic_model.specs.Declaration.{Declaration}
-use Rattle.semantic_model.specs.Outcome.{header_probes, last_probes}
+use Rattle.semantic_syntax.specs.Outcome.{header_probes, last_probes}
 use Rattle.semantic_model.specs.Outward.{depth}
 use Rattle.semantic_model.specs.Step.{Step, header_ending, steps}
 use Rattle.walk_model.specs.WalkState.{WalkState}

@@ -8,7 +8,7 @@ use Rattle.semantic_tree.specs.Children.{node_count}
 use Rattle.semantic_tree.specs.Tree.{Tree}
 use Rattle.semantic_tree.specs.Views.{is}
 use Rattle.semantic_model.specs.Place.{Place, parent_holds}
-use Rattle.semantic_model.specs.Declaration.{contains}
+use Rattle.semantic_syntax.specs.Members.{contains}
 use Rattle.semantic_model.specs.Step.{Step, entering, steps}
 use Rattle.program_names.specs.Analysis.{Analysis, analysis_by, analysis_of}
 use Rattle.program_names.specs.Exported.{exported_names}

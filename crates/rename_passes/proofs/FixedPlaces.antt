@@ -9,7 +9,7 @@ use Rattle.semantic_tree.specs.declared.node.Node.{Node}
 use Rattle.semantic_tree.specs.declared.place.Place as placed
 use Rattle.semantic_tree.proofs.Faults.{or_else, first_where-append}
 use Rattle.semantic_model.specs.Cursor.{on_entering}
-use Rattle.semantic_model.specs.Declaration.{contains}
+use Rattle.semantic_syntax.specs.Members.{contains}
 use Rattle.semantic_model.specs.Inside.{opens, is_inside, any_inside, header_roles, is_in_header, scopes_in}
 use Rattle.semantic_tree.specs.Views.{has_role}
 use Rattle.semantic_model.specs.Place.{Place, OpenScope}

@@ -2,7 +2,7 @@
 use Rattle.std.proofs.Common.{◌≡◌, ◌||◌, ◌+◌, ◌<◌, ◌≤◌, ℕ, List, Bool, true, false, cond, nat_eq, length, drop, get_or, refl, ap, sym, ◌∙◌}
 use Rattle.std.proofs.Math.ListN.{drop_of_length-le}
 use Rattle.semantic_tree.proofs.Fits.{drop_here}
-use Rattle.semantic_model.specs.Declaration.{contains}
+use Rattle.semantic_syntax.specs.Members.{contains}
 
 or_true : (b : Bool) → (b || true) ≡ true
 or_true true = refl

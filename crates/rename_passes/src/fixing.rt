@@ -5,7 +5,7 @@ ghost use Rattle.std.specs.HashSet.{contains as has_key};
 ghost use Rattle.semantic_tree.specs.Children.{node_count};
 ghost use Rattle.semantic_tree.specs.Faults.{first_where};
 ghost use Rattle.semantic_tree.specs.Place.{placed_from};
-ghost use Rattle.semantic_model.specs.Declaration.{contains};
+ghost use Rattle.semantic_syntax.specs.Members.{contains};
 ghost use Rattle.semantic_model.specs.Step.{steps};
 ghost use Rattle.program_names.specs.Exported.{exported_names};
 ghost use Rattle.rename_passes.specs.Told.{told_by};

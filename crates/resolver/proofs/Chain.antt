@@ -1,8 +1,8 @@
 -- Walks outward from a scope.
-use Rattle.std.proofs.Common.{◌≡◌, ℕ, ◌<◌, ◌==◌, Bool, true, false, List, [], ◌∷◌, Option, None, Some, refl, sym, ap, ◌∙◌, zero, suc, length, arith}
-use Rattle.std.specs.List.{list_any}
+use Rattle.std.proofs.Common.{◌≡◌, ℕ, ◌<◌, ◌==◌, true, false, List, [], ◌∷◌, Option, None, Some, refl, sym, ap, ◌∙◌, zero, suc, length, arith}
 use Rattle.std.specs.Option.{option_map_or}
 use Rattle.semantic_syntax.specs.Source.{Source, chain_within, ends_within, chain, IsSource}
+use Rattle.semantic_syntax.specs.Members.{contains}
 
 -- a walk that ends within some steps is the same with one more
 chain_within-more : (parent : ℕ → Option ℕ) (count s : ℕ) → ends_within parent count s ≡ true → chain_within parent (suc count) s ≡ chain_within parent count s
@@ -49,29 +49,29 @@ module _ (source : Source) (s : ℕ) (below : s < source.scopes) where
   pub shorter : IsSource source → (p : ℕ) → source.parent s ≡ Some p → length (chain source p) < length (chain source s)
   shorter law p outer = omega (arith, ap length (chain-step law p outer))
 
--- the first of a list passes the test
-any_here : (p : ℕ → Bool) (s : ℕ) (ss : List ℕ) → p s ≡ true → list_any p (s ∷ ss) ≡ true
-any_here p s ss h = rw h refl
+-- the first of a list is the scope
+has_here : (s scope : ℕ) (ss : List ℕ) → (s == scope) ≡ true → contains (s ∷ ss) scope ≡ true
+has_here s scope ss h = rw h refl
 
-any_further : (p : ℕ → Bool) (s : ℕ) (ss : List ℕ) → p s ≡ false → list_any p (s ∷ ss) ≡ list_any p ss
-any_further p s ss h = rw h refl
+has_further : (s scope : ℕ) (ss : List ℕ) → (s == scope) ≡ false → contains (s ∷ ss) scope ≡ contains ss scope
+has_further s scope ss h = rw h refl
 
 -- a walk from `inner` in search of the scope has come to `at`
 pub record HasComeOut (source : Source) (inner scope at : ℕ) : Type 0 where
   pub within : at < source.scopes
-  pub rest : list_any (λ s. s == scope) (chain source inner) ≡ list_any (λ s. s == scope) (chain source at)
+  pub rest : contains (chain source inner) scope ≡ contains (chain source at) scope
 
 module _ (source : Source) (inner scope at : ℕ) (come : HasComeOut source inner scope at) where
-  pub out_found : (at == scope) ≡ true → true ≡ list_any (λ s. s == scope) (chain source inner)
+  pub out_found : (at == scope) ≡ true → true ≡ contains (chain source inner) scope
   out_found here =
       let begins = chain-begins source at come.within in
-      sym (come.rest ∙ ap (list_any (λ s. s == scope)) begins.1 ∙ any_here (λ s. s == scope) at begins.0 here)
+      sym (come.rest ∙ ap (λ ss. contains ss scope) begins.1 ∙ has_here at scope begins.0 here)
 
-  pub out_ended : (at == scope) ≡ false → source.parent at ≡ None → false ≡ list_any (λ s. s == scope) (chain source inner)
-  out_ended passed root = sym (come.rest ∙ ap (list_any (λ s. s == scope)) (chain-end source at come.within root) ∙ any_further (λ s. s == scope) at [] passed)
+  pub out_ended : (at == scope) ≡ false → source.parent at ≡ None → false ≡ contains (chain source inner) scope
+  out_ended passed root = sym (come.rest ∙ ap (λ ss. contains ss scope) (chain-end source at come.within root) ∙ has_further at scope [] passed)
 
   pub out_further : IsSource source → (p : ℕ) → (at == scope) ≡ false → source.parent at ≡ Some p → HasComeOut source inner scope p
   out_further law p passed outer = record {
     within = parent-within source at come.within law p outer;
-    rest = come.rest ∙ ap (list_any (λ s. s == scope)) (chain-step source at come.within law p outer) ∙ any_further (λ s. s == scope) at (chain source p) passed;
+    rest = come.rest ∙ ap (λ ss. contains ss scope) (chain-step source at come.within law p outer) ∙ has_further at scope (chain source p) passed;
   }

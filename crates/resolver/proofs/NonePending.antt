@@ -1,30 +1,24 @@
 -- In the end nothing waits.
-use Rattle.std.proofs.Common.{ℕ, Bool, true, false, IsTrue, List, [], ◌∷◌, Option, None, Some, All, map, refl, get_or, if◌then◌else◌}
-use Rattle.std.specs.Option.{option_map_or}
-use Rattle.std.specs.Str.{chars}
-use Rattle.std.proofs.lemmas.List.Elements.{All-map}
+use Rattle.std.proofs.Common.{◌≡◌, IsTrue, List, [], ◌∷◌, All, map, refl}
+use Rattle.std.proofs.lemmas.List.Elements.{All-nil, All-cons}
 use Rattle.semantic_syntax.specs.Source.{Source, chain}
-use Rattle.resolver.specs.declared.outcomes.Outcome.TheVariants.{Tied, Free}
-use Rattle.resolver.specs.declared.pending.UnresolvedReference.{UnresolvedReference}
-use Rattle.resolver.specs.Outward.{answer, tie, ends_after}
-use Rattle.resolver.specs.Settling.{is_settled, answered_or, last_outcome}
+use Rattle.semantic_syntax.specs.Lookup.{Lookup, tied, barred, unanswered}
+use Rattle.semantic_syntax.specs.Outcome.{is_free, outcome_or, lookup_along, last_outcome}
+use Rattle.semantic_syntax.specs.Outcome as model
+use Rattle.resolver.specs.declared.outcomes.Outcome.{Outcome}
+use Rattle.resolver.specs.declared.outcomes.Outcome.TheVariants.{Tied, Free, Pending}
+use Rattle.resolver.specs.Terms.{outcome_of, is_settled}
 
-answer_settled : (ties : ℕ → Option ℕ) (ends : ℕ → Bool) (ss : List ℕ) → IsTrue (is_settled (answered_or Free (answer ties ends ss)))
-unfolding answer
-answer_settled ties ends [] = refl
-answer_settled ties ends (s ∷ ss) = by (ties s) (ends s) (answer_settled ties ends ss)
-  where
-    by : (tied : Option ℕ) (ended : Bool) → IsTrue (is_settled (answered_or Free (answer ties ends ss)))
-        → IsTrue (is_settled (answered_or Free (option_map_or (λ y. Some (Tied y)) tied (if ended then Some Free else answer ties ends ss))))
-    by (Some y) ended rest = refl
-    by None true rest = refl
-    by None false rest = rest
+-- an outcome that is free where no scope answers doesn't wait
+settled_or_free : (o : Outcome) (l : Lookup) → outcome_of o ≡ outcome_or is_free l → IsTrue (is_settled o)
+settled_or_free (Tied y) l is = refl
+settled_or_free Free l is = refl
+settled_or_free (Pending s) (tied c y flags) is = absurd (cc)
+settled_or_free (Pending s) (barred c) is = absurd (cc)
+settled_or_free (Pending s) unanswered is = absurd (cc)
 
-last_settled : (source : Source) (u : UnresolvedReference) → IsTrue (is_settled (last_outcome source u))
-last_settled source u =
-    let x = chars u.name.text.now in
-    let w = source.way u.reference_id in
-    answer_settled (tie source x w) (ends_after source x w) (chain source u.lookup_scope_id)
-
-pub all_settled : (source : Source) (us : List UnresolvedReference) → All (λ o. IsTrue (is_settled o)) (map (last_outcome source) us)
-all_settled source us = All-map (λ o. IsTrue (is_settled o)) (last_outcome source) us (λ k d below. last_settled source (get_or us k d))
+pub all_settled : (source : Source) (os : List Outcome) (es : List model.Pending) → map outcome_of os ≡ map (last_outcome source) es → All (λ o. IsTrue (is_settled o)) os
+all_settled source [] es are = All-nil (λ (o : Outcome). IsTrue (is_settled o))
+all_settled source (o ∷ os) [] are = absurd (cc)
+all_settled source (o ∷ os) (e ∷ es) are =
+    All-cons (λ (o : Outcome). IsTrue (is_settled o)) o os (settled_or_free o (lookup_along source e (chain source e.lookup_scope)) (cc)) (all_settled source os es (cc))

@@ -1,3 +1,2 @@
-pub mod Outward
-pub mod Settling
 pub mod Staying
+pub mod Terms

@@ -1,13 +1,14 @@
 //! The look-up of one reference, scope by scope (ECMAScript 9.4.2, ResolveBinding, and 9.1.2.1,
 //! GetIdentifierReference; TypeScript's `resolveName`).
-ghost use Rattle.std.specs.Prelude.{◌≡◌, ◌<◌, ◌==◌, codes};
-ghost use Rattle.std.specs.List.{list_any};
+ghost use Rattle.std.specs.Prelude.{◌≡◌, ◌<◌, codes};
+ghost use Rattle.std.specs.Option.{option_map};
 ghost use Rattle.std.specs.Str.{bytes_eq, chars};
 ghost use Rattle.semantic_syntax.specs.Counts.{raised};
 ghost use Rattle.semantic_syntax.specs.Source.{Source, IsSource, TellsName, chain};
-ghost use Rattle.semantic_syntax.specs.Lookup.{is_arguments, fits};
-ghost use Rattle.resolver.specs.Outward.{tie, ends_at, ends_after};
-ghost use Rattle.resolver.specs.Settling.{answer_of, probes_of};
+ghost use Rattle.semantic_syntax.specs.Members.{contains};
+ghost use Rattle.semantic_syntax.specs.Lookup.{is_arguments, fits, ends_after};
+ghost use Rattle.semantic_syntax.specs.Outcome.{answered, lookup_along, probes_along};
+ghost use Rattle.resolver.specs.Terms.{outcome_of, pending_of, IsTied, ends_at, scopes_from};
 
 use crate::outcomes::Outcome;
 use crate::pending::UnresolvedReference;
@@ -49,7 +50,7 @@ fn tied_in<L, B: BindingSource<L>>(
     requires scope { scope < (B.meaning source.now).scopes }
     requires bound { TellsName (B.meaning source.now) (chars name.text.now) bound.now }
     requires law { IsSource (B.meaning source.now) }
-    ensures tie { result ≡ tie (B.meaning source.now) (chars name.entry.text.now) way.bits scope }
+    ensures tie { IsTied (B.meaning source.now) (chars name.entry.text.now) way.bits scope result }
     ensures step { steps.new ≡ raised steps.old 1 }
 {
     let symbol = bound.probe(scope, steps)?;
@@ -69,7 +70,7 @@ fn is_barrier<L, B: BindingSource<L>>(
     source: &B,
 ) -> bool
     requires { scope < (B.meaning source.now).scopes }
-    ensures { result ≡ ends_after (B.meaning source.now) (chars name.entry.text.now) way.bits scope }
+    ensures { result ≡ ends_after (chars name.entry.text.now) way.bits ((B.meaning source.now).scope_flags scope) }
 {
     let flags = source.flags_of_scope(scope);
     means_arguments(name, way) && flags.is_function() && !flags.is_arrow()
@@ -95,8 +96,8 @@ pub fn look_up<L, B: BindingSource<L>>(
 ) -> Option<Outcome>
     requires scope { pending.now.lookup_scope_id < (B.meaning source.now).scopes }
     requires reference { pending.now.reference_id < (B.meaning source.now).references }
-    ensures answer { result ≡ answer_of (B.meaning source.now) last pending.now }
-    ensures cost { steps.new ≡ raised steps.old (probes_of (B.meaning source.now) last pending.now) }
+    ensures answer { option_map outcome_of result ≡ answered (lookup_along (B.meaning source.now) (pending_of pending.now) (scopes_from (B.meaning source.now) last pending.now.lookup_scope_id)) }
+    ensures cost { steps.new ≡ raised steps.old (probes_along (B.meaning source.now) (pending_of pending.now) (scopes_from (B.meaning source.now) last pending.now.lookup_scope_id)) }
 {
     let way = source.way(pending.reference_id);
     let bound = source.bound_name(pending.name);
@@ -121,7 +122,7 @@ pub fn look_up<L, B: BindingSource<L>>(
 // Whether the scope `inner` is the scope or below it.
 pub fn is_within<L, B: BindingSource<L>>(inner: ScopeId, scope: ScopeId, source: &B) -> bool
     requires { inner < (B.meaning source.now).scopes }
-    ensures { result ≡ list_any (λ s. s == scope) (chain (B.meaning source.now) inner) }
+    ensures { result ≡ contains (chain (B.meaning source.now) inner) scope }
 {
     let mut at = inner;
     loop {

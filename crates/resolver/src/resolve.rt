@@ -3,7 +3,8 @@ ghost use Rattle.std.specs.Prelude.{◌≡◌, ◌<◌, ◌≤◌, map, drop, If
 ghost use Rattle.std.specs.List.{sum_by};
 ghost use Rattle.semantic_syntax.specs.Counts.{raised};
 ghost use Rattle.semantic_syntax.specs.Source.{Source};
-ghost use Rattle.resolver.specs.Settling.{outside as pending_outside, header_outcome, header_probes, last_outcome, last_probes, is_settled};
+ghost use Rattle.semantic_syntax.specs.Outcome.{waits_outside, header_outcome, header_probes, last_outcome, last_probes};
+ghost use Rattle.resolver.specs.Terms.{outcome_of, pending_of, is_settled};
 
 use crate::lookup::{is_within, look_up};
 use crate::outcomes::{Outcome, Outcomes};
@@ -15,7 +16,7 @@ use std::alloc::{AllocError, Global};
 // What becomes of a reference that no scope up to this one answers: it waits in the parent.
 fn outside<L, B: BindingSource<L>>(scope: ScopeId, source: &B) -> Outcome
     requires { scope < (B.meaning source.now).scopes }
-    ensures { result ≡ pending_outside (B.meaning source.now) scope }
+    ensures { outcome_of result ≡ waits_outside (B.meaning source.now) scope }
 {
     match source.parent(scope) {
         Some(parent) => Outcome::Pending(parent),
@@ -34,8 +35,8 @@ fn resolve_in_header<L, B: BindingSource<L>>(
     requires scope { scope < (B.meaning source.now).scopes }
     requires lookup_scope { entry.now.lookup_scope_id < (B.meaning source.now).scopes }
     requires reference { entry.now.reference_id < (B.meaning source.now).references }
-    ensures outcome { result ≡ header_outcome (B.meaning source.now) scope entry.now }
-    ensures cost { steps.new ≡ raised steps.old (header_probes (B.meaning source.now) scope entry.now) }
+    ensures outcome { outcome_of result ≡ header_outcome (B.meaning source.now) scope (pending_of entry.now) }
+    ensures cost { steps.new ≡ raised steps.old (header_probes (B.meaning source.now) scope (pending_of entry.now)) }
 {
     if !is_within(entry.lookup_scope_id, scope, source) {
         return Outcome::Pending(entry.lookup_scope_id);
@@ -54,8 +55,8 @@ fn resolve_last<L, B: BindingSource<L>>(
 ) -> Outcome
     requires lookup_scope { entry.now.lookup_scope_id < (B.meaning source.now).scopes }
     requires reference { entry.now.reference_id < (B.meaning source.now).references }
-    ensures outcome { result ≡ last_outcome (B.meaning source.now) entry.now }
-    ensures cost { steps.new ≡ raised steps.old (last_probes (B.meaning source.now) entry.now) }
+    ensures outcome { outcome_of result ≡ last_outcome (B.meaning source.now) (pending_of entry.now) }
+    ensures cost { steps.new ≡ raised steps.old (last_probes (B.meaning source.now) (pending_of entry.now)) }
 {
     match look_up(entry, None, source, steps) {
         Some(outcome) => outcome,
@@ -79,10 +80,10 @@ pub fn resolve_header<L, B: BindingSource<L>>(
     requires scope { scope < (B.meaning source.now).scopes }
     requires lookup_scopes { All (λ u. u.lookup_scope_id < (B.meaning source.now).scopes) (drop start pending.now) }
     requires references { All (λ u. u.reference_id < (B.meaning source.now).references) (drop start pending.now) }
-    ensures outcomes { IfOk result (λ v. v ≡ map (header_outcome (B.meaning source.now) scope) (drop start pending.now)) }
-    ensures cost { OnOk result (steps.new ≡ raised steps.old (sum_by (header_probes (B.meaning source.now) scope) (drop start pending.now))) }
+    ensures outcomes { IfOk result (λ v. map outcome_of v ≡ map (header_outcome (B.meaning source.now) scope) (map pending_of (drop start pending.now))) }
+    ensures cost { OnOk result (steps.new ≡ raised steps.old (sum_by (header_probes (B.meaning source.now) scope) (map pending_of (drop start pending.now)))) }
     ensures risen { steps.old ≤ steps.new }
-    ensures given_up { OnErr result (steps.new ≤ raised steps.old (sum_by (header_probes (B.meaning source.now) scope) (drop start pending.now))) }
+    ensures given_up { OnErr result (steps.new ≤ raised steps.old (sum_by (header_probes (B.meaning source.now) scope) (map pending_of (drop start pending.now)))) }
 {
     let mut outcomes = Outcomes::new(alloc);
     for entry in pending.entries_from(start) {
@@ -104,11 +105,11 @@ pub fn resolve_all<L, B: BindingSource<L>>(
 ) -> Result<Outcomes, AllocError>
     requires lookup_scopes { All (λ u. u.lookup_scope_id < (B.meaning source.now).scopes) pending.now }
     requires references { All (λ u. u.reference_id < (B.meaning source.now).references) pending.now }
-    ensures outcomes { IfOk result (λ v. v ≡ map (last_outcome (B.meaning source.now)) pending.now) }
+    ensures outcomes { IfOk result (λ v. map outcome_of v ≡ map (last_outcome (B.meaning source.now)) (map pending_of pending.now)) }
     ensures settled { IfOk result (All (λ o. IsTrue (is_settled o))) }
-    ensures cost { OnOk result (steps.new ≡ raised steps.old (sum_by (last_probes (B.meaning source.now)) pending.now)) }
+    ensures cost { OnOk result (steps.new ≡ raised steps.old (sum_by (last_probes (B.meaning source.now)) (map pending_of pending.now))) }
     ensures risen { steps.old ≤ steps.new }
-    ensures given_up { OnErr result (steps.new ≤ raised steps.old (sum_by (last_probes (B.meaning source.now)) pending.now)) }
+    ensures given_up { OnErr result (steps.new ≤ raised steps.old (sum_by (last_probes (B.meaning source.now)) (map pending_of pending.now))) }
 {
     let mut outcomes = Outcomes::new(alloc);
     for entry in pending.entries_from(0) {

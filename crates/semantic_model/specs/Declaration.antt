@@ -1,7 +1,8 @@
 -- A declaration of a name, from the scope where it stands to the scope that is to bind it.
-use Rattle.std.specs.Prelude.{◌≡◌, ℕ, ◌==◌, List, [], ◌∷◌, ◌++◌, Bool, true, false, ◌||◌, Option, Some, None, cond, map}
+use Rattle.std.specs.Prelude.{◌≡◌, ℕ, List, [], ◌∷◌, ◌++◌, Bool, true, Option, Some, None, cond, map}
 use Rattle.semantic_syntax.specs.declared.spans.Span.{Span}
 use Rattle.semantic_syntax.specs.Tables.{Name}
+use Rattle.semantic_syntax.specs.Members.{contains}
 use Rattle.semantic_model.specs.Place.{OpenScope, innermost}
 
 -- how a declaration comes to its symbol
@@ -53,10 +54,6 @@ home d = body_or d.target.number d.target.body
 -- the scopes from where it stands to its home
 abbrev pub path : Declaration → List ℕ
 path d = map (λ s. s.number) d.passed ++ d.target.number ∷ body_list d.target.body
-
-abbrev pub contains : List ℕ → ℕ → Bool
-contains [] n = false
-contains (m ∷ ms) n = m == n || contains ms n
 
 -- two declarations of one name whose paths share a scope
 pub record Meets (d e : Declaration) : Type 0 where

@@ -7,7 +7,8 @@ use Rattle.semantic_tree.specs.Tree.{Tree}
 use Rattle.semantic_model.specs.Place.{OpenScope, innermost}
 use Rattle.semantic_model.specs.Step.{steps}
 use Rattle.semantic_model.specs.Reference.{Occurrence, references}
-use Rattle.semantic_model.specs.Declaration.{Declaration, Meets, home, path, contains}
+use Rattle.semantic_model.specs.Declaration.{Declaration, Meets, home, path}
+use Rattle.semantic_syntax.specs.Members.{contains}
 use Rattle.semantic_model.specs.Event.{events, declarations}
 use Rattle.semantic_model.specs.FreeNames.{free_references}
 use Rattle.semantic_model.specs.TablesOf.{scopes}

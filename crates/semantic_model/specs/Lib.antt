@@ -22,7 +22,6 @@ pub mod Outward
 pub mod Entries
 pub mod Fits
 pub mod Moment
-pub mod Outcome
 pub mod Swap
 pub mod Count
 pub mod Element

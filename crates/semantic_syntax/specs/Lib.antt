@@ -9,3 +9,5 @@ pub mod Source
 pub mod Reading
 pub mod Told
 pub mod Lookup
+pub mod Members
+pub mod Outcome

@@ -9,7 +9,7 @@ use Rattle.semantic_model.specs.Place.{Place, OpenScope}
 use Rattle.semantic_model.specs.Inside.{opens, is_inside, any_inside, header_roles, is_in_header}
 use Rattle.semantic_model.specs.ScopeKind.{opened_scope}
 use Rattle.semantic_model.specs.Declaration.{Declaration}
-use Rattle.semantic_model.specs.Outcome.{header_outcome}
+use Rattle.semantic_syntax.specs.Outcome.{header_outcome}
 use Rattle.semantic_model.specs.Step.{opening, opening_at, scope_at, ending_after, opening_last}
 use Rattle.walk_model.specs.WalkState.{WalkState}
 use Rattle.walk_model.specs.Opens.{close_scope}

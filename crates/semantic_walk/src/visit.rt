@@ -13,7 +13,7 @@ ghost use Rattle.semantic_model.specs.Declaration.{Declaration};
 ghost use Rattle.semantic_model.specs.Step.{opening, opening_at, scope_at, child_place, ending_after, opening_last};
 ghost use Rattle.semantic_model.specs.Ambient.{ambient_inside, ambient_round};
 ghost use Rattle.semantic_model.specs.Cursor.{cursor_before, cursor_behind};
-ghost use Rattle.semantic_model.specs.Outcome.{header_outcome};
+ghost use Rattle.semantic_syntax.specs.Outcome.{header_outcome};
 ghost use Rattle.walk_model.specs.Opens.{close_scope};
 ghost use Rattle.walk_model.specs.Walks.{after, after_all};
 ghost use Rattle.walk_model.specs.Shown.{ShowsChain, HasVar};

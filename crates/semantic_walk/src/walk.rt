@@ -14,7 +14,7 @@ ghost use Rattle.semantic_model.specs.Event.{is_catch_body};
 ghost use Rattle.semantic_model.specs.ScopeKind.{opened_scope};
 ghost use Rattle.semantic_model.specs.Step.{opening, steps};
 ghost use Rattle.semantic_model.specs.TablesOf.{is_direct_eval};
-ghost use Rattle.semantic_model.specs.Outcome.{header_outcome};
+ghost use Rattle.semantic_syntax.specs.Outcome.{header_outcome};
 ghost use Rattle.walk_model.specs.Settles.{settle_rest};
 ghost use Rattle.walk_model.specs.Shown.{ShowsChain, HasVar};
 ghost use Rattle.walk_model.specs.Walks.{after};

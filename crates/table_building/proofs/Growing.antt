@@ -8,7 +8,7 @@ use Rattle.semantic_syntax.specs.Reading.{bindings_of}
 use Rattle.scoping.specs.Writing.{taken_over}
 use Rattle.count_laws.proofs.Growth.{homes_count}
 use Rattle.semantic_model.specs.Binding.{Binding, is_of, get, put}
-use Rattle.semantic_model.specs.Outcome.{Pending}
+use Rattle.semantic_syntax.specs.Outcome.{Pending}
 use Rattle.table_building.specs.Growth.{Grows, Goes}
 use Rattle.walk_model.specs.WalkState.{WalkState}
 use Rattle.table_building.specs.Made.{AreSymbols}

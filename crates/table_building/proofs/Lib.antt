@@ -5,8 +5,6 @@ pub mod Passing
 pub mod Growing
 pub mod Waiting
 pub mod Settling
-pub mod Bridging
-pub mod Asking
 pub mod Outside
 pub mod EachName
 pub mod Rooms

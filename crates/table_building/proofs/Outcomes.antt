@@ -1,18 +1,17 @@
 -- Over a lawful source each outcome names a symbol or a scope that exists.
-use Rattle.std.proofs.Common.{ℕ, zero, suc, ◌==◌, ◌<◌, Bool, true, false, if◌then◌else◌, List, [], ◌∷◌, Option, None, Some, IfSome}
+use Rattle.std.proofs.Common.{ℕ, zero, suc, ◌==◌, ◌<◌, Bool, true, false, cond, List, [], ◌∷◌, Option, None, Some, IfSome, map}
 use Rattle.std.specs.List.{AllByRecursion}
 use Rattle.std.specs.Option.{option_map_or}
 use Rattle.semantic_syntax.specs.Tables.{Name}
-use Rattle.semantic_syntax.specs.Source.{Source, IsSource, chain_within}
-use Rattle.resolver.specs.declared.outcomes.Outcome.{Outcome}
-use Rattle.resolver.specs.declared.outcomes.Outcome.TheVariants.{Tied, Free, Pending}
-use Rattle.resolver.specs.declared.pending.UnresolvedReference.{UnresolvedReference}
-use Rattle.semantic_syntax.specs.Lookup.{fits}
-use Rattle.resolver.specs.Outward.{tie, ends_after, answer, up_to, up_to_last}
-use Rattle.resolver.specs.Settling.{answer_of, answered_or, outside, header_outcome, last_outcome, waits_within}
-use Rattle.table_building.specs.Settled.{IsOutcomeWithin, IsAnswerWithin}
+use Rattle.semantic_syntax.specs.Source.{Source, IsSource, chain, chain_within}
+use Rattle.semantic_syntax.specs.Lookup.{Lookup, tied, barred, unanswered, fits, ends_after, tied_by, or_lookup, lookup}
+use Rattle.semantic_syntax.specs.Outcome.{Pending, Outcome, waits, is_free, up_to, answer, answered, outcome_or, lookup_along, waits_outside, is_below, header_outcome, last_outcome}
+use Rattle.table_building.specs.Settled.{IsOutcomeWithin}
 
 module _ (source : Source) (law : IsSource source) where
+  abbrev exists : Outcome → Type 0
+  exists = IsOutcomeWithin source.symbols source.scopes
+
   -- the scopes outward exist
   pub chain_within-below : (n s : ℕ) → s < source.scopes → AllByRecursion (λ c. c < source.scopes) (chain_within source.parent n s)
   unfolding chain_within
@@ -26,70 +25,59 @@ module _ (source : Source) (law : IsSource source) where
       outward (Some p) h' further = further p h'
 
   up_to-below : (last : ℕ) (ss : List ℕ) → AllByRecursion (λ c. c < source.scopes) ss → AllByRecursion (λ c. c < source.scopes) (up_to last ss)
-  unfolding up_to
   up_to-below last [] h = tt
   up_to-below last (s ∷ ss) h = (h.0, by (s == last) (up_to-below last ss h.1))
     where
-      by : (b : Bool) → AllByRecursion (λ c. c < source.scopes) (up_to last ss) → AllByRecursion (λ c. c < source.scopes) (if b then [] else up_to last ss)
+      by : (b : Bool) → AllByRecursion (λ c. c < source.scopes) (up_to last ss) → AllByRecursion (λ c. c < source.scopes) (cond b [] (up_to last ss))
       by true further = tt
       by false further = further
 
-  up_to_last-below : (last : Option ℕ) (ss : List ℕ) → AllByRecursion (λ c. c < source.scopes) ss → AllByRecursion (λ c. c < source.scopes) (up_to_last last ss)
-  up_to_last-below None ss h = h
-  up_to_last-below (Some last) ss h = up_to-below last ss h
-
-  -- a symbol to which a scope ties a reference exists
-  tie-below : (x : Name) (w s : ℕ) → s < source.scopes → IfSome (tie source x w s) (λ y. y < source.symbols)
-  tie-below x w s h = by (source.bound s x) (law.bound_symbols s x h)
+  -- what scopes that exist answer exists
+  found-below : (x : Name) (w : ℕ) (ss : List ℕ) → AllByRecursion (λ c. c < source.scopes) ss → IfSome (answered (lookup x w (map (answer source x) ss))) exists
+  found-below x w [] h = tt
+  found-below x w (s ∷ ss) h = by (source.bound s x) (law.bound_symbols s x h.0) (ends_after x w (source.scope_flags s)) (found-below x w ss h.1)
     where
-      fitting-below : (y : ℕ) (b : Bool) → y < source.symbols → IfSome (if b then Some y else None) (λ z. z < source.symbols)
-      fitting-below y true h' = h'
-      fitting-below y false h' = tt
+      later : Lookup
+      later = lookup x w (map (answer source x) ss)
 
-      by : (o : Option ℕ) → IfSome o (λ y. y < source.symbols) → IfSome (tie (record source { bound = λ c z. o }) x w s) (λ y. y < source.symbols)
-      by None h' = tt
-      by (Some y) h' = fitting-below y (fits x w (source.symbol_flags y)) h'
+      further : (b : Bool) → IfSome (answered later) exists → IfSome (answered (cond b (barred s) later)) exists
+      further true rest = tt
+      further false rest = rest
 
-  -- so what is answered exists
-  answer-below : (x : Name) (w : ℕ) (ss : List ℕ) → AllByRecursion (λ c. c < source.scopes) ss
-      → IsAnswerWithin source.symbols source.scopes (answer (tie source x w) (ends_after source x w) ss)
-  unfolding answer
-  answer-below x w [] h = tt
-  answer-below x w (s ∷ ss) h = by (tie source x w s) (tie-below x w s h.0) (ends_after source x w s) (answer-below x w ss h.1)
-    where
-      further : (b : Bool) → IsAnswerWithin source.symbols source.scopes (answer (tie source x w) (ends_after source x w) ss)
-          → IsAnswerWithin source.symbols source.scopes (if b then Some Free else answer (tie source x w) (ends_after source x w) ss)
-      further true later = tt
-      further false later = later
+      fitting : (y : ℕ) (t b : Bool) → y < source.symbols → IfSome (answered later) exists
+          → IfSome (answered (or_lookup (cond t (Some (tied s y (source.symbol_flags y))) None) (cond b (barred s) later))) exists
+      fitting y true b h' rest = h'
+      fitting y false b h' rest = further b rest
 
-      by : (o : Option ℕ) → IfSome o (λ y. y < source.symbols) → (b : Bool)
-          → IsAnswerWithin source.symbols source.scopes (answer (tie source x w) (ends_after source x w) ss)
-          → IsAnswerWithin source.symbols source.scopes (option_map_or (λ y. Some (Tied y)) o (if b then Some Free else answer (tie source x w) (ends_after source x w) ss))
-      by None h' b later = further b later
-      by (Some y) h' b later = h'
+      by : (o : Option ℕ) → IfSome o (λ y. y < source.symbols) → (b : Bool) → IfSome (answered later) exists
+          → IfSome (answered (or_lookup (tied_by x w s (option_map_or (λ y. Some (record { symbol = y; flags = source.symbol_flags y })) o None)) (cond b (barred s) later))) exists
+      by None h' b rest = further b rest
+      by (Some y) h' b rest = fitting y (fits x w (source.symbol_flags y)) b h' rest
 
-  answer_of-below : (last : Option ℕ) (u : UnresolvedReference) → u.lookup_scope_id < source.scopes → IsAnswerWithin source.symbols source.scopes (answer_of source last u)
-  answer_of-below last u h = answer-below _ (source.way u.reference_id) _ (up_to_last-below last _ (chain_within-below source.scopes u.lookup_scope_id h))
+  outcome_or-below : (other : Outcome) (l : Lookup) → exists other → IfSome (answered l) exists → exists (outcome_or other l)
+  outcome_or-below other (tied c y flags) h h' = h'
+  outcome_or-below other (barred c) h h' = tt
+  outcome_or-below other unanswered h h' = h
 
-  answered : (other : Outcome) (o : Option Outcome) → IsOutcomeWithin source.symbols source.scopes other → IsAnswerWithin source.symbols source.scopes o
-      → IsOutcomeWithin source.symbols source.scopes (answered_or other o)
-  answered other None h h' = h
-  answered other (Some outcome) h h' = h'
-
-  outside-below : (scope : ℕ) → scope < source.scopes → IsOutcomeWithin source.symbols source.scopes (outside source scope)
+  outside-below : (scope : ℕ) → scope < source.scopes → exists (waits_outside source scope)
   outside-below scope h = by (source.parent scope) (law.parents scope h)
     where
-      by : (o : Option ℕ) → IfSome o (λ p. p < source.scopes) → IsOutcomeWithin source.symbols source.scopes (option_map_or (λ p. Pending p) o Free)
+      by : (o : Option ℕ) → IfSome o (λ p. p < source.scopes) → exists (option_map_or waits o is_free)
       by None h' = tt
       by (Some p) h' = h'
 
-  pub header_outcome-below : (scope : ℕ) (u : UnresolvedReference) → scope < source.scopes → u.lookup_scope_id < source.scopes
-      → IsOutcomeWithin source.symbols source.scopes (header_outcome source scope u)
-  header_outcome-below scope u h h' = by (waits_within source scope u)
+  pub header_outcome-below : (scope : ℕ) (e : Pending) → scope < source.scopes → e.lookup_scope < source.scopes → exists (header_outcome source scope e)
+  header_outcome-below scope e h h' = by (is_below source scope e)
     where
-      by : (b : Bool) → IsOutcomeWithin source.symbols source.scopes (if b then answered_or (outside source scope) (answer_of source (Some scope) u) else Pending u.lookup_scope_id)
-      by true = answered _ _ (outside-below scope h) (answer_of-below (Some scope) u h')
+      scopes : List ℕ
+      scopes = up_to scope (chain source e.lookup_scope)
+
+      by : (b : Bool) → exists (cond b (outcome_or (waits_outside source scope) (lookup_along source e scopes)) (waits e.lookup_scope))
+      by true = outcome_or-below (waits_outside source scope) (lookup_along source e scopes) (outside-below scope h)
+          (found-below e.name (source.way e.reference) scopes (up_to-below scope _ (chain_within-below source.scopes e.lookup_scope h')))
       by false = h'
 
-  pub last_outcome-below : (u : UnresolvedReference) → u.lookup_scope_id < source.scopes → IsOutcomeWithin source.symbols source.scopes (last_outcome source u)
-  last_outcome-below u h = answered Free (answer_of source None u) tt (answer_of-below None u h)
+  pub last_outcome-below : (e : Pending) → e.lookup_scope < source.scopes → exists (last_outcome source e)
+  last_outcome-below e h =
+      outcome_or-below is_free (lookup_along source e (chain source e.lookup_scope)) tt
+      (found-below e.name (source.way e.reference) (chain source e.lookup_scope) (chain_within-below source.scopes e.lookup_scope h))

@@ -6,11 +6,12 @@ use Rattle.semantic_syntax.specs.Tables.{Tables}
 use Rattle.resolver.specs.declared.outcomes.Outcome.{Outcome}
 use Rattle.resolver.specs.declared.pending.UnresolvedReference.{UnresolvedReference}
 use Rattle.resolver.specs.Staying.{staying}
-use Rattle.semantic_model.specs.Outcome as model
+use Rattle.resolver.specs.Terms.{outcome_of, pending_of}
+use Rattle.semantic_syntax.specs.Outcome as model
 use Rattle.walk_model.specs.WalkState.{WalkState}
 use Rattle.walk_model.specs.Settles.{settle, settle_one}
-use Rattle.table_building.specs.Made.{walk_state, pending_of}
-use Rattle.table_building.specs.Settled.{outcome_of, no_pending, settled_from}
+use Rattle.table_building.specs.Made.{walk_state}
+use Rattle.table_building.specs.Settled.{no_pending, settled_from}
 use Rattle.table_building.specs.declared.declared.Declared.TheInside.{Inside}
 use Rattle.table_building.proofs.Passing.{drop_here}
 use Rattle.table_building.proofs.Waiting.{applied_same}

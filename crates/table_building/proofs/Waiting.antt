@@ -1,19 +1,20 @@
 -- References that wait, in tables that grow.
-use Rattle.std.proofs.Common.{◌≡◌, ℕ, zero, suc, ◌<◌, List, [], ◌∷◌, ◌++◌, length, take, drop, map, Some, None, All, arith, get_or, Result, Ok, Err, IfOk, subst, sym, refl, ap, slice_get, slice_index_or}
-use Rattle.std.proofs.lemmas.List.Elements.{All-nil, All-cons, All-head, All-tail, All-map}
-use Rattle.semantic_syntax.specs.Source.{Source, IsSource}
-use Rattle.resolver.specs.Settling.{header_outcome, last_outcome}
+use Rattle.std.proofs.Common.{◌≡◌, ℕ, zero, suc, ◌<◌, List, [], ◌∷◌, ◌++◌, length, take, drop, map, Some, None, All, arith, get_or, subst, refl, ap, slice_get, slice_index_or}
+use Rattle.std.proofs.lemmas.List.Elements.{All-nil, All-cons, All-head, All-tail}
+use Rattle.semantic_syntax.specs.Source.{IsSource}
+use Rattle.semantic_syntax.specs.Told.{source_of}
 use Rattle.table_building.proofs.Outcomes.{header_outcome-below, last_outcome-below}
 use Rattle.semantic_syntax.specs.Tables.{Tables}
 use Rattle.resolver.specs.declared.outcomes.Outcome.{Outcome}
 use Rattle.resolver.specs.declared.outcomes.Outcome.TheVariants.{Tied, Free, Pending}
 use Rattle.resolver.specs.declared.pending.UnresolvedReference.{UnresolvedReference}
 use Rattle.resolver.specs.Staying.{staying as staying_of}
-use Rattle.semantic_model.specs.Outcome.{Pending as Waiting}
+use Rattle.resolver.specs.Terms.{outcome_of, pending_of}
+use Rattle.semantic_syntax.specs.Outcome.{Pending as Waiting, header_outcome, last_outcome}
+use Rattle.semantic_syntax.specs.Outcome as model
 use Rattle.walk_model.specs.Settles.{staying}
 use Rattle.table_building.specs.Growth.{Grows}
-use Rattle.table_building.specs.Made.{pending_of}
-use Rattle.table_building.specs.Settled.{IsOutcomeWithin, outcome_of, no_pending}
+use Rattle.table_building.specs.Settled.{IsOutcomeWithin, no_pending}
 use Rattle.table_building.specs.Waiting.{AreWaiting}
 
 pub waiting_drop : (t : Tables) (n : ℕ) (es : List Waiting) → AreWaiting t es → AreWaiting t (drop n es)
@@ -55,11 +56,6 @@ staying_same (u ∷ us) (Tied y ∷ os) = staying_same us os
 staying_same (u ∷ us) (Free ∷ os) = staying_same us os
 staying_same (u ∷ us) (Pending s ∷ os) = ap (λ es. record (pending_of u) { lookup_scope = s } ∷ es) (staying_same us os)
 
-pub drop_same : (n : ℕ) (us : List UnresolvedReference) → map pending_of (drop n us) ≡ drop n (map pending_of us)
-drop_same zero us = refl
-drop_same (suc n) [] = refl
-drop_same (suc n) (u ∷ us) = drop_same n us
-
 -- references with outcomes from a place on
 pub applied_same : (n : ℕ) (us : List UnresolvedReference) (os : List Outcome)
     → map pending_of (take n us ++ staying_of (drop n us) os) ≡ take n (map pending_of us) ++ staying (drop n (map pending_of us)) (map outcome_of os)
@@ -68,11 +64,11 @@ applied_same (suc n) [] os = refl
 applied_same (suc n) (u ∷ us) os = ap (λ es. pending_of u ∷ es) (applied_same n us os)
 
 -- what the outcome names exists in the tables
-abbrev outcome_exists : Tables → Outcome → Type 0
-outcome_exists t = IsOutcomeWithin (length t.symbols) (length t.scopes)
+abbrev pub outcome_exists : Tables → Outcome → Type 0
+outcome_exists t o = IsOutcomeWithin (length t.symbols) (length t.scopes) (outcome_of o)
 
 waiting_staying : (t : Tables) (us : List UnresolvedReference) (os : List Outcome) → AreWaiting t (map pending_of us)
-    → All (IsOutcomeWithin (length t.symbols) (length t.scopes)) os → AreWaiting t (map pending_of (staying_of us os))
+    → All (outcome_exists t) os → AreWaiting t (map pending_of (staying_of us os))
 waiting_staying t [] os h w = tt
 waiting_staying t (u ∷ us) [] h w = tt
 waiting_staying t (u ∷ us) (Tied y ∷ os) h w = waiting_staying t us os h.1 (All-tail (outcome_exists t) (Tied y) os w)
@@ -81,30 +77,32 @@ waiting_staying t (u ∷ us) (Pending s ∷ os) h w =
     (record { scope = All-head (outcome_exists t) (Pending s) os w; reference = h.0.reference }, waiting_staying t us os h.1 (All-tail (outcome_exists t) (Pending s) os w))
 
 pub waiting_applied : (t : Tables) (n : ℕ) (us : List UnresolvedReference) (os : List Outcome) → AreWaiting t (map pending_of us)
-    → All (IsOutcomeWithin (length t.symbols) (length t.scopes)) os → AreWaiting t (map pending_of (take n us ++ staying_of (drop n us) os))
+    → All (outcome_exists t) os → AreWaiting t (map pending_of (take n us ++ staying_of (drop n us) os))
 waiting_applied t zero us os h w = waiting_staying t us os h w
 waiting_applied t (suc n) [] os h w = tt
 waiting_applied t (suc n) (u ∷ us) os h w = (h.0, waiting_applied t n us os h.1 w)
 
-pub outcomes-grow : (t u : Tables) (os : List Outcome) → Grows t u
-    → All (IsOutcomeWithin (length t.symbols) (length t.scopes)) os → All (IsOutcomeWithin (length u.symbols) (length u.scopes)) os
+pub outcomes-grow : (t u : Tables) (os : List Outcome) → Grows t u → All (outcome_exists t) os → All (outcome_exists u) os
 outcomes-grow t u os g w = λ k d within. grown (get_or os k d) (w k d within)
   where
-    grown : (o : Outcome) → IsOutcomeWithin (length t.symbols) (length t.scopes) o → IsOutcomeWithin (length u.symbols) (length u.scopes) o
+    grown : (o : Outcome) → outcome_exists t o → outcome_exists u o
     grown (Tied y) h = omega (arith, g.symbols, h)
     grown Free h = tt
     grown (Pending s) h = omega (arith, g.scopes, h)
 
-module _ (source : Source) (law : IsSource source) where
-  pub header-within : (scope : ℕ) (us : List UnresolvedReference) → scope < source.scopes → All (λ u. u.lookup_scope_id < source.scopes) us
-      → All (IsOutcomeWithin source.symbols source.scopes) (map (header_outcome source scope) us)
-  header-within scope us h below = All-map (IsOutcomeWithin source.symbols source.scopes) (header_outcome source scope) us (λ k d within. header_outcome-below source law scope (get_or us k d) h (below k d within))
+-- outcomes that name what exists in the tables, as each one of a definition does
+are-within : (t : Tables) (outcome : Waiting → model.Outcome) (os : List Outcome) (es : List Waiting)
+    → ((e : Waiting) → e.lookup_scope < length t.scopes → IsOutcomeWithin (length t.symbols) (length t.scopes) (outcome e)) → AreWaiting t es
+    → map outcome_of os ≡ map outcome es → All (outcome_exists t) os
+are-within t outcome [] es k h is = All-nil (outcome_exists t)
+are-within t outcome (o ∷ os) [] k h is = absurd (cc)
+are-within t outcome (o ∷ os) (e ∷ es) k h is =
+    let first : outcome e ≡ outcome_of o = cc in
+    All-cons (outcome_exists t) o os (subst (IsOutcomeWithin (length t.symbols) (length t.scopes)) first (k e h.0.scope)) (are-within t outcome os es k h.1 (cc))
 
-  pub last-within : (us : List UnresolvedReference) → All (λ u. u.lookup_scope_id < source.scopes) us
-      → All (IsOutcomeWithin source.symbols source.scopes) (map (last_outcome source) us)
-  last-within us below = All-map (IsOutcomeWithin source.symbols source.scopes) (last_outcome source) us (λ k d within. last_outcome-below source law (get_or us k d) (below k d within))
+module _ (t : Tables) (law : IsSource (source_of t)) (os : List Outcome) (es : List Waiting) (h : AreWaiting t es) where
+  pub header-within : (scope : ℕ) → scope < length t.scopes → map outcome_of os ≡ map (header_outcome (source_of t) scope) es → All (outcome_exists t) os
+  header-within scope l = are-within t (header_outcome (source_of t) scope) os es (λ e k. header_outcome-below (source_of t) law scope e l k) h
 
--- what is said of the one value that an answer may have
-pub if_ok_is : {X E : Type 0} (r : Result X E) (P : X → Type 0) (x : X) → IfOk r (λ v. v ≡ x) → P x → IfOk r P
-if_ok_is (Ok v) P x e p = subst P (sym e) p
-if_ok_is (Err e) P x h p = tt
+  pub last-within : map outcome_of os ≡ map (last_outcome (source_of t)) es → All (outcome_exists t) os
+  last-within = are-within t (last_outcome (source_of t)) os es (λ e k. last_outcome-below (source_of t) law e k) h

@@ -1,16 +1,11 @@
 -- What the walk has made so far, in the words of its definition.
 use Rattle.std.specs.Prelude.{ℕ, ◌<◌, List, map, length}
 use Rattle.std.specs.List.{AllByRecursion}
-use Rattle.scoping.specs.Names.{name_of}
-use Rattle.resolver.specs.declared.pending.UnresolvedReference.{UnresolvedReference}
+use Rattle.resolver.specs.Terms.{pending_of}
 use Rattle.semantic_model.specs.Binding.{Binding}
-use Rattle.semantic_model.specs.Outcome.{Pending}
 use Rattle.walk_model.specs.WalkState.{WalkState}
 use Rattle.table_building.specs.Waiting.{AreWaiting}
 use Rattle.table_building.specs.declared.declared.Declared.TheInside.{Inside}
-
-abbrev pub pending_of : UnresolvedReference → Pending
-pending_of u = record { name = name_of u.name; reference = u.reference_id; lookup_scope = u.lookup_scope_id }
 
 abbrev pub walk_state : Inside → WalkState
 walk_state d = record {

@@ -2,7 +2,7 @@
 use Rattle.std.specs.Prelude.{◌<◌, List, length}
 use Rattle.std.specs.List.{AllByRecursion}
 use Rattle.semantic_syntax.specs.Tables.{Tables}
-use Rattle.semantic_model.specs.Outcome.{Pending}
+use Rattle.semantic_syntax.specs.Outcome.{Pending}
 
 -- the reference stands in the tables, and its look-up scope too
 pub record IsWaiting (t : Tables) (e : Pending) : Type 0 where

@@ -4,11 +4,11 @@ ghost use Rattle.std.specs.Prelude.{◌≡◌, ◌+◌, ◌<◌, ◌≤◌, leng
 ghost use Rattle.std.specs.List.{sum_by};
 ghost use Rattle.semantic_syntax.specs.Counts.{raised};
 ghost use Rattle.semantic_syntax.specs.Told.{source_of};
-ghost use Rattle.semantic_model.specs.Outcome.{header_outcome, last_outcome, last_probes};
+ghost use Rattle.semantic_syntax.specs.Outcome.{header_outcome, last_outcome, last_probes};
+ghost use Rattle.resolver.specs.Terms.{outcome_of, pending_of};
 ghost use Rattle.walk_model.specs.Settles as walked;
 ghost use Rattle.table_building.specs.Growth.{Grows};
-ghost use Rattle.table_building.specs.Made.{pending_of};
-ghost use Rattle.table_building.specs.Settled.{IsOutcomeWithin, outcome_of, settled_from, probes_from, no_pending, AreOutside};
+ghost use Rattle.table_building.specs.Settled.{IsOutcomeWithin, settled_from, probes_from, no_pending, AreOutside};
 
 use crate::declared::Declared;
 use resolver::{Outcome, Outcomes, UnresolvedReference, resolve_all, resolve_header, settled};
@@ -55,7 +55,7 @@ impl<'a> Declared<'a> {
         outcome: Outcome,
     ) -> Result<(), AllocError>
         requires reference { entry.now.reference_id < length self.old.tables.references }
-        requires outcome { IsOutcomeWithin (length self.old.tables.symbols) (length self.old.tables.scopes) outcome }
+        requires outcome { IsOutcomeWithin (length self.old.tables.symbols) (length self.old.tables.scopes) (outcome_of outcome) }
         ensures made { OnOk result (self.new ≡ record self.old { tables = walked.settle_one self.old.tables (pending_of entry.now) (outcome_of outcome) }) }
         ensures grows { Grows self.old.tables self.new.tables }
     {
@@ -69,7 +69,7 @@ impl<'a> Declared<'a> {
     /// Gives the reference at the position its outcome.
     fn settle_at(&mut self, position: usize, outcome: Outcome) -> Result<(), AllocError>
         requires position { position < length self.old.waiting }
-        requires outcome { IsOutcomeWithin (length self.old.tables.symbols) (length self.old.tables.scopes) outcome }
+        requires outcome { IsOutcomeWithin (length self.old.tables.symbols) (length self.old.tables.scopes) (outcome_of outcome) }
         ensures made { OnOk result (self.new ≡ record self.old { tables = walked.settle_one self.old.tables (slice_index_or self.old.waiting position no_pending) (outcome_of outcome) }) }
         ensures grows { Grows self.old.tables self.new.tables }
     {
@@ -82,7 +82,7 @@ impl<'a> Declared<'a> {
     /// Gives the references from the position `start` on their outcomes, in the tables.
     fn settle_all(&mut self, start: usize, outcomes: &Outcomes) -> Result<(), AllocError>
         requires count { start + length outcomes.now ≡ length self.old.waiting }
-        requires outcomes { All (IsOutcomeWithin (length self.old.tables.symbols) (length self.old.tables.scopes)) outcomes.now }
+        requires outcomes { All (λ o. IsOutcomeWithin (length self.old.tables.symbols) (length self.old.tables.scopes) (outcome_of o)) outcomes.now }
         ensures made { OnOk result (self.new ≡ record self.old { tables = walked.settle self.old.tables (drop start self.old.waiting) (map outcome_of outcomes.now) }) }
         ensures grows { Grows self.old.tables self.new.tables }
     {
@@ -96,7 +96,7 @@ impl<'a> Declared<'a> {
     /// Gives the references from the position `start` on their outcomes.
     fn settle(&mut self, start: usize, outcomes: &Outcomes) -> Result<(), AllocError>
         requires count { start + length outcomes.now ≡ length self.old.waiting }
-        requires outcomes { All (IsOutcomeWithin (length self.old.tables.symbols) (length self.old.tables.scopes)) outcomes.now }
+        requires outcomes { All (λ o. IsOutcomeWithin (length self.old.tables.symbols) (length self.old.tables.scopes) (outcome_of o)) outcomes.now }
         ensures made { OnOk result (self.new ≡ settled_from self.old start (map outcome_of outcomes.now)) }
         ensures grows { Grows self.old.tables self.new.tables }
         ensures waiting { OnOk result (start ≤ length self.new.waiting) }
@@ -116,7 +116,7 @@ impl<'a> Declared<'a> {
         requires scope { scope < length self.now.tables.scopes }
         requires start { start ≤ length self.now.waiting }
         ensures outcomes { IfOk result (λ o. map outcome_of o ≡ map (header_outcome (source_of self.now.tables) scope) (drop start self.now.waiting)) }
-        ensures within { IfOk result (λ o. All (IsOutcomeWithin (length self.now.tables.symbols) (length self.now.tables.scopes)) o) }
+        ensures within { IfOk result (All (λ o. IsOutcomeWithin (length self.now.tables.symbols) (length self.now.tables.scopes) (outcome_of o))) }
         ensures count { IfOk result (λ o. start + length o ≡ length self.now.waiting) }
         ensures cost { OnOk result (steps.new ≡ raised steps.old (probes_from self.now start scope)) }
         ensures risen { steps.old ≤ steps.new }
@@ -136,7 +136,7 @@ impl<'a> Declared<'a> {
     /// What becomes, in the end, of the references that wait.
     fn last_outcomes<L>(&self, steps: &mut Steps<L>) -> Result<Outcomes, AllocError>
         ensures outcomes { IfOk result (λ o. map outcome_of o ≡ map (last_outcome (source_of self.now.tables)) self.now.waiting) }
-        ensures within { IfOk result (λ o. All (IsOutcomeWithin (length self.now.tables.symbols) (length self.now.tables.scopes)) o) }
+        ensures within { IfOk result (All (λ o. IsOutcomeWithin (length self.now.tables.symbols) (length self.now.tables.scopes) (outcome_of o))) }
         ensures count { IfOk result (λ o. length o ≡ length self.now.waiting) }
         ensures cost { OnOk result (steps.new ≡ raised steps.old (sum_by (last_probes (source_of self.now.tables)) self.now.waiting)) }
         ensures risen { steps.old ≤ steps.new }

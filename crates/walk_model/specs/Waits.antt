@@ -6,7 +6,7 @@ use Rattle.semantic_syntax.specs.Tables.{Scope}
 use Rattle.semantic_syntax.specs.Reading.{no_scope}
 use Rattle.semantic_model.specs.Place.{Place, OpenScope}
 use Rattle.semantic_model.specs.Inside.{is_inside}
-use Rattle.semantic_model.specs.Outcome.{Pending}
+use Rattle.semantic_syntax.specs.Outcome.{Pending}
 use Rattle.walk_model.specs.WalkState.{WalkState}
 
 -- each parent has a smaller number than its scope

@@ -4,7 +4,7 @@ use Rattle.semantic_syntax.specs.Tables.{Tables}
 use Rattle.scoping.specs.NodeEntries.{NodeEntries}
 use Rattle.semantic_model.specs.Binding.{Binding}
 use Rattle.semantic_model.specs.Fold.{Conflict}
-use Rattle.semantic_model.specs.Outcome.{Pending}
+use Rattle.semantic_syntax.specs.Outcome.{Pending}
 
 pub record WalkState : Type 0 where
   pub tables : Tables

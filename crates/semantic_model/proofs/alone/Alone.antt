@@ -5,7 +5,8 @@ use Rattle.std.proofs.lemmas.Bool.Decides.{eqb_tells}
 use Rattle.semantic_syntax.specs.Tables.{Name, Symbol}
 use Rattle.semantic_model.specs.Entries.{Among}
 use Rattle.semantic_model.specs.Binding.{Binding, get, put}
-use Rattle.semantic_model.specs.Declaration.{Declaration, path, contains, Meets}
+use Rattle.semantic_model.specs.Declaration.{Declaration, path, Meets}
+use Rattle.semantic_syntax.specs.Members.{contains}
 use Rattle.semantic_model.specs.Fold.{State, Made, update, new_symbol, in_scope}
 use Rattle.semantic_model.proofs.lists.Members.{among_more}
 use Rattle.semantic_model.proofs.lists.BindingLaws.{same_key, same_key_tells, get-put_other, get-remove_other, among_put, among_remove}

@@ -4,7 +4,8 @@ use Rattle.std.proofs.lemmas.Bool.Decides.{eqb_tells}
 use Rattle.semantic_model.specs.Place.{OpenScope}
 use Rattle.semantic_model.specs.Entries.{Among}
 use Rattle.semantic_model.specs.Binding.{Binding, get, remove, move}
-use Rattle.semantic_model.specs.Declaration.{Declaration, How, plain, hoisted, moved, caught, path, contains, Meets, stands_in}
+use Rattle.semantic_model.specs.Declaration.{Declaration, How, plain, hoisted, moved, caught, path, Meets, stands_in}
+use Rattle.semantic_syntax.specs.Members.{contains}
 use Rattle.semantic_model.specs.Event.{declares}
 use Rattle.semantic_model.specs.Fold.{State, Made, make, new_symbol, in_scope, found}
 use Rattle.semantic_model.specs.Hoist.{passed_symbol, asked_symbols, move_out, remembering, declare_by, act}

@@ -5,7 +5,8 @@ use Rattle.std.proofs.lemmas.Bool.Decides.{eqb_tells}
 use Rattle.semantic_syntax.specs.Tables.{Bindings, Symbol}
 use Rattle.semantic_model.specs.Entries.{Among}
 use Rattle.semantic_model.specs.Binding.{Binding, get, bound_by, take_over}
-use Rattle.semantic_model.specs.Declaration.{Declaration, path, contains, Meets}
+use Rattle.semantic_model.specs.Declaration.{Declaration, path, Meets}
+use Rattle.semantic_syntax.specs.Members.{contains}
 use Rattle.semantic_model.specs.Event.{Event, declares, takes_over, ends_header}
 use Rattle.semantic_model.specs.Fold.{State, Made, update, new_symbol, in_scope}
 use Rattle.semantic_model.specs.Hoist.{rescoped, act, run}

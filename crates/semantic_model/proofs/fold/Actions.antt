@@ -6,7 +6,8 @@ use Rattle.semantic_syntax.specs.Tables.{Name}
 use Rattle.semantic_model.specs.Place.{OpenScope}
 use Rattle.semantic_model.specs.Entries.{Among}
 use Rattle.semantic_model.specs.Binding.{get, put, remove, move}
-use Rattle.semantic_model.specs.Declaration.{Declaration, How, plain, hoisted, moved, caught, path, contains, stands_in, body_list}
+use Rattle.semantic_model.specs.Declaration.{Declaration, How, plain, hoisted, moved, caught, path, stands_in, body_list}
+use Rattle.semantic_syntax.specs.Members.{contains}
 use Rattle.semantic_model.specs.Event.{declares}
 use Rattle.semantic_model.specs.Fold.{State, Made, update, note_symbol, in_scope, united, redeclared, found, or_else, unless_expression, declare_in, chosen, against, conflict_with}
 use Rattle.semantic_model.specs.Hoist.{PassedSymbol, passed_symbol, counts, asked_symbols, against_all, remembering, move_symbol, hoist_by, hoist, move_out, declare_by, act}

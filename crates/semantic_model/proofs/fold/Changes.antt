@@ -6,7 +6,8 @@ use Rattle.semantic_syntax.specs.Tables.{Name, Symbol}
 use Rattle.semantic_model.specs.Place.{OpenScope}
 use Rattle.semantic_model.specs.Entries.{Among}
 use Rattle.semantic_model.specs.Binding.{Binding, put, remove}
-use Rattle.semantic_model.specs.Declaration.{Declaration, path, contains, stands_in, body_list}
+use Rattle.semantic_model.specs.Declaration.{Declaration, path, stands_in, body_list}
+use Rattle.semantic_syntax.specs.Members.{contains}
 use Rattle.semantic_model.specs.Fold.{State, Made, Conflict, update, make, note_symbol, in_scope, start}
 use Rattle.semantic_model.proofs.lists.Members.{among_left, contains_right, contains_first}
 

@@ -4,7 +4,8 @@ use Rattle.std.proofs.lemmas.Bool.Decides.{eqb_tells}
 use Rattle.semantic_syntax.specs.Tables.{Name, Symbol}
 use Rattle.semantic_model.specs.Entries.{Among}
 use Rattle.semantic_model.specs.Binding.{Binding, put}
-use Rattle.semantic_model.specs.Declaration.{Declaration, path, contains}
+use Rattle.semantic_model.specs.Declaration.{Declaration, path}
+use Rattle.semantic_syntax.specs.Members.{contains}
 use Rattle.semantic_model.specs.Fold.{State, Made, update, make, note_symbol, new_symbol, in_scope}
 use Rattle.semantic_model.proofs.lists.Members.{among_left, among_last, among_more}
 use Rattle.semantic_model.proofs.lists.BindingLaws.{among_put, among_remove}

@@ -17,7 +17,7 @@ use Rattle.semantic_model.specs.Binder.{declared_by, declared_on_entering, decla
 use Rattle.semantic_model.specs.Event.{Event, takes_over, is_catch_body, taken_over, declares_all, placed, events_of, events, written_declarations}
 use Rattle.semantic_model.specs.Fold.{State, start}
 use Rattle.semantic_model.specs.Hoist.{declare_by, run}
-use Rattle.semantic_model.specs.Outcome.{header_outcome, last_outcome}
+use Rattle.semantic_syntax.specs.Outcome.{header_outcome, last_outcome}
 use Rattle.semantic_model.proofs.steps.Compose.{run-append}
 use Rattle.semantic_model.proofs.form.Clauses.{first_holds}
 use Rattle.walk_model.specs.WalkState.{WalkState, nothing_made}

@@ -13,7 +13,8 @@ use Rattle.semantic_tree.specs.Views.{is, has}
 use Rattle.semantic_model.specs.Names.{names_at}
 use Rattle.semantic_model.specs.Place.{Place, OpenScope, innermost, parent_holds}
 use Rattle.semantic_model.specs.Binding.{get}
-use Rattle.semantic_model.specs.Declaration.{How, plain, hoisted, moved, caught, Declaration, here, first_with, contains}
+use Rattle.semantic_model.specs.Declaration.{How, plain, hoisted, moved, caught, Declaration, here, first_with}
+use Rattle.semantic_syntax.specs.Members.{contains}
 use Rattle.semantic_model.specs.Binder.{Row, declare, is_var, is_statement, own_function_row, class_row, type_parameter_row, ids, declared_on_entering, declared_inside, declared_on_opening}
 use Rattle.semantic_model.specs.Event.{Event, declares, takes_over, placed_by, is_catch_body, taken_over, declares_all, events_of}
 use Rattle.semantic_model.specs.Step.{Step, entering, opening, header_ending, closing, leaving}

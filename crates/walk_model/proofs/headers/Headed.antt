@@ -17,7 +17,8 @@ use Rattle.semantic_tree.specs.Views.{is, has_role, has_text, child_of, holds, h
 use Rattle.semantic_model.specs.Place.{Place, OpenScope, is_strict}
 use Rattle.semantic_model.specs.Inside.{opens, is_inside, any_inside, header_roles, is_in_header}
 use Rattle.semantic_model.specs.ScopeKind.{strict_if, accessor, value_of, method_flags, flags_of_kind, opened_scope}
-use Rattle.semantic_model.specs.Declaration.{contains, first_with}
+use Rattle.semantic_model.specs.Declaration.{first_with}
+use Rattle.semantic_syntax.specs.Members.{contains}
 use Rattle.semantic_model.specs.Binder.{is_var}
 use Rattle.semantic_model.specs.Step.{Step, entering, opening, header_ending, closing, leaving, opening_at, ending_after, opening_last, scope_at}
 use Rattle.semantic_model.proofs.steps.Opened.{openings}

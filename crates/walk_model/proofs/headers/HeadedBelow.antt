@@ -8,7 +8,7 @@ use Rattle.semantic_kinds.specs.declared.role.Role.{Role}
 use Rattle.semantic_tree.specs.Views.{has_role}
 use Rattle.semantic_model.specs.Place.{Place, OpenScope, outside}
 use Rattle.semantic_model.specs.Inside.{is_inside, header_roles, is_in_header, is_parameter_decorator}
-use Rattle.semantic_model.specs.Declaration.{contains}
+use Rattle.semantic_syntax.specs.Members.{contains}
 use Rattle.semantic_model.specs.Binder.{is_var}
 use Rattle.semantic_model.specs.Step.{child_place, chain_within}
 use Rattle.semantic_model.proofs.lists.Members.{contains_first}

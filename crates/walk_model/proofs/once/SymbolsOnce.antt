@@ -6,7 +6,7 @@ use Rattle.semantic_tree.specs.Tree.{Tree, IsNumbered}
 use Rattle.semantic_tree.specs.Faults.{first_fault}
 use Rattle.semantic_model.specs.Entries.{times}
 use Rattle.semantic_model.specs.Step.{steps}
-use Rattle.semantic_model.specs.Declaration.{contains}
+use Rattle.semantic_syntax.specs.Members.{contains}
 use Rattle.semantic_model.specs.Event.{events}
 use Rattle.semantic_model.specs.Fold.{Made, start}
 use Rattle.semantic_model.specs.Hoist.{run}

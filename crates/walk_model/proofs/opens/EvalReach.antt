@@ -4,7 +4,7 @@ use Rattle.std.specs.Prelude.{slice_get}
 use Rattle.std.proofs.lemmas.Option.{slice_get_within}
 use Rattle.std.proofs.lemmas.Bool.Decides.{eqb_tells}
 use Rattle.semantic_model.specs.Place.{OpenScope}
-use Rattle.semantic_model.specs.Declaration.{contains}
+use Rattle.semantic_syntax.specs.Members.{contains}
 use Rattle.semantic_model.specs.TablesOf.{any_holds}
 use Rattle.walk_model.specs.Walks.{numbers}
 use Rattle.walk_model.proofs.places.Nested.{AreLinked, Extends, get_more}

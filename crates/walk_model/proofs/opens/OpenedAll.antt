@@ -14,7 +14,7 @@ use Rattle.semantic_model.specs.Declaration.{Declaration}
 use Rattle.semantic_model.specs.Event.{written_declarations}
 use Rattle.semantic_model.specs.TablesOf.{is_direct_eval, evals, opened_entry, scopes, any_holds}
 use Rattle.semantic_model.specs.NodeTable.{numbered_from}
-use Rattle.semantic_model.specs.Outcome.{last_outcome}
+use Rattle.semantic_syntax.specs.Outcome.{last_outcome}
 use Rattle.walk_model.specs.WalkState.{WalkState, nothing_made}
 use Rattle.walk_model.specs.Noted.{entries_of}
 use Rattle.walk_model.specs.Agreement.{HasOpened}

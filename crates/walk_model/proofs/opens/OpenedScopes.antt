@@ -14,13 +14,14 @@ use Rattle.semantic_syntax.specs.Reading.{scope_of, no_scope}
 use Rattle.semantic_syntax.specs.Told.{source_of}
 use Rattle.semantic_tree.specs.Views.{is}
 use Rattle.semantic_model.specs.Place.{Place, OpenScope, at, innermost}
-use Rattle.semantic_model.specs.Declaration.{Declaration, contains}
+use Rattle.semantic_model.specs.Declaration.{Declaration}
+use Rattle.semantic_syntax.specs.Members.{contains}
 use Rattle.semantic_model.specs.Step.{Step, entering, opening, header_ending, closing, leaving}
 use Rattle.semantic_model.specs.Binder.{declared_on_entering, declared_on_opening}
 use Rattle.semantic_model.specs.Event.{Event, takes_over, declares_all, taken_over, is_catch_body, events_of}
 use Rattle.semantic_model.specs.TablesOf.{is_direct_eval}
 use Rattle.semantic_model.specs.NodeTable.{Belongs, numbered_from}
-use Rattle.semantic_model.specs.Outcome.{Pending, Outcome, header_outcome}
+use Rattle.semantic_syntax.specs.Outcome.{Pending, Outcome, header_outcome}
 use Rattle.walk_model.specs.WalkState.{WalkState}
 use Rattle.walk_model.specs.Opens.{number_of, with_eval, add_eval, note_eval, note_reference, refer, open_scope, close_scope}
 use Rattle.walk_model.specs.Settles.{settle, settle_by}

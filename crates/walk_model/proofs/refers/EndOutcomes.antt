@@ -10,13 +10,13 @@ use Rattle.semantic_syntax.specs.Told.{source_of}
 use Rattle.semantic_syntax.specs.Source.{chain}
 use Rattle.semantic_model.specs.Place.{OpenScope}
 use Rattle.semantic_model.specs.Binding.{get}
-use Rattle.semantic_model.specs.Declaration.{contains}
+use Rattle.semantic_syntax.specs.Members.{contains}
 use Rattle.semantic_model.specs.Event.{Event}
 use Rattle.semantic_model.specs.Fold.{State, start}
 use Rattle.semantic_model.specs.Hoist.{run}
 use Rattle.semantic_syntax.specs.Lookup.{Lookup, tied, barred, unanswered, lookup}
 use Rattle.semantic_model.specs.Tie.{Tie, until_end_of, seen_as, symbol_by, final_flags, header_from, moment, is_at, is_last}
-use Rattle.semantic_model.specs.Outcome.{Pending, is_free, waits, up_to, answer as source_answer, outcome_or, waits_outside, header_outcome, last_outcome}
+use Rattle.semantic_syntax.specs.Outcome.{Pending, is_free, waits, up_to, answer as source_answer, outcome_or, waits_outside, header_outcome, last_outcome}
 use Rattle.semantic_model.proofs.lists.Members.{contains_first}
 use Rattle.walk_model.specs.WalkState.{WalkState}
 use Rattle.walk_model.specs.Walks.{numbers}

@@ -15,7 +15,7 @@ use Rattle.semantic_model.specs.Event.{Event, events_of, events, written_declara
 use Rattle.semantic_model.specs.Fold.{State, start}
 use Rattle.semantic_model.specs.Hoist.{run}
 use Rattle.semantic_model.specs.Tie.{Tie, ties, moment, is_last, settled_at, in_order}
-use Rattle.semantic_model.specs.Outcome.{Pending, last_outcome}
+use Rattle.semantic_syntax.specs.Outcome.{Pending, last_outcome}
 use Rattle.semantic_model.specs.TablesOf.{entry_of, tables_of}
 use Rattle.semantic_model.specs.NodeTable.{numbered_from}
 use Rattle.semantic_model.proofs.lists.Growth.{start_is_sound}

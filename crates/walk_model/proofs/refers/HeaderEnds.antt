@@ -7,12 +7,12 @@ use Rattle.semantic_syntax.specs.Tables.{Name, Scope}
 use Rattle.semantic_syntax.specs.Told.{source_of}
 use Rattle.semantic_model.specs.Place.{OpenScope}
 use Rattle.semantic_model.specs.Binding.{get}
-use Rattle.semantic_model.specs.Declaration.{contains}
+use Rattle.semantic_syntax.specs.Members.{contains}
 use Rattle.semantic_model.specs.Event.{Event}
 use Rattle.semantic_model.specs.Fold.{State, flags_of}
 use Rattle.semantic_syntax.specs.Lookup.{Seen, Asked, Lookup, tied, barred, unanswered, lookup}
 use Rattle.semantic_model.specs.Tie.{Tie, seen_as, answer, symbol_by, final_flags, header_from, moment, is_at}
-use Rattle.semantic_model.specs.Outcome.{Pending, Outcome, answer as source_answer, outcome_or}
+use Rattle.semantic_syntax.specs.Outcome.{Pending, Outcome, answer as source_answer, outcome_or}
 use Rattle.semantic_model.proofs.lists.Bounds.{IsSound, get_below}
 use Rattle.semantic_model.proofs.once.UseLists.{IsBelow}
 use Rattle.semantic_model.proofs.lists.Members.{contains_first}

@@ -14,13 +14,14 @@ use Rattle.semantic_model.specs.Inside.{header_roles}
 use Rattle.walk_model.proofs.headers.TouchedScopes.{AllTouch}
 use Rattle.semantic_model.specs.Place.{Place, OpenScope, at}
 use Rattle.semantic_model.specs.Reference.{Occurrence, references}
-use Rattle.semantic_model.specs.Declaration.{Declaration, contains}
+use Rattle.semantic_model.specs.Declaration.{Declaration}
+use Rattle.semantic_syntax.specs.Members.{contains}
 use Rattle.semantic_model.specs.Step.{Step, entering, opening, header_ending, closing, leaving}
 use Rattle.semantic_model.specs.Event.{Event, ends_header, events_of}
 use Rattle.semantic_model.specs.Fold.{State, start}
 use Rattle.semantic_model.specs.Hoist.{run}
 use Rattle.semantic_model.specs.Tie.{Tie, ties, until_end_of, moment, is_at, settled_at}
-use Rattle.semantic_model.specs.Outcome.{Pending, header_outcome}
+use Rattle.semantic_syntax.specs.Outcome.{Pending, header_outcome}
 use Rattle.semantic_model.specs.TablesOf.{is_direct_eval}
 use Rattle.semantic_model.proofs.lists.Growth.{run_grows}
 use Rattle.semantic_model.proofs.steps.Compose.{run-append, flat-append}

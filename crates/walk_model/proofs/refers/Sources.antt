@@ -14,13 +14,13 @@ use Rattle.semantic_syntax.specs.Reading.{no_scope, scope_flags, symbol_flags, p
 use Rattle.semantic_syntax.specs.Told.{source_of}
 use Rattle.semantic_model.specs.Place.{OpenScope}
 use Rattle.semantic_model.specs.Binding.{get}
-use Rattle.semantic_model.specs.Declaration.{contains}
+use Rattle.semantic_syntax.specs.Members.{contains}
 use Rattle.semantic_model.specs.Event.{Event}
 use Rattle.semantic_model.specs.Fold.{State, start}
 use Rattle.semantic_model.specs.Hoist.{run}
 use Rattle.semantic_syntax.specs.Lookup.{is_arguments, ends_after}
 use Rattle.semantic_model.specs.Tie.{until_end_of, seen_as, answer}
-use Rattle.semantic_model.specs.Outcome.{up_to, answer as source_answer}
+use Rattle.semantic_syntax.specs.Outcome.{up_to, answer as source_answer}
 use Rattle.semantic_model.proofs.fits.Outwards.{flags_at}
 use Rattle.walk_model.specs.WalkState.{WalkState}
 use Rattle.walk_model.specs.Walks.{numbers}

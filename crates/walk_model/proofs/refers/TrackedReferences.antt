@@ -10,13 +10,13 @@ use Rattle.semantic_kinds.specs.declared.kind.AstType.TheVariants as kind
 use Rattle.semantic_tree.specs.Views.{is}
 use Rattle.semantic_model.specs.Place.{Place, OpenScope}
 use Rattle.semantic_model.specs.Reference.{Occurrence, reference_at, references}
-use Rattle.semantic_model.specs.Declaration.{contains}
+use Rattle.semantic_syntax.specs.Members.{contains}
 use Rattle.semantic_model.specs.Step.{Step, entering, opening, header_ending, closing, leaving}
 use Rattle.semantic_model.specs.Event.{Event, declares, takes_over, ends_header}
 use Rattle.semantic_model.specs.Fold.{State}
 use Rattle.semantic_model.specs.Tie.{Tie, ties, answers, until_end_of, moment, is_at}
 use Rattle.semantic_syntax.specs.Lookup as look
-use Rattle.semantic_model.specs.Outcome.{Pending}
+use Rattle.semantic_syntax.specs.Outcome.{Pending}
 use Rattle.semantic_model.specs.TablesOf.{entry_of}
 use Rattle.walk_model.specs.Walks.{numbers}
 use Rattle.walk_model.proofs.places.Nested.{Descends, linked_more, descends_more, IsNestedStep, AreNested, open_past, seen_past}

@@ -17,7 +17,7 @@ use Rattle.semantic_model.specs.Binding.{Binding, take_over, bound_by}
 use Rattle.semantic_model.specs.Event.{takes_over}
 use Rattle.semantic_model.specs.Fold.{State}
 use Rattle.semantic_model.specs.Hoist.{act, rescoped}
-use Rattle.semantic_model.specs.Outcome.{Pending, Outcome, means, is_free, waits}
+use Rattle.semantic_syntax.specs.Outcome.{Pending, Outcome, means, is_free, waits}
 use Rattle.semantic_model.specs.TablesOf.{is_direct_eval}
 use Rattle.semantic_model.proofs.lists.Growth.{rescoped_length}
 use Rattle.walk_model.specs.WalkState.{WalkState}

@@ -18,7 +18,7 @@ use Rattle.semantic_model.specs.Inside.{is_inside, is_in_header, is_parameter_de
 use Rattle.semantic_model.specs.Declaration.{Declaration}
 use Rattle.semantic_model.specs.Step.{Step, entering, opening, header_ending, closing, leaving, child_place, chain_within}
 use Rattle.semantic_model.specs.Event.{Event, declares, takes_over, ends_header, events_of}
-use Rattle.semantic_model.specs.Outcome.{Pending, Outcome}
+use Rattle.semantic_syntax.specs.Outcome.{Pending, Outcome}
 use Rattle.semantic_model.specs.TablesOf.{is_direct_eval}
 use Rattle.semantic_model.proofs.steps.Opened.{openings}
 use Rattle.walk_model.specs.WalkState.{WalkState}

@@ -15,12 +15,13 @@ use Rattle.semantic_syntax.specs.Reading.{scope_of, no_scope, parent_of}
 use Rattle.semantic_syntax.specs.Told.{source_of}
 use Rattle.semantic_tree.specs.Views.{is}
 use Rattle.semantic_model.specs.Place.{Place, OpenScope, at}
-use Rattle.semantic_model.specs.Declaration.{Declaration, contains}
+use Rattle.semantic_model.specs.Declaration.{Declaration}
+use Rattle.semantic_syntax.specs.Members.{contains}
 use Rattle.semantic_model.specs.Step.{Step, entering, opening, header_ending, closing, leaving}
 use Rattle.semantic_model.specs.Event.{events_of}
 use Rattle.semantic_syntax.specs.Lookup.{Lookup, tied, barred, unanswered}
 use Rattle.semantic_model.specs.TablesOf.{is_direct_eval}
-use Rattle.semantic_model.specs.Outcome.{Pending, Outcome, means, is_free, waits, outcome_or, waits_outside, is_below, lookup_along, up_to, header_outcome}
+use Rattle.semantic_syntax.specs.Outcome.{Pending, Outcome, means, is_free, waits, outcome_or, waits_outside, is_below, lookup_along, up_to, header_outcome}
 use Rattle.walk_model.specs.WalkState.{WalkState}
 use Rattle.walk_model.specs.Settles.{settle, staying, waiting_on, end_header}
 use Rattle.walk_model.specs.Opens.{number_of, with_eval, add_eval, note_eval, refer, note_reference, open_scope}

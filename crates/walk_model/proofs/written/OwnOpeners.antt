@@ -9,7 +9,8 @@ use Rattle.semantic_syntax.specs.declared.source_type.SourceType.{SourceType}
 use Rattle.semantic_tree.specs.Faults.{first_fault}
 use Rattle.semantic_tree.specs.Tree.{Tree}
 use Rattle.semantic_model.specs.Place.{Place, OpenScope, innermost}
-use Rattle.semantic_model.specs.Declaration.{Declaration, contains, scope_it_stands_in}
+use Rattle.semantic_model.specs.Declaration.{Declaration, scope_it_stands_in}
+use Rattle.semantic_syntax.specs.Members.{contains}
 use Rattle.semantic_model.specs.Binder.{declared_by, declared_on_entering, declared_on_opening}
 use Rattle.semantic_model.specs.Step.{Step, entering, opening, header_ending, closing, leaving, steps}
 use Rattle.semantic_model.specs.Event.{counts_past, written_declarations, any_bars}

@@ -2,7 +2,7 @@ use Rattle.std.proofs.Common.{ℕ, Bool, nat_eq, ap, ◌∙◌}
 use Rattle.std.specs.HashSet.{contains as has_key}
 use Rattle.semantic_tree.specs.Faults.{first_where}
 use Rattle.semantic_tree.specs.Place.{placed_from}
-use Rattle.semantic_model.specs.Declaration.{contains}
+use Rattle.semantic_syntax.specs.Members.{contains}
 use Rattle.semantic_model.specs.Step.{steps}
 use Rattle.program_names.specs.Exported.{exported_names}
 use Rattle.rename_model.specs.Renamed.{bears_name}

@@ -1,6 +1,6 @@
 use Rattle.std.proofs.Common.{◌≡◌, ◌||◌, ℕ, nat_eq, drop}
 use Rattle.std.specs.HashSet.{contains as has_key}
-use Rattle.semantic_model.specs.Declaration.{contains}
+use Rattle.semantic_syntax.specs.Members.{contains}
 use Rattle.rename_passes.proofs.fixing.set_of.Given as goal
 
 -- the set has the ids but those that are left

@@ -1,13 +1,14 @@
 use Rattle.std.proofs.Common.{◌≡◌, map, take}
 use Rattle.std.specs.List.{sum_by}
 use Rattle.semantic_syntax.specs.Counts.{raised}
-use Rattle.resolver.specs.Settling.{last_outcome, last_probes}
+use Rattle.semantic_syntax.specs.Outcome.{last_outcome, last_probes}
+use Rattle.resolver.specs.Terms.{outcome_of, pending_of}
 use Rattle.resolver.proofs.resolve.resolve_all.Given as goal
 
 abbrev pub invariant-loop-entry : goal.invariant-loop-entry
 invariant-loop-entry g l =
     let source = g.B.BindingSource.meaning l.source in
     record {
-      outcomes : l.outcomes ≡ map (last_outcome source) (take l.entry-index l.pending);
-      cost : l.steps ≡ raised l.fn.steps (sum_by (last_probes source) (take l.entry-index l.pending));
+      outcomes : map outcome_of l.outcomes ≡ map (last_outcome source) (map pending_of (take l.entry-index l.pending));
+      cost : l.steps ≡ raised l.fn.steps (sum_by (last_probes source) (map pending_of (take l.entry-index l.pending)));
     }

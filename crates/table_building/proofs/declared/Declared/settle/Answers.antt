@@ -1,6 +1,8 @@
 use Rattle.std.proofs.Common.{◌≡◌, ◌∙◌, ap, length, All, subst, sym}
 use Rattle.semantic_syntax.specs.Tables.{Tables}
 use Rattle.walk_model.specs.WalkState.{WalkState}
+use Rattle.resolver.specs.declared.outcomes.Outcome.{Outcome}
+use Rattle.resolver.specs.Terms.{outcome_of}
 use Rattle.table_building.specs.Settled.{IsOutcomeWithin}
 use Rattle.table_building.proofs.Settling.{settled_made}
 use Rattle.table_building.proofs.Waiting.{waiting_applied, outcomes-grow}
@@ -9,7 +11,7 @@ use Rattle.table_building.proofs.declared.Declared.settle.Goals as goal
 pub invariant_of-self : goal.invariant_of-self
 invariant_of-self c =
     let same : c.self.inside.scoping ≡ c.settle_all.new.self.tables = ap (λ (w : WalkState). w.tables) c.self.view_is in
-    let within = subst (λ (t : Tables). All (IsOutcomeWithin (length t.symbols) (length t.scopes)) c.args.outcomes.now) (sym same)
+    let within = subst (λ (t : Tables). All (λ (o : Outcome). IsOutcomeWithin (length t.symbols) (length t.scopes) (outcome_of o)) c.args.outcomes.now) (sym same)
     (outcomes-grow _ _ c.args.outcomes.now c.in_ok-settle_all.ensures.grows c.requires.outcomes) in
     record {
       remembered = c.self.invariant.remembered;

@@ -1,7 +1,7 @@
 use Rattle.std.proofs.Common.{◌≡◌, ◌<◌, ◌+◌, ◌-◌, length, map, drop, ap, subst, ◌∙◌, arith, ℕ}
 use Rattle.walk_model.specs.WalkState.{WalkState}
 use Rattle.walk_model.specs.Settles.{settle}
-use Rattle.table_building.specs.Settled.{outcome_of}
+use Rattle.resolver.specs.Terms.{outcome_of}
 use Rattle.table_building.proofs.Growing.{grows-trans}
 use Rattle.table_building.proofs.Settling.{settle_turn}
 use Rattle.table_building.proofs.declared.Declared.settle_all.Goals as goal

@@ -2,7 +2,7 @@ use Rattle.std.proofs.Common.{◌≡◌, ◌-◌, map, drop}
 use Rattle.walk_model.specs.WalkState.{WalkState}
 use Rattle.walk_model.specs.Settles.{settle}
 use Rattle.table_building.specs.Growth.{Grows}
-use Rattle.table_building.specs.Settled.{outcome_of}
+use Rattle.resolver.specs.Terms.{outcome_of}
 use Rattle.table_building.proofs.declared.Declared.settle_all.Given as goal
 
 -- to settle what is left is to settle all

@@ -1,5 +1,5 @@
 use Rattle.std.proofs.Common.{◌≡◌, sym, slice_index_or}
-use Rattle.table_building.specs.Made.{pending_of}
+use Rattle.resolver.specs.Terms.{pending_of}
 use Rattle.table_building.specs.Settled.{no_pending}
 use Rattle.table_building.proofs.Waiting.{waiting_at, pending_at, none_at}
 use Rattle.table_building.proofs.declared.Declared.settle_at.Goals as goal
