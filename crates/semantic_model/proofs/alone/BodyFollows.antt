@@ -1,5 +1,5 @@
 -- After each place in a catch clause's own scope, the clause's body takes that scope over.
-use Rattle.std.proofs.Common.{◌≡◌, ℕ, ◌+◌, ◌==◌, List, [], ◌∷◌, ◌++◌, Option, Some, None, Bool, true, false, cond, ◌&&◌, ◌||◌, not, inl, inr, refl, sym, subst}
+use Rattle.std.proofs.Common.{◌≡◌, ℕ, ◌+◌, ◌==◌, List, [], ◌∷◌, ◌++◌, Option, Some, None, Bool, true, false, cond, ◌&&◌, ◌||◌, inl, inr, refl, sym, subst}
 use denote.Enum.Bare.{true_same}
 use Rattle.std.proofs.lemmas.Bool.{cases_Bool}
 use Rattle.std.proofs.lemmas.Bool.Decides.{eqb_tells}
@@ -12,13 +12,15 @@ use Rattle.semantic_kinds.specs.declared.kind.AstType.{AstType}
 use Rattle.semantic_kinds.specs.declared.kind.AstType.TheVariants as kind
 use Rattle.semantic_kinds.specs.declared.role.Role.{Role}
 use Rattle.semantic_kinds.specs.declared.role.Role.TheVariants as role
-use Rattle.semantic_tree.specs.Views.{is, has_role}
+use Rattle.semantic_tree.specs.Views.{is}
 use Rattle.semantic_model.specs.Place.{Place, OpenScope, innermost, outside}
-use Rattle.semantic_model.specs.Inside.{opens, is_inside, any_inside, header_roles, is_in_header, is_parameter_decorator, scopes_in}
+use Rattle.semantic_model.specs.Inside.{opens, is_inside, is_in_header, is_parameter_decorator, scopes_in}
 use Rattle.semantic_model.specs.ScopeKind.{opened_scope}
 use Rattle.semantic_model.specs.Event.{is_catch_body}
 use Rattle.semantic_model.specs.Cursor.{on_entering}
-use Rattle.semantic_model.specs.Step.{Step, entering, opening, header_ending, closing, leaving, steps_below, steps_of, opening_at, ending_after, opening_last, scope_at, next_at, child_place, cursor_past}
+use Rattle.semantic_model.specs.Step.{Step, entering, opening, header_ending, closing, leaving, steps_below, opening_at, ending_after, opening_last, child_place, cursor_past}
+use Rattle.semantic_model.proofs.steps.TurnCases.{opening_case, ending_case, last_case}
+use Rattle.semantic_model.proofs.steps.Turn.{Turn, turn_at}
 use Rattle.semantic_model.proofs.form.Clauses.{kind_is, first_holds, both_hold, is_nothing, ends_with_block, later_ends}
 
 pub kind_flips : (a b : AstType) → same_kind a b ≡ true → same_kind b a ≡ true
@@ -74,30 +76,13 @@ AllFollowed (closing p s ∷ more) = AllFollowed more
 AllFollowed (leaving p ∷ more) = AllFollowed more
 
 pub past_opening : (p : Place) (r : Role) (own : Option OpenScope) (n : ℕ) (ys : List Step) → AllFollowed ys → AllFollowed (opening_at p r own n ++ ys)
-past_opening p r (Some s) n ys h = h
-past_opening p r None n ys h = go (is_inside p.node.kind r)
-  where
-    go : (b : Bool) → AllFollowed (cond b (opening p (opened_scope p n) ∷ []) [] ++ ys)
-    go true = h
-    go false = h
+past_opening p r own n ys h = opening_case (λ xs. AllFollowed (xs ++ ys)) p r own n h h
 
 pub past_last : (p : Place) (own : Option OpenScope) (n : ℕ) (ys : List Step) → AllFollowed ys → AllFollowed (opening_last p own n ++ ys)
-past_last p (Some s) n ys h = h
-past_last p None n ys h = go (opens p.node.kind)
-  where
-    go : (b : Bool) → AllFollowed (cond b (opening p (opened_scope p n) ∷ closing p (opened_scope p n) ∷ []) [] ++ ys)
-    go true = h
-    go false = h
+past_last p own n ys h = last_case (λ xs. AllFollowed (xs ++ ys)) p own n h h
 
 pub past_ending : (p : Place) (r : Role) (own : Option OpenScope) (after : Forest) (ys : List Step) → AllFollowed ys → AllFollowed (ending_after p r own after ++ ys)
-past_ending p r None after ys h = h
-past_ending p r (Some s) after ys h = go (is_in_header p.node.kind r && not (has_role (header_roles p.node.kind) after)) (is_inside p.node.kind r && not (any_inside p.node.kind after))
-  where
-    go : (a b : Bool) → AllFollowed (cond a (header_ending p s ∷ []) [] ++ cond b (closing p s ∷ []) [] ++ ys)
-    go true true = h
-    go true false = h
-    go false true = h
-    go false false = h
+past_ending p r own after ys h = ending_case (λ xs. AllFollowed (xs ++ ys)) p r own after h (λ s. h) (λ s. h) (λ s. h)
 
 -- the body of a clause opens its own scope
 body_kind : (q : Place) → is_catch_body q ≡ true → kind.BlockStatement ≡ q.node.kind
@@ -117,15 +102,9 @@ block_opens q n cursor nothing h = go (opens q.node.kind) (subst (λ k. opens k 
     go false e = e
 block_opens q n cursor (tree r k span text marks below id after) h =
     let node : Node = record { kind = k; span = span; text = text; marks = marks; children = below; node_id = id } in
-    let scope : Option OpenScope = scope_at q r None n in
-    let next : ℕ = next_at q r None n in
-    let child : Place = child_place q scope cursor r node in
-    let xs : List Step = opening_at q r None n in
-    let zs : List Step = steps_of child next in
-    let es : List Step = ending_after q r scope after in
-    let ws : List Step = steps_below q scope (next + cond (opens k) 1 0 + scopes_in below) (cursor_past q r cursor child) after in
+    let turn : Turn = turn_at q None n cursor r node after in
     let c : ℕ = (innermost q.chain).number in
-    taken_first c (xs ++ zs ++ es) ws (taken_first c (xs ++ zs) es (taken_first c xs zs (go (is_inside q.node.kind r) (subst (λ j. is_inside j r ≡ true) (body_kind q h) refl))))
+    taken_first c (turn.before ++ turn.whole ++ turn.behind) turn.others (taken_first c (turn.before ++ turn.whole) turn.behind (taken_first c turn.before turn.whole (go (is_inside q.node.kind r) (subst (λ j. is_inside j r ≡ true) (body_kind q h) refl))))
   where
     go : (b : Bool) → b ≡ true → taken_in (innermost q.chain).number (cond b (opening q (opened_scope q n) ∷ []) []) ≡ true
     go true e = or_this (is_catch_body q && (innermost q.chain).number == (innermost q.chain).number) false (own_take q h)

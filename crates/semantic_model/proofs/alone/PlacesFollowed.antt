@@ -1,5 +1,5 @@
 -- Each place of a program in a catch clause's own scope is followed by the take-over of that scope.
-use Rattle.std.proofs.Common.{◌≡◌, ℕ, ◌+◌, List, [], ◌∷◌, ◌++◌, Option, Some, None, Bool, true, false, cond, ◌&&◌, ◌||◌, not, ◌⊎◌, inl, inr, refl, sym, ap, subst, ◌∙◌, append_assoc}
+use Rattle.std.proofs.Common.{◌≡◌, ℕ, List, [], ◌∷◌, ◌++◌, Option, Some, None, Bool, true, false, cond, ◌&&◌, ◌||◌, not, ◌⊎◌, inl, inr, refl, sym, ap, subst, ◌∙◌, append_assoc}
 use Rattle.std.proofs.lemmas.Bool.{cases_Bool}
 use Rattle.semantic_tree.specs.Forest.{Forest, nothing, tree}
 use Rattle.semantic_tree.specs.Tree.{Tree}
@@ -13,10 +13,11 @@ use Rattle.semantic_kinds.specs.declared.role.Role.{Role}
 use Rattle.semantic_kinds.specs.declared.role.Role.TheVariants as role
 use Rattle.semantic_tree.specs.Views.{is}
 use Rattle.semantic_model.specs.Place.{Place, OpenScope, innermost, outside}
-use Rattle.semantic_model.specs.Inside.{opens, is_inside, is_in_header, is_parameter_decorator, scopes_in}
+use Rattle.semantic_model.specs.Inside.{is_inside, is_in_header, is_parameter_decorator}
 use Rattle.semantic_model.specs.ScopeKind.{opened_scope}
 use Rattle.semantic_model.specs.Cursor.{on_entering}
-use Rattle.semantic_model.specs.Step.{Step, entering, leaving, steps_below, steps, root_place, opening_at, ending_after, scope_at, next_at, child_place, chain_within, cursor_past}
+use Rattle.semantic_model.specs.Step.{Step, entering, leaving, steps_below, steps, root_place, scope_at, child_place, chain_within}
+use Rattle.semantic_model.proofs.steps.Turn.{Turn, turn_at}
 use Rattle.semantic_model.proofs.form.Clauses.{kind_is, first_holds, second_holds, is_nothing, ends_with_block, clauses_end, later_ends}
 use Rattle.semantic_model.proofs.form.ParameterShape.{holds_inside, is_parameter, stands_under, parameters_stand}
 use Rattle.semantic_model.proofs.alone.BodyFollows.{kind_flips, taken_in, taken_later, taken_first, FollowsIn, follows_later, AllFollowed, past_opening, past_last, past_ending, block_opens, body_child, body_comes}
@@ -163,43 +164,34 @@ pub followed : (p : Place) (own : Option OpenScope) (n cursor : ℕ) (f : Forest
 followed p own n cursor nothing rest a o c e s h = past_last p own n rest h
 followed p own n cursor (tree r k span text marks below id after) rest a o c e s h =
     let node : Node = record { kind = k; span = span; text = text; marks = marks; children = below; node_id = id } in
-    let scope : Option OpenScope = scope_at p r own n in
-    let next : ℕ = next_at p r own n in
-    let child : Place = child_place p scope cursor r node in
-    let inner : ℕ = on_entering k child.cursor in
-    let past : ℕ = cursor_past p r cursor child in
-    let xs : List Step = opening_at p r own n in
-    let ys : List Step = steps_below child None next inner below in
-    let es : List Step = ending_after p r scope after in
-    let m : ℕ = next + cond (opens k) 1 0 + scopes_in below in
-    let ws : List Step = steps_below p scope m past after in
-    let behind : List Step = es ++ (ws ++ rest) in
-    let is_open : is_inside p.node.kind r ≡ true → scope ≡ None → ⊥ = scope_open p r own n in
-    let o_scope : OwnFact p scope = own_fact p r own n o in
+    let turn : Turn = turn_at p own n cursor r node after in
+    let behind : List Step = turn.behind ++ (turn.others ++ rest) in
+    let is_open : is_inside p.node.kind r ≡ true → turn.scope ≡ None → ⊥ = scope_open p r own n in
+    let o_scope : OwnFact p turn.scope = own_fact p r own n o in
     let e_parts : (clauses_end below && clauses_end after) ≡ true = second_holds (cond (same_kind k kind.CatchClause) (ends_with_block below) true) (clauses_end below && clauses_end after) e in
     let s_parts : (parameters_stand k below && parameters_stand p.node.kind after) ≡ true = second_holds (stands_under p.node.kind r k) (parameters_stand k below && parameters_stand p.node.kind after) s in
-    let a_behind : Around p behind = around_later p es (ws ++ rest) (around_later p ws rest a) in
+    let a_behind : Around p behind = around_later p turn.behind (turn.others ++ rest) (around_later p turn.others rest a) in
     let c_after : is kind.CatchClause p.node ≡ true → is_nothing after ≡ false → ends_with_block after ≡ true = λ i j. clause_after i j in
-    let ok_rest : AllFollowed (ws ++ rest) = followed p scope m past after rest a o_scope c_after (second_holds (clauses_end below) (clauses_end after) e_parts) (second_holds (parameters_stand k below) (parameters_stand p.node.kind after) s_parts) h in
-    let ok_behind : AllFollowed behind = past_ending p r scope after (ws ++ rest) ok_rest in
-    let outer : holds_parameters k ≡ true → FollowsIn (outside child.chain) behind = child_outer p scope cursor r node behind is_open a_behind (first_holds (stands_under p.node.kind r k) (parameters_stand k below && parameters_stand p.node.kind after) s) in
+    let ok_rest : AllFollowed (turn.others ++ rest) = followed p turn.scope turn.rest turn.past after rest a o_scope c_after (second_holds (clauses_end below) (clauses_end after) e_parts) (second_holds (parameters_stand k below) (parameters_stand p.node.kind after) s_parts) h in
+    let ok_behind : AllFollowed behind = past_ending p r turn.scope after (turn.others ++ rest) ok_rest in
+    let outer : holds_parameters k ≡ true → FollowsIn (outside turn.child.chain) behind = child_outer p turn.scope cursor r node behind is_open a_behind (first_holds (stands_under p.node.kind r k) (parameters_stand k below && parameters_stand p.node.kind after) s) in
     let c_below : is kind.CatchClause node ≡ true → is_nothing below ≡ false → ends_with_block below ≡ true = λ i j. clause_below (first_holds (cond (same_kind k kind.CatchClause) (ends_with_block below) true) (clauses_end below && clauses_end after) e) i in
-    let below_ok : Around child (leaving child ∷ behind) → AllFollowed (ys ++ (leaving child ∷ behind)) =
-    λ b. followed child None next inner below (leaving child ∷ behind) b tt c_below (first_holds (clauses_end below) (clauses_end after) e_parts) (first_holds (parameters_stand k below) (parameters_stand p.node.kind after) s_parts) ok_behind in
-    subst AllFollowed (sym (in_turn xs ys es ws rest (entering child) (leaving child)))
-    (past_opening p r own n (entering child ∷ (ys ++ (leaving child ∷ behind)))
+    let below_ok : Around turn.child (leaving turn.child ∷ behind) → AllFollowed (turn.below ++ (leaving turn.child ∷ behind)) =
+    λ b. followed turn.child None turn.next turn.inner below (leaving turn.child ∷ behind) b tt c_below (first_holds (clauses_end below) (clauses_end after) e_parts) (first_holds (parameters_stand k below) (parameters_stand p.node.kind after) s_parts) ok_behind in
+    subst AllFollowed (sym (in_turn turn.before turn.below turn.behind turn.others rest (entering turn.child) (leaving turn.child)))
+    (past_opening p r own n (entering turn.child ∷ (turn.below ++ (leaving turn.child ∷ behind)))
     (elim (cases_Bool (is kind.CatchClause p.node && same_role r role.Body)) [
       | inl it ↦ (let catch : is kind.CatchClause p.node ≡ true = first_holds (is kind.CatchClause p.node) (same_role r role.Body) it in
           let body : same_role r role.Body ≡ true = second_holds (is kind.CatchClause p.node) (same_role r role.Body) it in
           let block : is kind.BlockStatement node ≡ true = first_holds (same_kind k kind.BlockStatement) (is_nothing after) (rw body at (c catch refl)) in (
-            λ b q. taken_first (innermost child.chain).number ys (leaving child ∷ behind) (block_opens child next inner below (body_child p scope cursor r node catch body block)),
+            λ b q. taken_first (innermost turn.child.chain).number turn.below (leaving turn.child ∷ behind) (block_opens turn.child turn.next turn.inner below (body_child p turn.scope cursor r node catch body block)),
             below_ok (record { chain = λ i. (let w : true ≡ false = sym block ∙ i in absurd cc); outer = outer }),
           ))
-      | inr other ↦ (let taken : is kind.CatchClause p.node ≡ true → (t : OpenScope) → scope ≡ Some t → taken_in t.number behind ≡ true =
-          λ i t j. taken_later t.number es (ws ++ rest) (taken_first t.number ws rest
-          (subst (λ z. taken_in t.number (steps_below p z m past after) ≡ true) (sym j) (body_comes p t m past after i (later_ends r k after (and_false (is kind.CatchClause p.node) (same_role r role.Body) other i) (c i refl))))) in
-          let follows : FollowsIn child.chain behind = child_follows p scope cursor r node behind is_open o_scope a_behind taken in (
-            follows_later child.chain ys (leaving child ∷ behind) follows,
+      | inr other ↦ (let taken : is kind.CatchClause p.node ≡ true → (t : OpenScope) → turn.scope ≡ Some t → taken_in t.number behind ≡ true =
+          λ i t j. taken_later t.number turn.behind (turn.others ++ rest) (taken_first t.number turn.others rest
+          (subst (λ z. taken_in t.number (steps_below p z turn.rest turn.past after) ≡ true) (sym j) (body_comes p t turn.rest turn.past after i (later_ends r k after (and_false (is kind.CatchClause p.node) (same_role r role.Body) other i) (c i refl))))) in
+          let follows : FollowsIn turn.child.chain behind = child_follows p turn.scope cursor r node behind is_open o_scope a_behind taken in (
+            follows_later turn.child.chain turn.below (leaving turn.child ∷ behind) follows,
             below_ok (record { chain = λ i. follows; outer = outer }),
           ))
     ]))

@@ -215,11 +215,11 @@ module _ (v : ℕ → ℕ) (table : List (Option ℕ)) where
     pub events_led : (ds : List Declaration) (ss : List Step) → AllStepsIn table ss → AllPlacesNear v ss → AllEventsLed (flat_map (events_of ds) ss)
     events_led ds [] h a = tt
     events_led ds (entering p ∷ more) h a = declares_led ds (declared_on_entering p) (flat_map (events_of ds) more) (entering_led p.node.kind p a.0 h.0) (events_led ds more h.1 a.1)
-    events_led ds (opening p s ∷ more) h a = go (is_catch_body p) (declares_led ds (declared_on_opening p s) (flat_map (events_of ds) more) (inside_led p.node.kind p s) (events_led ds more h.1 a))
+    events_led ds (opening p s ∷ more) h a = go (is_catch_body p) (declares_led ds (declared_on_opening p s) (flat_map (events_of ds) more) (inside_led p.node.kind p s) (events_led ds more h.1 a.1))
       where
         go : (b : Bool) → AllEventsLed (declares_all ds (declared_on_opening p s) ++ flat_map (events_of ds) more) → AllEventsLed (cond b (takes_over (innermost p.chain).number s.number ∷ []) [] ++ declares_all ds (declared_on_opening p s) ++ flat_map (events_of ds) more)
         go true k = k
         go false k = k
-    events_led ds (header_ending p s ∷ more) h a = events_led ds more h.1 a
-    events_led ds (closing p s ∷ more) h a = events_led ds more h.1 a
-    events_led ds (leaving p ∷ more) h a = events_led ds more h.1 a
+    events_led ds (header_ending p s ∷ more) h a = events_led ds more h.1 a.1
+    events_led ds (closing p s ∷ more) h a = events_led ds more h.1 a.1
+    events_led ds (leaving p ∷ more) h a = events_led ds more h.1 a.1

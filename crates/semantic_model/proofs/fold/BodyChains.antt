@@ -1,5 +1,5 @@
 -- Each scope of a place's chain stands in the table of bodies with its own, and a clause's body with the clause.
-use Rattle.std.proofs.Common.{◌≡◌, ℕ, suc, ◌+◌, List, [], ◌∷◌, ◌++◌, Option, Some, None, Bool, true, false, cond, ◌&&◌, ◌||◌, not, inl, inr, refl, sym, ap, subst, ◌∙◌, arith}
+use Rattle.std.proofs.Common.{◌≡◌, ℕ, suc, ◌+◌, List, [], ◌∷◌, Option, Some, None, Bool, true, false, cond, ◌&&◌, ◌||◌, inl, inr, refl, sym, ap, subst, ◌∙◌}
 use Rattle.std.specs.Prelude.{slice_get}
 use Rattle.std.proofs.lemmas.Bool.{cases_Bool}
 use Rattle.semantic_tree.specs.Forest.{Forest, nothing, tree}
@@ -14,39 +14,20 @@ use Rattle.semantic_syntax.specs.declared.scope_flags.TheConstants.ScopeFlags as
 use Rattle.semantic_syntax.specs.Sets.{meets, union}
 use Rattle.semantic_tree.specs.Views.{is, has_role}
 use Rattle.semantic_model.specs.Place.{Place, OpenScope, innermost, outside, is_strict}
-use Rattle.semantic_model.specs.Inside.{opens, is_inside, any_inside, header_roles, is_in_header, is_parameter_decorator, scopes_in, body_number}
+use Rattle.semantic_model.specs.Inside.{opens, is_inside, is_in_header, is_parameter_decorator, scopes_in, body_number}
 use Rattle.semantic_model.specs.ScopeKind.{strict_if, opened_scope}
 use Rattle.semantic_model.specs.Event.{is_catch_body}
-use Rattle.semantic_model.specs.Cursor.{on_entering}
-use Rattle.semantic_model.specs.Step.{Step, entering, opening, header_ending, closing, leaving, steps_below, opening_at, ending_after, opening_last, scope_at, next_at, child_place, chain_within, cursor_past}
-use Rattle.semantic_model.proofs.steps.Opened.{openings, openings-append, opened_below, none_after, next_opened}
+use Rattle.semantic_model.specs.Step.{Step, entering, opening, header_ending, closing, leaving, steps_below, opening_at, ending_after, opening_last, scope_at, next_at, child_place, chain_within}
+use Rattle.semantic_model.proofs.steps.Turn.{Turn, turn_at}
+use Rattle.semantic_model.proofs.steps.OpenedFrom.{OpenedFrom, OpenedRound, opened_round}
+use Rattle.semantic_model.proofs.steps.TurnCases.{ending_case}
+use Rattle.semantic_model.proofs.steps.EachStep.{EachStep, each_of_node, each_of_turn}
 use Rattle.semantic_model.proofs.form.Clauses.{kind_is, first_holds, second_holds, ends_with_block, clauses_end, nothing_follows, later_ends}
 
 module _ (table : List (Option ℕ)) where
-  -- the scopes that the steps open, from number n on, have these bodies
-  abbrev pub BodiesAt : ℕ → List Step → Type 0
-  BodiesAt n [] = Unit {0}
-  BodiesAt n (opening p s ∷ more) = (slice_get table n ≡ Some s.body) × BodiesAt (suc n) more
-  BodiesAt n (entering p ∷ more) = BodiesAt n more
-  BodiesAt n (header_ending p s ∷ more) = BodiesAt n more
-  BodiesAt n (closing p s ∷ more) = BodiesAt n more
-  BodiesAt n (leaving p ∷ more) = BodiesAt n more
-
-  pub bodies_left : (n : ℕ) (xs ys : List Step) → BodiesAt n (xs ++ ys) → BodiesAt n xs
-  bodies_left n [] ys h = tt
-  bodies_left n (opening p s ∷ xs) ys h = (h.0, bodies_left (suc n) xs ys h.1)
-  bodies_left n (entering p ∷ xs) ys h = bodies_left n xs ys h
-  bodies_left n (header_ending p s ∷ xs) ys h = bodies_left n xs ys h
-  bodies_left n (closing p s ∷ xs) ys h = bodies_left n xs ys h
-  bodies_left n (leaving p ∷ xs) ys h = bodies_left n xs ys h
-
-  pub bodies_right : (n m : ℕ) (xs ys : List Step) → n + openings xs ≡ m → BodiesAt n (xs ++ ys) → BodiesAt m ys
-  bodies_right n m [] ys e h = subst (λ k. BodiesAt k ys) (omega arith) h
-  bodies_right n m (opening p s ∷ xs) ys e h = bodies_right (suc n) m xs ys (omega arith) h.1
-  bodies_right n m (entering p ∷ xs) ys e h = bodies_right n m xs ys e h
-  bodies_right n m (header_ending p s ∷ xs) ys e h = bodies_right n m xs ys e h
-  bodies_right n m (closing p s ∷ xs) ys e h = bodies_right n m xs ys e h
-  bodies_right n m (leaving p ∷ xs) ys e h = bodies_right n m xs ys e h
+  -- a scope that opens with number n has this body
+  abbrev pub HasBody : ℕ → Place → OpenScope → Type 0
+  HasBody n p s = slice_get table n ≡ Some s.body
 
   -- the scope stands in the table with its body; only a clause's scope has one
   pub record InTable (s : OpenScope) : Type 0 where
@@ -70,12 +51,7 @@ module _ (table : List (Option ℕ)) where
   IsStepIn (leaving p) = Unit {0}
 
   abbrev pub AllStepsIn : List Step → Type 0
-  AllStepsIn [] = Unit {0}
-  AllStepsIn (s ∷ more) = IsStepIn s × AllStepsIn more
-
-  pub steps_in-append : (xs ys : List Step) → AllStepsIn xs → AllStepsIn ys → AllStepsIn (xs ++ ys)
-  steps_in-append [] ys h k = k
-  steps_in-append (x ∷ xs) ys h k = (h.0, steps_in-append xs ys h.1 k)
+  AllStepsIn = EachStep IsStepIn
 
   clause_flags : (p : Place) → p.node.kind ≡ kind.CatchClause → meets (opened_scope p 0).flags scope.CatchClause.bits ≡ true
   clause_flags p e = rw e (elim (is_strict p.chain) as (λ b. meets (union scope.CatchClause.bits (strict_if b)) scope.CatchClause.bits ≡ true) [ true ↦ refl | false ↦ refl ])
@@ -125,39 +101,32 @@ module _ (table : List (Option ℕ)) where
       let q : Some (opened_scope p n) ≡ None = subst (λ k. cond (is_inside k r) (Some (opened_scope p n)) None ≡ None) (kind_is p.node.kind kind.CatchClause h) e in absurd cc
 
   -- what opening at a child gives
-  own_in : (p : Place) (r : Role) (own : Option OpenScope) (n : ℕ) → OwnIn own → BodiesAt n (opening_at p r own n) → OwnIn (scope_at p r own n)
+  own_in : (p : Place) (r : Role) (own : Option OpenScope) (n : ℕ) → OwnIn own → OpenedFrom HasBody n (opening_at p r own n) → OwnIn (scope_at p r own n)
   own_in p r (Some s) n h b = h
   own_in p r None n h b = go (is_inside p.node.kind r) b
     where
-      go : (t : Bool) → BodiesAt n (cond t (opening p (opened_scope p n) ∷ []) []) → OwnIn (cond t (Some (opened_scope p n)) None)
+      go : (t : Bool) → OpenedFrom HasBody n (cond t (opening p (opened_scope p n) ∷ []) []) → OwnIn (cond t (Some (opened_scope p n)) None)
       go true q = opened_in p n q.0
       go false q = tt
 
-  opening_in : (p : Place) (r : Role) (own : Option OpenScope) (n : ℕ) → AllInTable p.chain → BodyFact p own n → BodiesAt n (opening_at p r own n) → AllStepsIn (opening_at p r own n)
+  opening_in : (p : Place) (r : Role) (own : Option OpenScope) (n : ℕ) → AllInTable p.chain → BodyFact p own n → OpenedFrom HasBody n (opening_at p r own n) → AllStepsIn (opening_at p r own n)
   opening_in p r (Some s) n a f b = tt
   opening_in p r None n a f b = go (is_inside p.node.kind r) b
     where
-      go : (t : Bool) → BodiesAt n (cond t (opening p (opened_scope p n) ∷ []) []) → AllStepsIn (cond t (opening p (opened_scope p n) ∷ []) [])
+      go : (t : Bool) → OpenedFrom HasBody n (cond t (opening p (opened_scope p n) ∷ []) []) → AllStepsIn (cond t (opening p (opened_scope p n) ∷ []) [])
       go true q = ((a, opened_in p n q.0, f, no_body p n), tt)
       go false q = tt
 
-  opening_last_in : (p : Place) (own : Option OpenScope) (n : ℕ) → AllInTable p.chain → BodyFact p own n → BodiesAt n (opening_last p own n) → AllStepsIn (opening_last p own n)
+  opening_last_in : (p : Place) (own : Option OpenScope) (n : ℕ) → AllInTable p.chain → BodyFact p own n → OpenedFrom HasBody n (opening_last p own n) → AllStepsIn (opening_last p own n)
   opening_last_in p (Some s) n a f b = tt
   opening_last_in p None n a f b = go (opens p.node.kind) b
     where
-      go : (t : Bool) → BodiesAt n (cond t (opening p (opened_scope p n) ∷ closing p (opened_scope p n) ∷ []) []) → AllStepsIn (cond t (opening p (opened_scope p n) ∷ closing p (opened_scope p n) ∷ []) [])
+      go : (t : Bool) → OpenedFrom HasBody n (cond t (opening p (opened_scope p n) ∷ closing p (opened_scope p n) ∷ []) []) → AllStepsIn (cond t (opening p (opened_scope p n) ∷ closing p (opened_scope p n) ∷ []) [])
       go true q = ((a, opened_in p n q.0, f, no_body p n), (tt, tt))
       go false q = tt
 
   ending_in : (p : Place) (r : Role) (own : Option OpenScope) (after : Forest) → AllStepsIn (ending_after p r own after)
-  ending_in p r None after = tt
-  ending_in p r (Some s) after = go (is_in_header p.node.kind r && not (has_role (header_roles p.node.kind) after)) (is_inside p.node.kind r && not (any_inside p.node.kind after))
-    where
-      go : (a b : Bool) → AllStepsIn (cond a (header_ending p s ∷ []) [] ++ cond b (closing p s ∷ []) [])
-      go true true = (tt, (tt, tt))
-      go true false = (tt, tt)
-      go false true = (tt, tt)
-      go false false = tt
+  ending_in p r own after = ending_case AllStepsIn p r own after tt (λ s. (tt, tt)) (λ s. (tt, tt)) (λ s. (tt, (tt, tt)))
 
   -- a body that is still to open is not passed
   body_kept : (p : Place) (r : Role) (own : Option OpenScope) (n m : ℕ) → BodyFact p own n → BodyFact p (scope_at p r own n) m
@@ -229,41 +198,26 @@ module _ (table : List (Option ℕ)) where
   clause_starts k below h e = (refl, rw e at h)
 
   -- every place and every scope of the steps stand in the table
-  pub in_steps : (p : Place) (own : Option OpenScope) (n cursor : ℕ) (f : Forest) → AllInTable p.chain → OwnIn own → BodyFact p own n → ClauseFact p own n f → clauses_end f ≡ true → BodiesAt n (steps_below p own n cursor f) → AllStepsIn (steps_below p own n cursor f)
+  pub in_steps : (p : Place) (own : Option OpenScope) (n cursor : ℕ) (f : Forest) → AllInTable p.chain → OwnIn own → BodyFact p own n → ClauseFact p own n f → clauses_end f ≡ true → OpenedFrom HasBody n (steps_below p own n cursor f) → AllStepsIn (steps_below p own n cursor f)
   in_steps p own n cursor nothing a o f c e b = opening_last_in p own n a f b
   in_steps p own n cursor (tree r k span text marks below id after) a o f c e b =
       let node : Node = record { kind = k; span = span; text = text; marks = marks; children = below; node_id = id } in
-      let scope : Option OpenScope = scope_at p r own n in
-      let next : ℕ = next_at p r own n in
-      let child : Place = child_place p scope cursor r node in
-      let inner : ℕ = on_entering k child.cursor in
-      let xs : List Step = opening_at p r own n in
-      let ys : List Step = steps_below child None next inner below in
-      let zs : List Step = entering child ∷ (ys ++ leaving child ∷ []) in
-      let es : List Step = ending_after p r scope after in
-      let rest : ℕ = next + cond (opens k) 1 0 + scopes_in below in
-      let ws : List Step = steps_below p scope rest (cursor_past p r cursor child) after in
-      let b_opening : BodiesAt n xs = bodies_left n xs zs (bodies_left n (xs ++ zs) es (bodies_left n (xs ++ zs ++ es) ws b)) in
-      let o_scope : OwnIn scope = own_in p r own n o b_opening in
-      let c_scope : ClauseFact p scope next (tree r k span text marks below id after) = clause_opened p r own n (tree r k span text marks below id after) c in
-      let count_child : openings zs ≡ cond (opens k) 1 0 + scopes_in below = omega (arith, openings-append ys (leaving child ∷ []), opened_below child None next inner below) in
-      let b_child : BodiesAt next ys = bodies_left next ys (leaving child ∷ []) (bodies_right n next xs zs (next_opened p r own n) (bodies_left n (xs ++ zs) es (bodies_left n (xs ++ zs ++ es) ws b))) in
-      let no_openings : openings es ≡ 0 = none_after p r scope after in
-      let b_rest : BodiesAt rest ws = bodies_right n rest (xs ++ zs ++ es) ws (omega (arith, openings-append (xs ++ zs) es, openings-append xs zs, next_opened p r own n, count_child, no_openings)) b in
+      let turn : Turn = turn_at p own n cursor r node after in
+      let bodies : OpenedRound HasBody n turn = opened_round HasBody p own n cursor r node after b in
+      let o_scope : OwnIn turn.scope = own_in p r own n o bodies.before in
+      let c_scope : ClauseFact p turn.scope turn.next (tree r k span text marks below id after) = clause_opened p r own n (tree r k span text marks below id after) c in
       let e_parts : (clauses_end below && clauses_end after) ≡ true = second_holds (cond (same_kind k kind.CatchClause) (ends_with_block below) true) (clauses_end below && clauses_end after) e in
-      let chain_in : AllInTable child.chain = child_chain_in p scope cursor r node a o_scope in
-      steps_in-append (xs ++ zs ++ es) ws
-      (steps_in-append (xs ++ zs) es
-      (steps_in-append xs zs (opening_in p r own n a f b_opening) (
-        chain_in,
-        steps_in-append ys (leaving child ∷ [])
-            (in_steps child None next inner below chain_in tt
-            (child_body p scope next cursor r node after (clause_is_open p r own n) o_scope c_scope)
+      let chain_in : AllInTable turn.child.chain = child_chain_in p turn.scope cursor r node a o_scope in
+      each_of_turn IsStepIn turn (record {
+        before = opening_in p r own n a f bodies.before;
+        whole = each_of_node IsStepIn turn.child turn.below chain_in
+            (in_steps turn.child None turn.next turn.inner below chain_in tt
+            (child_body p turn.scope turn.next cursor r node after (clause_is_open p r own n) o_scope c_scope)
             (clause_starts k below (first_holds (cond (same_kind k kind.CatchClause) (ends_with_block below) true) (clauses_end below && clauses_end after) e))
-            (first_holds (clauses_end below) (clauses_end after) e_parts) b_child)
-            (tt, tt),
-      ))
-      (ending_in p r scope after))
-      (in_steps p scope rest (cursor_past p r cursor child) after a o_scope (body_kept p r own n rest f)
-      (clause_passed p scope next r node after (clause_is_open p r own n) c_scope)
-      (second_holds (clauses_end below) (clauses_end after) e_parts) b_rest)
+            (first_holds (clauses_end below) (clauses_end after) e_parts) bodies.below)
+            tt;
+        behind = ending_in p r turn.scope after;
+        others = in_steps p turn.scope turn.rest turn.past after a o_scope (body_kept p r own n turn.rest f)
+            (clause_passed p turn.scope turn.next r node after (clause_is_open p r own n) c_scope)
+            (second_holds (clauses_end below) (clauses_end after) e_parts) bodies.others;
+      })

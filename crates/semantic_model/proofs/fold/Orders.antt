@@ -22,7 +22,9 @@ use Rattle.semantic_model.proofs.fold.Changes.{Sound, sound_start}
 use Rattle.semantic_model.proofs.fold.TakeOvers.{IsReady, Orderly, sound_run}
 use Rattle.semantic_model.proofs.form.Clauses.{clauses_end, second_holds, kind_is}
 use Rattle.semantic_model.proofs.form.ParameterShape.{parameters_stand}
-use Rattle.semantic_model.proofs.fold.BodyChains.{BodiesAt, bodies_left, AllStepsIn, steps_in-append, in_steps}
+use Rattle.semantic_model.proofs.fold.BodyChains.{HasBody, IsStepIn, AllStepsIn, in_steps}
+use Rattle.semantic_model.proofs.steps.OpenedFrom.{OpenedFrom, opened_left}
+use Rattle.semantic_model.proofs.steps.EachStep.{each_of_node}
 use Rattle.semantic_model.proofs.fold.Declared.{IsDeclaredIn, IsEventIn, AllEventsIn, all_events_in}
 
 -- each declaration makes one entry
@@ -74,7 +76,7 @@ bodies (header_ending p s ∷ more) = bodies more
 bodies (closing p s ∷ more) = bodies more
 bodies (leaving p ∷ more) = bodies more
 
-bodies_at : (table : List (Option ℕ)) (n : ℕ) (ss : List Step) → ((i : ℕ) → slice_get table (n + i) ≡ slice_get (bodies ss) i) → BodiesAt table n ss
+bodies_at : (table : List (Option ℕ)) (n : ℕ) (ss : List Step) → ((i : ℕ) → slice_get table (n + i) ≡ slice_get (bodies ss) i) → OpenedFrom (HasBody table) n ss
 bodies_at table n [] h = tt
 bodies_at table n (opening p s ∷ more) h =
     (subst (λ m. slice_get table m ≡ Some s.body) (omega arith) (h 0), bodies_at table (suc n) more (λ i. subst (λ m. slice_get table m ≡ slice_get (bodies more) i) (omega arith) (h (suc i))))
@@ -103,16 +105,14 @@ pub steps_in : (p : Tree) → HasForm p → AllStepsIn (table_of p) (steps p)
 steps_in p h =
     let table : List (Option ℕ) = table_of p in
     let root : Place = root_place p in
-    let all : BodiesAt table 0 (steps p) = bodies_at table 0 (steps p) (λ i. ap (slice_get table) (zero-add i)) in
-    let below : List Step = steps_below root None 0 (on_entering p.root.kind 0) p.root.children in (
-      tt,
-      steps_in-append table below (leaving root ∷ [])
-          (in_steps table root None 0 (on_entering p.root.kind 0) p.root.children tt tt
-          (λ e. (let q : false ≡ true = second_holds (is kind.BlockStatement p.root && same_role role.Root role.Body) false e in absurd cc))
-          (λ e. (let q : kind.Program ≡ kind.CatchClause = sym h.root ∙ kind_is p.root.kind kind.CatchClause e in absurd cc))
-          h.clauses (bodies_left table 0 below (leaving root ∷ []) all))
-          (tt, tt),
-    )
+    let all : OpenedFrom (HasBody table) 0 (steps p) = bodies_at table 0 (steps p) (λ i. ap (slice_get table) (zero-add i)) in
+    let below : List Step = steps_below root None 0 (on_entering p.root.kind 0) p.root.children in
+    each_of_node (IsStepIn table) root below tt
+    (in_steps table root None 0 (on_entering p.root.kind 0) p.root.children tt tt
+    (λ e. (let q : false ≡ true = second_holds (is kind.BlockStatement p.root && same_role role.Root role.Body) false e in absurd cc))
+    (λ e. (let q : kind.Program ≡ kind.CatchClause = sym h.root ∙ kind_is p.root.kind kind.CatchClause e in absurd cc))
+    h.clauses (opened_left (HasBody table) 0 below (leaving root ∷ []) all))
+    tt
 
 pub events_in : (p : Tree) (h : HasForm p) → AllEventsIn (table_of p) (root_body p h) (events (steps p))
 events_in p h = all_events_in (table_of p) (root_body p h) (written_declarations (steps p)) (steps p) (steps_in p h)

@@ -8,8 +8,9 @@ use Rattle.semantic_tree.specs.Views.{has_role}
 use Rattle.semantic_model.specs.Place.{Place, OpenScope}
 use Rattle.semantic_model.specs.Inside.{opens, is_inside, scopes_in, is_in_header, header_roles, any_inside}
 use Rattle.semantic_model.specs.ScopeKind.{opened_scope}
-use Rattle.semantic_model.specs.Cursor.{on_entering}
-use Rattle.semantic_model.specs.Step.{Step, entering, opening, header_ending, closing, leaving, steps_below, steps_of, opening_at, ending_after, opening_last, scope_at, next_at, child_place, cursor_past}
+use Rattle.semantic_model.specs.Step.{Step, entering, opening, header_ending, closing, leaving, steps_below, opening_at, ending_after, opening_last, scope_at, next_at}
+use Rattle.semantic_model.proofs.steps.TurnCases.{opening_case, last_case}
+use Rattle.semantic_model.proofs.steps.Turn.{Turn, turn_at, turn_sum}
 use Rattle.semantic_model.proofs.steps.Opened.{left_to_open, inside_opens}
 
 -- how often the header of a scope ends
@@ -29,6 +30,11 @@ ends-append c (entering p ∷ xs) ys = ends-append c xs ys
 ends-append c (closing p s ∷ xs) ys = ends-append c xs ys
 ends-append c (leaving p ∷ xs) ys = ends-append c xs ys
 
+pub ends_of_turn : (c : ℕ) (p : Place) (own : Option OpenScope) (n cursor : ℕ) (r : Role) (node : Node) (after : Forest)
+    → let turn : Turn = turn_at p own n cursor r node after in ends c (turn.before ++ turn.whole ++ turn.behind ++ turn.others) ≡ ends c turn.before + ends c turn.below + ends c turn.behind + ends c turn.others
+ends_of_turn c p own n cursor r node after =
+    let turn : Turn = turn_at p own n cursor r node after in omega (arith, turn_sum (ends c) (ends-append c) turn, ends-append c turn.below (leaving turn.child ∷ []))
+
 -- the number is not that of the scope
 abbrev pub IsNot : ℕ → Option OpenScope → Type 0
 IsNot c None = Unit {0}
@@ -39,20 +45,10 @@ abbrev pub LiesOutside : ℕ → ℕ → ℕ → Type 0
 LiesOutside c n count = (c < n) ⊎ (n + count ≤ c)
 
 pub none_opening : (c : ℕ) (p : Place) (r : Role) (own : Option OpenScope) (n : ℕ) → ends c (opening_at p r own n) ≡ 0
-none_opening c p r (Some s) n = refl
-none_opening c p r None n = by (is_inside p.node.kind r)
-  where
-    by : (b : Bool) → ends c (cond b (opening p (opened_scope p n) ∷ []) []) ≡ 0
-    by true = refl
-    by false = refl
+none_opening c p r own n = opening_case (λ ss. ends c ss ≡ 0) p r own n refl refl
 
 pub none_last : (c : ℕ) (p : Place) (own : Option OpenScope) (n : ℕ) → ends c (opening_last p own n) ≡ 0
-none_last c p (Some s) n = refl
-none_last c p None n = by (opens p.node.kind)
-  where
-    by : (b : Bool) → ends c (cond b (opening p (opened_scope p n) ∷ closing p (opened_scope p n) ∷ []) []) ≡ 0
-    by true = refl
-    by false = refl
+none_last c p own n = last_case (λ ss. ends c ss ≡ 0) p own n refl refl
 
 ending_by : (c : ℕ) (a b : Bool) (p : Place) (s : OpenScope) → ends c (cond a (header_ending p s ∷ []) [] ++ cond b (closing p s ∷ []) []) ≡ cond a (cond (s.number == c) 1 0) 0
 ending_by c true true p s = omega arith
@@ -117,28 +113,16 @@ pub ends_outside : (c : ℕ) (p : Place) (own : Option OpenScope) (n cursor : �
 ends_outside c p own n cursor nothing h l = none_last c p own n
 ends_outside c p own n cursor (tree r kind span text marks below id after) h l =
     let node : Node = record { kind = kind; span = span; text = text; marks = marks; children = below; node_id = id } in
-    let scope : Option OpenScope = scope_at p r own n in
-    let next : ℕ = next_at p r own n in
-    let child : Place = child_place p scope cursor r node in
-    let inner : ℕ = on_entering kind child.cursor in
-    let a : List Step = opening_at p r own n in
-    let b : List Step = steps_of child next in
-    let e : List Step = ending_after p r scope after in
-    let rest : ℕ = next + cond (opens kind) 1 0 + scopes_in below in
-    let past : ℕ = cursor_past p r cursor child in
-    let d : List Step = steps_below p scope rest past after in
+    let turn : Turn = turn_at p own n cursor r node after in
     let k : ℕ = cond (opens kind) 1 0 + scopes_in below in
-    let own_is_not : IsNot c scope = own_after c p r own n (k + scopes_in after) h l in
+    let own_is_not : IsNot c turn.scope = own_after c p r own n (k + scopes_in after) h l in
     omega (
       arith,
-      ends-append c (a ++ b ++ e) d,
-      ends-append c (a ++ b) e,
-      ends-append c a b,
-      ends-append c (steps_below child None next inner below) (leaving child ∷ []),
+      ends_of_turn c p own n cursor r node after,
       none_opening c p r own n,
-      none_ending c p r scope after own_is_not,
-      ends_outside c child None next inner below tt (outside_child c n next (left_to_open own p) (left_to_open scope p) k (scopes_in after) (later p r own n) (balance p r own n) l),
-      ends_outside c p scope rest past after own_is_not (outside_rest c n next (left_to_open own p) (left_to_open scope p) k rest (scopes_in after) (later p r own n) (balance p r own n) (omega arith) l),
+      none_ending c p r turn.scope after own_is_not,
+      ends_outside c turn.child None turn.next turn.inner below tt (outside_child c n turn.next (left_to_open own p) (left_to_open turn.scope p) k (scopes_in after) (later p r own n) (balance p r own n) l),
+      ends_outside c p turn.scope turn.rest turn.past after own_is_not (outside_rest c n turn.next (left_to_open own p) (left_to_open turn.scope p) k turn.rest (scopes_in after) (later p r own n) (balance p r own n) (omega arith) l),
     )
 
 pub parts_sum : (a b e : Bool) → e ≡ true → ◌≡◌ {A = ℕ} (cond (a && not b) (cond e 1 0) 0 + cond b 1 0) (cond (a || b) 1 0)
@@ -152,20 +136,12 @@ pub ends_own : (p : Place) (s : OpenScope) (n cursor : ℕ) (f : Forest) → s.n
 ends_own p s n cursor nothing h = refl
 ends_own p s n cursor (tree r kind span text marks below id after) h =
     let node : Node = record { kind = kind; span = span; text = text; marks = marks; children = below; node_id = id } in
-    let child : Place = child_place p (Some s) cursor r node in
-    let inner : ℕ = on_entering kind child.cursor in
-    let b : List Step = steps_of child n in
-    let e : List Step = ending_after p r (Some s) after in
-    let rest : ℕ = n + cond (opens kind) 1 0 + scopes_in below in
-    let past : ℕ = cursor_past p r cursor child in
-    let d : List Step = steps_below p (Some s) rest past after in
+    let turn : Turn = turn_at p (Some s) n cursor r node after in
     omega (
       arith,
-      ends-append s.number (b ++ e) d,
-      ends-append s.number b e,
-      ends-append s.number (steps_below child None n inner below) (leaving child ∷ []),
-      ends_outside s.number child None n inner below tt (inl h),
+      ends_of_turn s.number p (Some s) n cursor r node after,
+      ends_outside s.number turn.child None n turn.inner below tt (inl h),
       ends_after s.number p r s after,
-      ends_own p s rest past after (omega arith),
+      ends_own p s turn.rest turn.past after (omega arith),
       parts_sum (is_in_header p.node.kind r) (has_role (header_roles p.node.kind) after) (s.number == s.number) (eq-eqb s.number s.number refl),
     )

@@ -1,5 +1,5 @@
 -- The header of each scope that holds a place ends exactly once.
-use Rattle.std.proofs.Common.{◌≡◌, ℕ, zero, suc, ◌+◌, ◌<◌, ◌≤◌, ◌==◌, List, [], ◌∷◌, ◌++◌, Option, Some, None, Bool, true, false, cond, not, ◌&&◌, ◌||◌, ◌⊎◌, inl, inr, refl, ap, sym, subst, arith}
+use Rattle.std.proofs.Common.{◌≡◌, ℕ, zero, suc, ◌+◌, ◌<◌, ◌≤◌, ◌==◌, List, [], ◌∷◌, ◌++◌, Option, Some, None, Bool, true, false, cond, ◌||◌, ◌⊎◌, inl, inr, refl, ap, sym, subst, arith}
 use Rattle.std.proofs.lemmas.Bool.{eq-eqb, eqb-false}
 use Rattle.std.proofs.lemmas.Bool.Decides.{eqb_tells}
 use Rattle.semantic_tree.specs.Forest.{Forest, nothing, tree}
@@ -8,11 +8,13 @@ use Rattle.semantic_tree.specs.declared.node.Node.{Node}
 use Rattle.semantic_tree.specs.Views.{has_role}
 use Rattle.semantic_tree.specs.Tree.{Tree}
 use Rattle.semantic_model.specs.Place.{Place, OpenScope, outside}
-use Rattle.semantic_model.specs.Inside.{opens, is_inside, scopes_in, is_in_header, header_roles, any_inside, is_parameter_decorator}
+use Rattle.semantic_model.specs.Inside.{is_inside, is_in_header, header_roles, is_parameter_decorator}
 use Rattle.semantic_model.specs.ScopeKind.{opened_scope}
 use Rattle.semantic_model.specs.Cursor.{on_entering}
-use Rattle.semantic_model.specs.Step.{Step, entering, opening, header_ending, closing, leaving, steps_below, steps_of, steps, root_place, opening_at, ending_after, opening_last, scope_at, next_at, child_place, chain_within, cursor_past}
-use Rattle.semantic_model.proofs.once.Headers.{ends, ends-append, IsNot, none_opening, none_last, none_ending, ends_after, ends_outside, ends_own, parts_sum}
+use Rattle.semantic_model.specs.Step.{Step, entering, opening, header_ending, closing, leaving, steps_below, steps, root_place, opening_at, ending_after, opening_last, scope_at, next_at, child_place, chain_within}
+use Rattle.semantic_model.proofs.steps.TurnCases.{opening_case, ending_case, last_case}
+use Rattle.semantic_model.proofs.steps.Turn.{Turn, turn_at}
+use Rattle.semantic_model.proofs.once.Headers.{ends, ends-append, ends_of_turn, IsNot, none_opening, none_last, none_ending, ends_after, ends_outside, ends_own, parts_sum}
 use Rattle.semantic_model.specs.Entries.{Among}
 
 pub less_or : (a b : ℕ) → (a < b) ⊎ (b ≤ a)
@@ -62,25 +64,16 @@ pub at_most_once : (c : ℕ) (p : Place) (own : Option OpenScope) (n cursor : �
 at_most_once c p own n cursor nothing h = omega (arith, none_last c p own n)
 at_most_once c p own n cursor (tree r kind span text marks below id after) h =
     let node : Node = record { kind = kind; span = span; text = text; marks = marks; children = below; node_id = id } in
-    let scope : Option OpenScope = scope_at p r own n in
-    let next : ℕ = next_at p r own n in
-    let child : Place = child_place p scope cursor r node in
-    let inner : ℕ = on_entering kind child.cursor in
-    let a : List Step = opening_at p r own n in
-    let b : List Step = steps_of child next in
-    let e : List Step = ending_after p r scope after in
-    let rest : ℕ = next + cond (opens kind) 1 0 + scopes_in below in
-    let past : ℕ = cursor_past p r cursor child in
-    let d : List Step = steps_below p scope rest past after in
-    let scope_below : OwnBelow scope next = own_below p r own n h in
-    let scope_below_rest : OwnBelow scope rest = own_below_more scope next rest (omega arith) scope_below in
-    let sum : ends c (a ++ b ++ e ++ d) ≡ ends c (steps_below child None next inner below) + ends c e + ends c d =
-    omega (arith, ends-append c (a ++ b ++ e) d, ends-append c (a ++ b) e, ends-append c a b, ends-append c (steps_below child None next inner below) (leaving child ∷ []), none_opening c p r own n) in
-    elim (tells c scope) [
-      | inr is ↦ omega (arith, sum, ends_outside c child None next inner below tt (inl (own_less c scope next is scope_below)), own_part c p r scope rest past after is scope_below_rest, bit_le (is_in_header p.node.kind r || has_role (header_roles p.node.kind) after))
-      | inl apart ↦ elim (less_or c rest) [
-        | inl l ↦ omega (arith, sum, none_ending c p r scope after apart, ends_outside c p scope rest past after apart (inl l), at_most_once c child None next inner below tt)
-        | inr l ↦ omega (arith, sum, none_ending c p r scope after apart, ends_outside c child None next inner below tt (inr (omega (arith, l))), at_most_once c p scope rest past after scope_below_rest)
+    let turn : Turn = turn_at p own n cursor r node after in
+    let scope_below : OwnBelow turn.scope turn.next = own_below p r own n h in
+    let scope_below_rest : OwnBelow turn.scope turn.rest = own_below_more turn.scope turn.next turn.rest (omega arith) scope_below in
+    let sum : ends c (turn.before ++ turn.whole ++ turn.behind ++ turn.others) ≡ ends c turn.below + ends c turn.behind + ends c turn.others =
+    omega (arith, ends_of_turn c p own n cursor r node after, none_opening c p r own n) in
+    elim (tells c turn.scope) [
+      | inr is ↦ omega (arith, sum, ends_outside c turn.child None turn.next turn.inner below tt (inl (own_less c turn.scope turn.next is scope_below)), own_part c p r turn.scope turn.rest turn.past after is scope_below_rest, bit_le (is_in_header p.node.kind r || has_role (header_roles p.node.kind) after))
+      | inl apart ↦ elim (less_or c turn.rest) [
+        | inl l ↦ omega (arith, sum, none_ending c p r turn.scope after apart, ends_outside c p turn.scope turn.rest turn.past after apart (inl l), at_most_once c turn.child None turn.next turn.inner below tt)
+        | inr l ↦ omega (arith, sum, none_ending c p r turn.scope after apart, ends_outside c turn.child None turn.next turn.inner below tt (inr (omega (arith, l))), at_most_once c p turn.scope turn.rest turn.past after scope_below_rest)
       ]
     ]
 
@@ -103,30 +96,13 @@ entered-append q (closing p s ∷ xs) ys h = entered-append q xs ys h
 entered-append q (leaving p ∷ xs) ys h = entered-append q xs ys h
 
 not_in_opening : (q p : Place) (r : Role) (own : Option OpenScope) (n : ℕ) → IsEntered q (opening_at p r own n) → ⊥
-not_in_opening q p r (Some s) n h = h
-not_in_opening q p r None n h = by (is_inside p.node.kind r) h
-  where
-    by : (b : Bool) → IsEntered q (cond b (opening p (opened_scope p n) ∷ []) []) → ⊥
-    by true h = h
-    by false h = h
+not_in_opening q p r own n = opening_case (λ ss. IsEntered q ss → ⊥) p r own n (λ h. h) (λ h. h)
 
 not_in_last : (q p : Place) (own : Option OpenScope) (n : ℕ) → IsEntered q (opening_last p own n) → ⊥
-not_in_last q p (Some s) n h = h
-not_in_last q p None n h = by (opens p.node.kind) h
-  where
-    by : (b : Bool) → IsEntered q (cond b (opening p (opened_scope p n) ∷ closing p (opened_scope p n) ∷ []) []) → ⊥
-    by true h = h
-    by false h = h
+not_in_last q p own n = last_case (λ ss. IsEntered q ss → ⊥) p own n (λ h. h) (λ h. h)
 
 not_in_ending : (q p : Place) (r : Role) (own : Option OpenScope) (after : Forest) → IsEntered q (ending_after p r own after) → ⊥
-not_in_ending q p r None after h = h
-not_in_ending q p r (Some s) after h = by (is_in_header p.node.kind r && not (has_role (header_roles p.node.kind) after)) (is_inside p.node.kind r && not (any_inside p.node.kind after)) h
-  where
-    by : (a b : Bool) → IsEntered q (cond a (header_ending p s ∷ []) [] ++ cond b (closing p s ∷ []) []) → ⊥
-    by true true h = h
-    by true false h = h
-    by false true h = h
-    by false false h = h
+not_in_ending q p r own after = ending_case (λ ss. IsEntered q ss → ⊥) p r own after (λ h. h) (λ s h. h) (λ s h. h) (λ s h. h)
 
 among_outside : (t : OpenScope) (chain : List OpenScope) → Among t (outside chain) → Among t chain
 among_outside t [] h = h
@@ -167,43 +143,33 @@ pub at_least_once : (p : Place) (own : Option OpenScope) (n cursor : ℕ) (f : F
 at_least_once p own n cursor nothing h q entered t among = absurd (not_in_last q p own n entered)
 at_least_once p own n cursor (tree r kind span text marks below id after) h q entered t among =
     let node : Node = record { kind = kind; span = span; text = text; marks = marks; children = below; node_id = id } in
-    let scope : Option OpenScope = scope_at p r own n in
-    let next : ℕ = next_at p r own n in
-    let child : Place = child_place p scope cursor r node in
-    let inner : ℕ = on_entering kind child.cursor in
-    let a : List Step = opening_at p r own n in
-    let s_child : List Step = steps_below child None next inner below in
-    let b : List Step = steps_of child next in
-    let e : List Step = ending_after p r scope after in
-    let rest : ℕ = next + cond (opens kind) 1 0 + scopes_in below in
-    let past : ℕ = cursor_past p r cursor child in
-    let d : List Step = steps_below p scope rest past after in
-    let all : List Step = a ++ b ++ e ++ d in
-    let scope_below_rest : OwnBelow scope rest = own_below_more scope next rest (omega arith) (own_below p r own n h) in
-    let sum : ends t.number all ≡ ends t.number s_child + ends t.number e + ends t.number d =
-    omega (arith, ends-append t.number (a ++ b ++ e) d, ends-append t.number (a ++ b) e, ends-append t.number a b, ends-append t.number s_child (leaving child ∷ []), none_opening t.number p r own n) in
-    let from_child : Among t child.chain → Ends p t all =
-    λ at. elim (child_chain p scope cursor r node t at) [
+    let turn : Turn = turn_at p own n cursor r node after in
+    let all : List Step = turn.before ++ turn.whole ++ turn.behind ++ turn.others in
+    let scope_below_rest : OwnBelow turn.scope turn.rest = own_below_more turn.scope turn.next turn.rest (omega arith) (own_below p r own n h) in
+    let sum : ends t.number all ≡ ends t.number turn.below + ends t.number turn.behind + ends t.number turn.others =
+    omega (arith, ends_of_turn t.number p own n cursor r node after, none_opening t.number p r own n) in
+    let from_child : Among t turn.child.chain → Ends p t all =
+    λ at. elim (child_chain p turn.scope cursor r node t at) [
       | inl l ↦ inl l
-      | inr own_is ↦ inr (λ held. omega (arith, sum, own_part t.number p r scope rest past after own_is.is scope_below_rest, or_true (is_in_header p.node.kind r) (has_role (header_roles p.node.kind) after) (own_header own_is held)))
+      | inr own_is ↦ inr (λ held. omega (arith, sum, own_part t.number p r turn.scope turn.rest turn.past after own_is.is scope_below_rest, or_true (is_in_header p.node.kind r) (has_role (header_roles p.node.kind) after) (own_header own_is held)))
     ] in
-    let in_child : IsEntered q s_child → Ends p t all =
-    λ inside. elim (at_least_once child None next inner below tt q inside t among) [
+    let in_child : IsEntered q turn.below → Ends p t all =
+    λ inside. elim (at_least_once turn.child None turn.next turn.inner below tt q inside t among) [
       | inl at ↦ from_child at
       | inr some ↦ inr (λ held. omega (arith, sum, some held))
     ] in
-    elim (entered-append q (a ++ b ++ e) d entered) [
-      | inr in_rest ↦ elim (at_least_once p scope rest past after scope_below_rest q in_rest t among) [
+    elim (entered-append q (turn.before ++ turn.whole ++ turn.behind) turn.others entered) [
+      | inr in_rest ↦ elim (at_least_once p turn.scope turn.rest turn.past after scope_below_rest q in_rest t among) [
         | inl at ↦ inl at
         | inr some ↦ inr (λ held. omega (arith, sum, some held))
       ]
-      | inl before ↦ elim (entered-append q (a ++ b) e before) [
-        | inr in_ending ↦ absurd (not_in_ending q p r scope after in_ending)
-        | inl before' ↦ elim (entered-append q a b before') [
+      | inl before ↦ elim (entered-append q (turn.before ++ turn.whole) turn.behind before) [
+        | inr in_ending ↦ absurd (not_in_ending q p r turn.scope after in_ending)
+        | inl before' ↦ elim (entered-append q turn.before turn.whole before') [
           | inl in_opening ↦ absurd (not_in_opening q p r own n in_opening)
           | inr in_b ↦ elim in_b [
             | inl is ↦ from_child (subst (λ x. Among t x.chain) (sym is) among)
-            | inr below_child ↦ elim (entered-append q s_child (leaving child ∷ []) below_child) [ inl inside ↦ in_child inside | inr nowhere ↦ absurd nowhere ]
+            | inr below_child ↦ elim (entered-append q turn.below (leaving turn.child ∷ []) below_child) [ inl inside ↦ in_child inside | inr nowhere ↦ absurd nowhere ]
           ]
         ]
       ]

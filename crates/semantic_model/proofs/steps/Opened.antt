@@ -1,15 +1,16 @@
 -- How many scopes open in the steps of a forest.
-use Rattle.std.proofs.Common.{◌≡◌, ℕ, suc, ◌+◌, List, [], ◌∷◌, ◌++◌, Option, Some, None, Bool, true, false, cond, not, ◌&&◌, refl, arith}
+use Rattle.std.proofs.Common.{◌≡◌, ℕ, suc, ◌+◌, List, [], ◌∷◌, ◌++◌, Option, Some, None, Bool, true, false, cond, refl, arith}
 use Rattle.semantic_tree.specs.Forest.{Forest, nothing, tree}
 use Rattle.semantic_kinds.specs.declared.kind.AstType.{AstType}
 use Rattle.semantic_kinds.specs.declared.role.Role.{Role}
 use Rattle.semantic_model.specs.Place.{Place, OpenScope}
-use Rattle.semantic_model.specs.Inside.{Inside, no_scope_opens, all_children, only, all_but, inside, opens, is_inside, opens_for, holds_for, scopes_in, is_in_header, header_roles, any_inside}
-use Rattle.semantic_tree.specs.Views.{has_role}
+use Rattle.semantic_model.specs.Inside.{Inside, no_scope_opens, all_children, only, all_but, inside, opens, is_inside, opens_for, holds_for, scopes_in}
 use Rattle.semantic_model.specs.ScopeKind.{opened_scope}
 use Rattle.semantic_model.specs.Cursor.{on_entering}
 use Rattle.semantic_tree.specs.declared.node.Node.{Node}
-use Rattle.semantic_model.specs.Step.{Step, entering, opening, header_ending, closing, leaving, steps_below, steps_of, opening_at, ending_after, opening_last, scope_at, next_at, child_place, cursor_past}
+use Rattle.semantic_model.specs.Step.{Step, entering, opening, header_ending, closing, leaving, steps_below, steps_of, opening_at, ending_after, opening_last, scope_at, next_at}
+use Rattle.semantic_model.proofs.steps.TurnCases.{ending_case}
+use Rattle.semantic_model.proofs.steps.Turn.{Turn, turn_at, turn_sum}
 
 -- how many scopes the steps open
 abbrev pub openings : List Step → ℕ
@@ -38,13 +39,6 @@ inside_opens_for (all_but q) r h = refl
 pub inside_opens : (k : AstType) (r : Role) → is_inside k r ≡ true → opens k ≡ true
 inside_opens k r h = inside_opens_for (inside k) r h
 
--- no scope opens after a child
-no_opening : (a b : Bool) (p : Place) (s : OpenScope) → openings (cond a (header_ending p s ∷ []) [] ++ cond b (closing p s ∷ []) []) ≡ 0
-no_opening true true p s = refl
-no_opening true false p s = refl
-no_opening false true p s = refl
-no_opening false false p s = refl
-
 -- whether the scope of a place is still to open
 abbrev pub left_to_open : Option OpenScope → Place → ℕ
 left_to_open (Some s) p = 0
@@ -67,10 +61,9 @@ next_opened p r None n = by (is_inside p.node.kind r)
     by true = omega arith
     by false = omega arith
 
+-- no scope opens after a child
 pub none_after : (p : Place) (r : Role) (own : Option OpenScope) (after : Forest) → openings (ending_after p r own after) ≡ 0
-none_after p r None after = refl
-none_after p r (Some s) after =
-    no_opening (is_in_header p.node.kind r && not (has_role (header_roles p.node.kind) after)) (is_inside p.node.kind r && not (any_inside p.node.kind after)) p s
+none_after p r own after = ending_case (λ ss. openings ss ≡ 0) p r own after refl (λ s. refl) (λ s. refl) (λ s. refl)
 
 open_last : (b : Bool) (p : Place) (s : OpenScope) → openings (cond b (opening p s ∷ closing p s ∷ []) []) ≡ cond b 1 0
 open_last true p s = refl
@@ -85,25 +78,15 @@ pub opened_below : (p : Place) (own : Option OpenScope) (n cursor : ℕ) (f : Fo
 opened_below p own n cursor nothing = omega (arith, opened_last p own n)
 opened_below p own n cursor (tree r kind span text marks below id after) =
     let node : Node = record { kind = kind; span = span; text = text; marks = marks; children = below; node_id = id } in
-    let scope : Option OpenScope = scope_at p r own n in
-    let next : ℕ = next_at p r own n in
-    let child : Place = child_place p scope cursor r node in
-    let a : List Step = opening_at p r own n in
-    let b : List Step = steps_of child next in
-    let c : List Step = ending_after p r scope after in
-    let rest : ℕ = next + cond (opens kind) 1 0 + scopes_in below in
-    let past : ℕ = cursor_past p r cursor child in
-    let d : List Step = steps_below p scope rest past after in
+    let turn : Turn = turn_at p own n cursor r node after in
     omega (
       arith,
-      openings-append (a ++ b ++ c) d,
-      openings-append (a ++ b) c,
-      openings-append a b,
-      openings-append (steps_below child None next (on_entering kind child.cursor) below) (leaving child ∷ []),
+      turn_sum openings openings-append turn,
+      openings-append turn.below (leaving turn.child ∷ []),
       opening_here p r own n,
-      none_after p r scope after,
-      opened_below child None next (on_entering kind child.cursor) below,
-      opened_below p scope rest past after,
+      none_after p r turn.scope after,
+      opened_below turn.child None turn.next turn.inner below,
+      opened_below p turn.scope turn.rest turn.past after,
     )
 
 -- as many scopes open in the steps of a node as it and the nodes below it open
@@ -113,4 +96,17 @@ opened_by_node p n =
       arith,
       openings-append (steps_below p None n (on_entering p.node.kind p.cursor) p.node.children) (leaving p ∷ []),
       opened_below p None n (on_entering p.node.kind p.cursor) p.node.children,
+    )
+
+-- and so many are opened before the children after the first one
+pub rest_opened : (p : Place) (own : Option OpenScope) (n cursor : ℕ) (r : Role) (node : Node) (after : Forest) → let turn : Turn = turn_at p own n cursor r node after in n + openings (turn.before ++ turn.whole ++ turn.behind) ≡ turn.rest
+rest_opened p own n cursor r node after =
+    let turn : Turn = turn_at p own n cursor r node after in
+    omega (
+      arith,
+      openings-append (turn.before ++ turn.whole) turn.behind,
+      openings-append turn.before turn.whole,
+      next_opened p r own n,
+      opened_by_node turn.child turn.next,
+      none_after p r turn.scope after,
     )

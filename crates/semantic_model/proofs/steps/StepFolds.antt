@@ -1,15 +1,15 @@
 -- A fold over steps that does something only as nodes are entered and left does what a walk over their forest does.
-use Rattle.std.proofs.Common.{◌≡◌, ℕ, ◌+◌, List, [], ◌∷◌, ◌++◌, Option, None, cond, sym, ap, ◌∙◌}
+use Rattle.std.proofs.Common.{◌≡◌, ℕ, List, [], ◌∷◌, ◌++◌, Option, None, sym, ap, ◌∙◌}
 use Rattle.semantic_syntax.specs.declared.spans.Span.{Span}
 use Rattle.semantic_kinds.specs.declared.kind.AstType.{AstType}
 use Rattle.semantic_kinds.specs.declared.marks.Marks.{Marks}
 use Rattle.semantic_kinds.specs.declared.role.Role.{Role}
 use Rattle.semantic_tree.specs.Forest.{Forest, nothing, tree}
 use Rattle.semantic_tree.specs.declared.node.Node.{Node}
-use Rattle.semantic_model.specs.Inside.{opens, scopes_in}
 use Rattle.semantic_model.specs.Place.{Place, OpenScope}
 use Rattle.semantic_model.specs.Cursor.{on_entering}
-use Rattle.semantic_model.specs.Step.{Step, entering, opening, leaving, header_ending, closing, scope_at, next_at, opening_at, ending_after, opening_last, child_place, cursor_past, steps_below, steps_of}
+use Rattle.semantic_model.specs.Step.{Step, entering, opening, leaving, header_ending, closing, opening_at, ending_after, opening_last, child_place, steps_below, steps_of}
+use Rattle.semantic_model.proofs.steps.Turn.{Turn, turn_at}
 use Rattle.semantic_model.proofs.steps.TurnCases.{opening_case, ending_case, last_case}
 
 -- `done` folds `act` over steps, `walked` goes over the forest below a node of a kind and an id
@@ -55,21 +55,13 @@ module _ {S : Type 0} {act : S → Step → S} {done : S → List Step → S} {e
   steps_done nothing p own n cursor s = last_quietly p own n s ∙ sym (w.no_child p.node.kind p.node.node_id s)
   steps_done (tree r k span text marks below id after) p own n cursor s =
       let here : Node = record { kind = k; span = span; text = text; marks = marks; children = below; node_id = id } in
-      let scope : Option OpenScope = scope_at p r own n in
-      let next : ℕ = next_at p r own n in
-      let child : Place = child_place p scope cursor r here in
-      let before : List Step = opening_at p r own n in
-      let inner : List Step = steps_below child None next (on_entering k child.cursor) below in
-      let mine : List Step = entering child ∷ (inner ++ leaving child ∷ []) in
-      let behind : List Step = ending_after p r scope after in
-      let rest : ℕ = next + cond (opens k) 1 0 + scopes_in below in
-      let past : ℕ = cursor_past p r cursor child in
+      let turn : Turn = turn_at p own n cursor r here after in
       let into : S = enter p.node.kind p.node.node_id here s in
-      let child_done : done s mine ≡ leave here (walked k id below into) =
-      node_done (entering child) inner child s ∙ ap (λ a. leave here (done a inner)) (w.enters s p scope cursor r here) ∙ ap (leave here) (steps_done below child None next (on_entering k child.cursor) into) in
-      done-append s (before ++ mine ++ behind) (steps_below p scope rest past after)
-      ∙ ap (λ a. done a (steps_below p scope rest past after)) (done-append s (before ++ mine) behind ∙ ends_quietly p r scope after (done s (before ++ mine)) ∙ done-append s before mine ∙ ap (λ a. done a mine) (opens_quietly p r own n s) ∙ child_done)
-      ∙ steps_done after p scope rest past (leave here (walked k id below into))
+      let child_done : done s turn.whole ≡ leave here (walked k id below into) =
+      node_done (entering turn.child) turn.below turn.child s ∙ ap (λ a. leave here (done a turn.below)) (w.enters s p turn.scope cursor r here) ∙ ap (leave here) (steps_done below turn.child None turn.next turn.inner into) in
+      done-append s (turn.before ++ turn.whole ++ turn.behind) turn.others
+      ∙ ap (λ a. done a turn.others) (done-append s (turn.before ++ turn.whole) turn.behind ∙ ends_quietly p r turn.scope after (done s (turn.before ++ turn.whole)) ∙ done-append s turn.before turn.whole ∙ ap (λ a. done a turn.whole) (opens_quietly p r own n s) ∙ child_done)
+      ∙ steps_done after p turn.scope turn.rest turn.past (leave here (walked k id below into))
       ∙ sym (w.child p.node.kind p.node.node_id r k span text marks below id after s)
 
   -- the steps of a node

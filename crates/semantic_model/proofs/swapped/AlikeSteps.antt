@@ -6,11 +6,12 @@ use Rattle.semantic_tree.specs.declared.node.Node.{Node}
 use Rattle.semantic_kinds.specs.declared.role.Role.{Role}
 use Rattle.semantic_tree.specs.Views.{has_role}
 use Rattle.semantic_model.specs.Place.{Place, OpenScope}
-use Rattle.semantic_model.specs.Inside.{opens, is_inside, any_inside, header_roles, is_in_header, scopes_in}
+use Rattle.semantic_model.specs.Inside.{opens, is_inside, any_inside, header_roles, is_in_header}
 use Rattle.semantic_model.specs.ScopeKind.{opened_scope}
 use Rattle.semantic_model.specs.Ambient.{ambient_inside}
 use Rattle.semantic_model.specs.Cursor.{on_entering, on_leaving, cursor_behind}
 use Rattle.semantic_model.specs.Step.{Step, entering, opening, header_ending, closing, leaving, steps_below, opening_at, ending_after, opening_last, scope_at, next_at, child_place, cursor_past}
+use Rattle.semantic_model.proofs.steps.Turn.{Turn, turn_at}
 use Rattle.semantic_model.proofs.swapped.Alike.{Alike, no_trees, trees_alike, MembersFor}
 use Rattle.semantic_model.proofs.swapped.AlikeCursor.{with_text, SameNode, before_same, after_same}
 use Rattle.semantic_model.proofs.swapped.AlikeScopes.{re, roles_same, insides_same, scopes_same, AlikePath, opened_same}
@@ -96,46 +97,29 @@ module _ (f : Name → Name) where
   steps_same p u g path own n cursor _ _ w (trees_alike r k span t v marks below below' id after after' text members b a) =
       let p' : Place = re p u g path in
       let node : Node = record { kind = k; span = span; text = t; marks = marks; children = below; node_id = id } in
+      let turn : Turn = turn_at p own n cursor r node after in
       let node' : Node = with_text node v below' in
-      let scope : Option OpenScope = scope_at p r own n in
-      let scope' : Option OpenScope = scope_at p' r own n in
-      let next : ℕ = next_at p r own n in
-      let next' : ℕ = next_at p' r own n in
-      let child : Place = child_place p scope cursor r node in
-      let child' : Place = child_place p' scope' cursor r node' in
-      let new : Place = re child v below' (p'.node ∷ path) in
-      let inner : ℕ = on_entering k child.cursor in
-      let xs : List Step = opening_at p r own n in
-      let xs' : List Step = opening_at p' r own n in
-      let ys : List Step = steps_below child None next inner below in
-      let ys' : List Step = steps_below child' None next' (on_entering k child'.cursor) below' in
-      let es : List Step = ending_after p r scope after in
-      let es' : List Step = ending_after p' r scope' after' in
-      let m : ℕ = next + cond (opens k) 1 0 + scopes_in below in
-      let m' : ℕ = next' + cond (opens k) 1 0 + scopes_in below' in
-      let past : ℕ = cursor_past p r cursor child in
-      let past' : ℕ = cursor_past p' r cursor child' in
-      let ws : List Step = steps_below p scope m past after in
-      let ws' : List Step = steps_below p' scope' m' past' after' in
+      let turn' : Turn = turn_at p' own n cursor r node' after' in
+      let new : Place = re turn.child v below' (p'.node ∷ path) in
       let same : SameNode f node v below' = record { text = text; children = b } in
-      let e_scope : scope' ≡ scope = scope_same p u g path r own n w in
-      let e_next : next' ≡ next = next_same p u g path r own n in
-      let e_cursor : (child_place p' scope cursor r node').cursor ≡ child.cursor = before_same f p.node u g (ambient_inside p.node p.is_ambient) r node v below' cursor w.node same in
-      let e_child : child' ≡ new = ap (λ s. child_place p' s cursor r node') e_scope ∙ ap (λ c. record new { cursor = c }) e_cursor in
-      let facts : Facts child v below' (p'.node ∷ path) = record { node = same; above = ((u, g, refl, w.node), w.above); members = members } in
-      let place : SamePlace child child' = record { u = v; g = below'; path = p'.node ∷ path; is = e_child; node = same; above = ((u, g, refl, w.node), w.above); members = members } in
-      let below_ok : AlikeSteps ys (steps_below new None next inner below') = steps_same child v below' (p'.node ∷ path) None next inner below below' facts b in
-      let ys_ok : AlikeSteps ys ys' = subst (λ q. AlikeSteps ys (steps_below q None next' (on_entering k q.cursor) below')) (sym e_child) (subst (λ q. AlikeSteps ys (steps_below new None q inner below')) (sym e_next) below_ok) in
-      let zs_ok : AlikeSteps (ys ++ leaving child ∷ []) (ys' ++ leaving child' ∷ []) = alike_append ys ys' (leaving child ∷ []) (leaving child' ∷ []) ys_ok (place, tt) in
-      let es_ok : AlikeSteps es es' = subst (λ q. AlikeSteps es (ending_after p' r q after')) (sym e_scope) (ending_same p u g path r scope after after' w a) in
-      let e_past : past' ≡ past = ap (cursor_past p' r cursor) e_child ∙ ap (λ c. cursor_behind p.node.kind r cursor (on_leaving k c)) (after_same f node v below' child.is_ambient inner below below' same b) in
-      let e_m : m' ≡ m = (λ i. e_next i + cond (opens k) 1 0 + scopes_same f below below' b i) in
-      let ws_ok : AlikeSteps ws ws' =
-      subst (λ q. AlikeSteps ws (steps_below p' q m' past' after')) (sym e_scope)
-      (subst (λ q. AlikeSteps ws (steps_below p' scope q past' after')) (sym e_m)
-      (subst (λ q. AlikeSteps ws (steps_below p' scope m q after')) (sym e_past) (steps_same p u g path scope m past after after' w a))) in
-      alike_append (xs ++ (entering child ∷ (ys ++ leaving child ∷ [])) ++ es) (xs' ++ (entering child' ∷ (ys' ++ leaving child' ∷ [])) ++ es') ws ws'
-      (alike_append (xs ++ (entering child ∷ (ys ++ leaving child ∷ []))) (xs' ++ (entering child' ∷ (ys' ++ leaving child' ∷ []))) es es'
-      (alike_append xs xs' (entering child ∷ (ys ++ leaving child ∷ [])) (entering child' ∷ (ys' ++ leaving child' ∷ [])) (opening_same p u g path r own n w) (place, zs_ok))
+      let e_scope : turn'.scope ≡ turn.scope = scope_same p u g path r own n w in
+      let e_next : turn'.next ≡ turn.next = next_same p u g path r own n in
+      let e_cursor : (child_place p' turn.scope cursor r node').cursor ≡ turn.child.cursor = before_same f p.node u g (ambient_inside p.node p.is_ambient) r node v below' cursor w.node same in
+      let e_child : turn'.child ≡ new = ap (λ s. child_place p' s cursor r node') e_scope ∙ ap (λ c. record new { cursor = c }) e_cursor in
+      let facts : Facts turn.child v below' (p'.node ∷ path) = record { node = same; above = ((u, g, refl, w.node), w.above); members = members } in
+      let place : SamePlace turn.child turn'.child = record { u = v; g = below'; path = p'.node ∷ path; is = e_child; node = same; above = ((u, g, refl, w.node), w.above); members = members } in
+      let below_ok : AlikeSteps turn.below (steps_below new None turn.next turn.inner below') = steps_same turn.child v below' (p'.node ∷ path) None turn.next turn.inner below below' facts b in
+      let ys_ok : AlikeSteps turn.below turn'.below = subst (λ q. AlikeSteps turn.below (steps_below q None turn'.next (on_entering k q.cursor) below')) (sym e_child) (subst (λ q. AlikeSteps turn.below (steps_below new None q turn.inner below')) (sym e_next) below_ok) in
+      let zs_ok : AlikeSteps (turn.below ++ leaving turn.child ∷ []) (turn'.below ++ leaving turn'.child ∷ []) = alike_append turn.below turn'.below (leaving turn.child ∷ []) (leaving turn'.child ∷ []) ys_ok (place, tt) in
+      let es_ok : AlikeSteps turn.behind turn'.behind = subst (λ q. AlikeSteps turn.behind (ending_after p' r q after')) (sym e_scope) (ending_same p u g path r turn.scope after after' w a) in
+      let e_past : turn'.past ≡ turn.past = ap (cursor_past p' r cursor) e_child ∙ ap (λ c. cursor_behind p.node.kind r cursor (on_leaving k c)) (after_same f node v below' turn.child.is_ambient turn.inner below below' same b) in
+      let e_m : turn'.rest ≡ turn.rest = (λ i. e_next i + cond (opens k) 1 0 + scopes_same f below below' b i) in
+      let ws_ok : AlikeSteps turn.others turn'.others =
+      subst (λ q. AlikeSteps turn.others (steps_below p' q turn'.rest turn'.past after')) (sym e_scope)
+      (subst (λ q. AlikeSteps turn.others (steps_below p' turn.scope q turn'.past after')) (sym e_m)
+      (subst (λ q. AlikeSteps turn.others (steps_below p' turn.scope turn.rest q after')) (sym e_past) (steps_same p u g path turn.scope turn.rest turn.past after after' w a))) in
+      alike_append (turn.before ++ turn.whole ++ turn.behind) (turn'.before ++ turn'.whole ++ turn'.behind) turn.others turn'.others
+      (alike_append (turn.before ++ turn.whole) (turn'.before ++ turn'.whole) turn.behind turn'.behind
+      (alike_append turn.before turn'.before turn.whole turn'.whole (opening_same p u g path r own n w) (place, zs_ok))
       es_ok)
       ws_ok
