@@ -24,7 +24,7 @@ use Rattle.semantic_tree.specs.Faults.{first_fault}
 use Rattle.semantic_tree.specs.declared.node.Node.{Node}
 use Rattle.semantic_tree.specs.declared.place.Place.{Place}
 use Rattle.semantic_model.proofs.form.Clauses.{kind_is, role_is, first_holds, second_holds, both_hold}
-use Rattle.semantic_model.proofs.form.ParameterShape.{lead_in_role}
+use Rattle.semantic_model.proofs.form.PartsHold.{hold, passed_hold, fit_holds}
 use Rattle.semantic_model.proofs.form.Shape.{NoneMisshapen, first_formed, rest_formed, table_kept, fit_kept, none_misshapen}
 use Rattle.class_table.specs.Bodies.{end_rightly, all_end_rightly}
 use Rattle.class_table.proofs.BodiesStand.{bodies_stand}
@@ -50,19 +50,16 @@ unfolding is_body_class
 body_of_class (class.Only k2) k text h i = subst (λ q. same_kind k q ≡ true) (kind_is k2 kind.ClassBody h) i
 body_of_class _ k text h i = absurd cc
 
-part_own : (parent : AstType) (part : Part) (r : Role) (k : AstType) (text : List ℕ) → takes_rightly parent text part ≡ true → same_role r part.role ≡ true → is_of part.class k text ≡ true → has_own_role parent r k ≡ true
+part_own : (parent : AstType) (part : Part) (k : AstType) (text : List ℕ) → takes_rightly parent text part ≡ true → is_of part.class k text ≡ true → has_own_role parent part.role k ≡ true
 unfolding takes_rightly
-part_own parent part r k text h s i = elim (cases_Bool (same_kind parent kind.Class)) [
+part_own parent part k text h i = elim (cases_Bool (same_kind parent kind.Class)) [
   | inl e ↦
       (let taken : cond (same_role part.role role.Body) (is_body_class part.class) (not (is_of part.class kind.ClassBody text)) ≡ true = rw e at h in
       rw e (elim (cases_Bool (same_role part.role role.Body)) [
-        | inl f ↦
-            (let own : same_role r role.Body ≡ true = subst (λ q. same_role q role.Body ≡ true) (sym (role_is r part.role s)) f in
-            rw (own, body_of_class part.class k text (rw f at taken) i) refl)
+        | inl f ↦ rw (f, body_of_class part.class k text (rw f at taken) i) refl
         | inr f ↦
-            (let own : same_role r role.Body ≡ false = subst (λ q. same_role q role.Body ≡ false) (sym (role_is r part.role s)) f in
-            let none : not (is_of part.class kind.ClassBody text) ≡ true = rw f at taken in
-            rw own (elim (cases_Bool (same_kind k kind.ClassBody)) [
+            (let none : not (is_of part.class kind.ClassBody text) ≡ true = rw f at taken in
+            rw f (elim (cases_Bool (same_kind k kind.ClassBody)) [
               | inl g ↦
                   (let is_body : is_of part.class kind.ClassBody text ≡ true = subst (λ q. is_of part.class q text ≡ true) (kind_is k kind.ClassBody g) i in
                   let q : false ≡ true = rw is_body at none in absurd cc)
@@ -72,44 +69,19 @@ part_own parent part r k text h s i = elim (cases_Bool (same_kind parent kind.Cl
   | inr e ↦ rw e refl
 ]
 
-abbrev all_own : AstType → List (Role × Node) → Bool
-all_own parent cs = list_all (λ c. has_own_role parent c.0 c.1.kind) cs
-
-run_own : (parent : AstType) (part : Part) (own : List (Role × Node)) → ((text : List ℕ) → takes_rightly parent text part ≡ true) → list_all (λ c. same_role c.0 part.role) own ≡ true → all_of part.class own ≡ true → all_own parent own ≡ true
-run_own parent part [] h s i = refl
-run_own parent part (c ∷ cs) h s i =
-    both_hold (has_own_role parent c.0 c.1.kind) (all_own parent cs)
-    (part_own parent part c.0 c.1.kind c.1.text (h c.1.text) (first_holds (same_role c.0 part.role) _ s) (first_holds (is_of part.class c.1.kind c.1.text) _ i))
-    (run_own parent part cs h (second_holds (same_role c.0 part.role) _ s) (second_holds (is_of part.class c.1.kind c.1.text) _ i))
-
-own_append : (parent : AstType) (xs ys : List (Role × Node)) → all_own parent xs ≡ true → all_own parent ys ≡ true → all_own parent (xs ++ ys) ≡ true
-own_append parent [] ys h i = i
-own_append parent (x ∷ xs) ys h i =
-    both_hold (has_own_role parent x.0 x.1.kind) (all_own parent (xs ++ ys)) (first_holds (has_own_role parent x.0 x.1.kind) _ h) (own_append parent xs ys (second_holds (has_own_role parent x.0 x.1.kind) _ h) i)
-
-is_number : (m n : ℕ) → (m == n) ≡ true → m ≡ n
-is_number m n h = elim (eqb_tells m n) [ inl k ↦ k.1 | inr k ↦ (let q : false ≡ true = sym k.0 ∙ h in absurd cc) ]
-
-fit_own : (parent : AstType) (ps : List Part) (cs : List (Role × Node)) → ((text : List ℕ) → list_all (takes_rightly parent text) ps ≡ true) → fit ps cs ≡ true → all_own parent cs ≡ true
-fit_own parent [] [] h f = refl
-fit_own parent [] (c ∷ cs) h f = let q : length (c ∷ cs) ≡ 0 = is_number (length (c ∷ cs)) 0 f in absurd (omega arith)
-fit_own parent (p ∷ ps) cs h f =
-    let n : ℕ = lead p.role cs in
-    let run : is_run p (take n cs) ≡ true = first_holds (is_run p (take n cs)) _ f in
-    subst (λ xs. all_own parent xs ≡ true) (take-append-drop n cs)
-    (own_append parent (take n cs) (drop n cs)
-    (run_own parent p (take n cs) (λ text. first_holds (takes_rightly parent text p) _ (h text)) (lead_in_role p.role cs) (second_holds _ (all_of p.class (take n cs)) run))
-    (fit_own parent ps (drop n cs) (λ text. second_holds (takes_rightly parent text p) _ (h text)) (second_holds (is_run p (take n cs)) _ f)))
+-- the test of all parts
+abbrev is_own : AstType → Role → AstType → List ℕ → Bool
+is_own parent r k text = has_own_role parent r k
 
 -- the tests on lists are those on forests
-own_forest : (parent : AstType) (f : Forest) → all_own parent (trees f) ≡ true → have_own_role parent f ≡ true
+own_forest : (parent : AstType) (f : Forest) → hold is_own parent (trees f) ≡ true → have_own_role parent f ≡ true
 own_forest parent nothing h = refl
 own_forest parent (tree r k span text marks below id after) h =
     both_hold (has_own_role parent r k) (have_own_role parent after) (first_holds (has_own_role parent r k) _ h) (own_forest parent after (second_holds (has_own_role parent r k) _ h))
 
 -- the children of a node that keeps the table
 kept_own : (k : AstType) (f : Forest) → fit (parts k) (trees f) ≡ true → have_own_role k f ≡ true
-kept_own k f h = own_forest k f (fit_own k (parts k) (trees f) (all_parts k) h)
+kept_own k f h = own_forest k f (fit_holds is_own k (parts k) (trees f) (passed_hold is_own (takes_rightly k) k (part_own k) (parts k) (all_parts k)) h)
 
 forest_shapes : (place : Place) (k : AstType) (f : Forest) → NoneMisshapen (placed_below place k f) → all_end_rightly f ≡ true → are_class_shapes f ≡ true
 forest_shapes place k nothing h e = refl

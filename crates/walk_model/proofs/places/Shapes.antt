@@ -19,68 +19,33 @@ use Rattle.semantic_tree.specs.Rules.{is_well_formed, is_rooted, keeps_table, st
 use Rattle.semantic_tree.specs.declared.node.Node.{Node}
 use Rattle.semantic_tree.specs.declared.place.Place.{Place}
 use Rattle.semantic_model.proofs.form.Clauses.{role_is, first_holds, second_holds, both_hold}
-use Rattle.semantic_model.proofs.form.ParameterShape.{lead_in_role}
+pub use Rattle.semantic_model.proofs.form.PartsHold.{HoldsPart, HoldParts}
+use Rattle.semantic_model.proofs.form.PartsHold.{hold, fit_holds}
 use Rattle.semantic_model.proofs.form.Shape.{NoneMisshapen, first_formed, rest_formed, table_kept, fit_kept, none_misshapen}
 
 module _ (q : AstType → Role → AstType → List ℕ → Bool) where
-  -- the test holds of whatever the part may be
-  abbrev pub HoldsPart : AstType → Part → Type 0
-  HoldsPart k part = (k2 : AstType) (text : List ℕ) → is_of part.class k2 text ≡ true → q k part.role k2 text ≡ true
-
-  abbrev pub HoldParts : AstType → List Part → Type 0
-  HoldParts k [] = Unit {0}
-  HoldParts k (p ∷ ps) = HoldsPart k p × HoldParts k ps
-
-  abbrev hold : AstType → List (Role × Node) → Bool
-  hold k cs = list_all (λ c. q k c.0 c.1.kind c.1.text) cs
-
   -- the test holds of each child below a node of the kind
   abbrev pub holds_below : AstType → Forest → Bool
   holds_below k nothing = true
   holds_below k (tree r k2 span text marks below id after) = q k r k2 text && (holds_below k2 below && holds_below k after)
 
-  run_holds : (k : AstType) (part : Part) (own : List (Role × Node)) → HoldsPart k part → list_all (λ c. same_role c.0 part.role) own ≡ true → all_of part.class own ≡ true → hold k own ≡ true
-  run_holds k part [] h s i = refl
-  run_holds k part (c ∷ cs) h s i =
-      both_hold (q k c.0 c.1.kind c.1.text) (hold k cs)
-      (subst (λ r. q k r c.1.kind c.1.text ≡ true) (sym (role_is c.0 part.role (first_holds (same_role c.0 part.role) _ s))) (h c.1.kind c.1.text (first_holds (is_of part.class c.1.kind c.1.text) _ i)))
-      (run_holds k part cs h (second_holds (same_role c.0 part.role) _ s) (second_holds (is_of part.class c.1.kind c.1.text) _ i))
-
-  hold_append : (k : AstType) (xs ys : List (Role × Node)) → hold k xs ≡ true → hold k ys ≡ true → hold k (xs ++ ys) ≡ true
-  hold_append k [] ys h i = i
-  hold_append k (x ∷ xs) ys h i = both_hold (q k x.0 x.1.kind x.1.text) (hold k (xs ++ ys)) (first_holds (q k x.0 x.1.kind x.1.text) _ h) (hold_append k xs ys (second_holds (q k x.0 x.1.kind x.1.text) _ h) i)
-
-  is_number : (m n : ℕ) → (m == n) ≡ true → m ≡ n
-  is_number m n h = elim (eqb_tells m n) [ inl k ↦ k.1 | inr k ↦ (let w : false ≡ true = sym k.0 ∙ h in absurd cc) ]
-
-  fit_holds : (k : AstType) (ps : List Part) (cs : List (Role × Node)) → HoldParts k ps → fit ps cs ≡ true → hold k cs ≡ true
-  fit_holds k [] [] h f = refl
-  fit_holds k [] (c ∷ cs) h f = let w : length (c ∷ cs) ≡ 0 = is_number (length (c ∷ cs)) 0 f in absurd (omega arith)
-  fit_holds k (p ∷ ps) cs h f =
-      let n : ℕ = lead p.role cs in
-      let run : is_run p (take n cs) ≡ true = first_holds (is_run p (take n cs)) _ f in
-      subst (λ xs. hold k xs ≡ true) (take-append-drop n cs)
-      (hold_append k (take n cs) (drop n cs)
-      (run_holds k p (take n cs) h.0 (lead_in_role p.role cs) (second_holds _ (all_of p.class (take n cs)) run))
-      (fit_holds k ps (drop n cs) h.1 (second_holds (is_run p (take n cs)) _ f)))
-
-  forest_holds : ((k : AstType) → HoldParts k (parts k)) → (place : Place) (k : AstType) (f : Forest) → hold k (trees f) ≡ true → NoneMisshapen (placed_below place k f) → holds_below k f ≡ true
+  forest_holds : ((k : AstType) → HoldParts q k (parts k)) → (place : Place) (k : AstType) (f : Forest) → hold q k (trees f) ≡ true → NoneMisshapen (placed_below place k f) → holds_below k f ≡ true
   forest_holds all place k nothing s h = refl
   forest_holds all place k (tree r k2 span text marks below id after) s h =
       let node : Node = record { kind = k2; span = span; text = text; marks = marks; children = below; node_id = id } in
       let here : Place = child_place place k r in
       let f : (is_well_formed here node ≡ true) × NoneMisshapen (placed_below here k2 below ++ placed_below place k after) = first_formed (here, node) (placed_below here k2 below ++ placed_below place k after) h in
       let w : NoneMisshapen (placed_below here k2 below) × NoneMisshapen (placed_below place k after) = rest_formed (placed_below here k2 below) (placed_below place k after) f.1 in
-      both_hold (q k r k2 text) (holds_below k2 below && holds_below k after) (first_holds (q k r k2 text) (hold k (trees after)) s)
+      both_hold (q k r k2 text) (holds_below k2 below && holds_below k after) (first_holds (q k r k2 text) (hold q k (trees after)) s)
       (both_hold (holds_below k2 below) (holds_below k after)
-      (forest_holds all here k2 below (fit_holds k2 (parts k2) (trees below) (all k2) (fit_kept node (table_kept here node f.0))) w.0)
-      (forest_holds all place k after (second_holds (q k r k2 text) (hold k (trees after)) s) w.1))
+      (forest_holds all here k2 below (fit_holds q k2 (parts k2) (trees below) (all k2) (fit_kept node (table_kept here node f.0))) w.0)
+      (forest_holds all place k after (second_holds (q k r k2 text) (hold q k (trees after)) s) w.1))
 
   -- so it is in a tree without a fault
-  pub tree_holds : ((k : AstType) → HoldParts k (parts k)) → (p : Tree) → first_fault p ≡ None → holds_below p.root.kind p.root.children ≡ true
+  pub tree_holds : ((k : AstType) → HoldParts q k (parts k)) → (p : Tree) → first_fault p ≡ None → holds_below p.root.kind p.root.children ≡ true
   tree_holds all p h =
       let f : (is_well_formed root_place p.root ≡ true) × NoneMisshapen (placed_below root_place p.root.kind p.root.children) = first_formed (root_place, p.root) (placed_below root_place p.root.kind p.root.children) (none_misshapen p h) in
-      forest_holds all root_place p.root.kind p.root.children (fit_holds p.root.kind (parts p.root.kind) (trees p.root.children) (all p.root.kind) (fit_kept p.root (table_kept root_place p.root f.0))) f.1
+      forest_holds all root_place p.root.kind p.root.children (fit_holds q p.root.kind (parts p.root.kind) (trees p.root.children) (all p.root.kind) (fit_kept p.root (table_kept root_place p.root f.0))) f.1
 
   -- or what holds of each node that stands well
   forest_stands : ((place : Place) (k : AstType) (r : Role) (node : Node) → stands (child_place place k r) node.kind node ≡ true → q k r node.kind node.text ≡ true) → (place : Place) (k : AstType) (f : Forest) → NoneMisshapen (placed_below place k f) → holds_below k f ≡ true
