@@ -4,5 +4,6 @@ pub mod Changes
 pub mod Soundness
 pub mod TakeOvers
 pub mod BodyChains
+pub mod EachDeclared
 pub mod Declared
 pub mod Orders

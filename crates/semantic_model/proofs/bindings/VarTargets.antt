@@ -1,22 +1,15 @@
 -- Where a `var` or a block function goes out: to the nearest var scope of each scope on the way, which has no body.
-use Rattle.std.proofs.Common.{◌≡◌, ℕ, List, [], ◌∷◌, ◌++◌, Option, Some, None, Bool, true, false, cond, ◌&&◌, ◌||◌, not, refl, sym, ap, ◌∙◌, map, flat_map, if◌then◌else◌, codes}
+use Rattle.std.proofs.Common.{◌≡◌, ℕ, List, [], ◌∷◌, ◌++◌, Option, Some, None, Bool, true, false, cond, ◌&&◌, ◌||◌, not, refl, sym, ap, ◌∙◌, flat_map, if◌then◌else◌}
 use Rattle.std.specs.Prelude.{slice_get}
 use Rattle.semantic_tree.specs.declared.node.Node.{Node}
 use Rattle.semantic_kinds.specs.declared.kind.AstType.{AstType}
-use Rattle.semantic_kinds.specs.declared.kind.AstType.TheVariants as kind
-use Rattle.semantic_kinds.specs.declared.role.Role.TheVariants as role
-use Rattle.semantic_kinds.specs.declared.mark.Mark.TheVariants as mark
 use Rattle.semantic_syntax.specs.SourceTypes.{is_typescript}
-use Rattle.semantic_syntax.specs.declared.symbol_flags.TheConstants.SymbolFlags as symbol
-use Rattle.semantic_syntax.specs.Sets.{union}
-use Rattle.semantic_tree.specs.Views.{is, has, is_with_text, children_of}
-use Rattle.semantic_model.specs.Names.{bound_names, names_at}
-use Rattle.semantic_model.specs.Namespace.{InstanceState, non_instantiated, const_enum_only, instantiated, instance_state, nodes_around}
-use Rattle.semantic_model.specs.Place.{Place, OpenScope, innermost, outside, parent_holds, is_strict}
-use Rattle.semantic_model.specs.Declaration.{How, plain, hoisted, moved, caught, Declaration, Route, here, passed_before, first_with, route_from, outward_to, outward_past, stands_in}
-use Rattle.semantic_model.specs.Binder.{Row, declare, declare_here, is_var, is_clause, is_special, is_statement, is_block_function, variable_row, variables_under, function_row, own_function_row, class_row, is_pure_declarator, ids, parameter_excluded, parameters_under, catch_names, enums, member_named, marked_ambient, import_flags, namespace_row, type_parameter_route, type_parameter_row, declared_by, declared_on_entering, declared_inside, declared_on_opening}
+use Rattle.semantic_model.specs.Place.{Place, OpenScope, innermost, outside, is_strict}
+use Rattle.semantic_model.specs.Declaration.{How, plain, hoisted, moved, caught, Declaration, Route, passed_before, first_with, route_from, outward_to, outward_past, stands_in}
+use Rattle.semantic_model.specs.Binder.{Row, declare, is_var, is_clause, is_special, is_block_function, declared_by, declared_on_entering, declared_inside, declared_on_opening}
 use Rattle.semantic_model.specs.Event.{Event, declares, takes_over, ends_header, is_barred, staying, placed_by, is_catch_body, declares_all, events_of}
 use Rattle.semantic_model.specs.Step.{Step, entering, opening, header_ending, closing, leaving}
+use Rattle.semantic_model.proofs.fold.EachDeclared.{EachDeclared, each_on_entering, each_on_opening}
 use Rattle.semantic_model.proofs.fold.BodyChains.{InTable, AllInTable, AllStepsIn}
 use Rattle.semantic_model.proofs.form.Clauses.{second_holds}
 use Rattle.semantic_model.proofs.bindings.NearestVar.{AllNear, AllPlacesNear}
@@ -90,16 +83,7 @@ module _ (v : ℕ → ℕ) (table : List (Option ℕ)) where
 
   -- declarations
   abbrev AllLed : List Declaration → Type 0
-  AllLed [] = Unit {0}
-  AllLed (d ∷ ds) = IsLed d.how d × AllLed ds
-
-  led-append : (ds es : List Declaration) → AllLed ds → AllLed es → AllLed (ds ++ es)
-  led-append [] es h k = k
-  led-append (d ∷ ds) es h k = (h.0, led-append ds es h.1 k)
-
-  led-cond : (b : Bool) (ds es : List Declaration) → AllLed ds → AllLed es → AllLed (cond b ds es)
-  led-cond true ds es h k = h
-  led-cond false ds es h k = k
+  AllLed = EachDeclared (λ d. IsLed d.how d)
 
   by_route : (how : How) (d : Declaration) (r : Route) → d.passed ≡ r.passed → d.target ≡ r.target → IsRouteLed how r → IsLed how d
   by_route plain d r p t h = tt
@@ -107,12 +91,8 @@ module _ (v : ℕ → ℕ) (table : List (Option ℕ)) where
   by_route hoisted d r p t h = rw (p, t) h
   by_route moved d r p t h = rw (p, t) h
 
-  row_led : (node : Node) (row : Row) (is_pure : Bool) (names : List Node) → IsRouteLed row.how row.route → AllLed (map (declare node row is_pure) names)
-  row_led node row is_pure [] h = tt
-  row_led node row is_pure (x ∷ xs) h = (by_route row.how (declare node row is_pure x) row.route refl refl h, row_led node row is_pure xs h)
-
-  names_led : (p : Place) (flags excluded : ℕ) (names : List Node) → AllLed (declare_here p flags excluded names)
-  names_led p flags excluded names = row_led p.node (record { flags = flags; excluded = excluded; how = plain; route = here p.chain }) false names tt
+  name_led : (node : Node) (row : Row) (is_pure : Bool) (name : Node) → IsRouteLed row.how row.route → IsLed row.how (declare node row is_pure name)
+  name_led node row is_pure x h = by_route row.how (declare node row is_pure x) row.route refl refl h
 
   abbrev pub AllEventsLed : List Event → Type 0
   AllEventsLed [] = Unit {0}
@@ -121,15 +101,6 @@ module _ (v : ℕ → ℕ) (table : List (Option ℕ)) where
   AllEventsLed (ends_header c ∷ es) = AllEventsLed es
 
   module _ (z : v 0 ≡ 0) (root : slice_get table 0 ≡ Some None) where
-    variable_led : (b : Bool) (declaration : Node) (chain : List OpenScope) → AllNear v chain → AllInTable table chain → is_with_text kind.VariableDeclaration (codes "var") declaration ≡ b → IsRouteLed (variable_row declaration chain).how (variable_row declaration chain).route
-    variable_led true declaration chain a h e = rw e (outward_led chain a h)
-    variable_led false declaration chain a h e = rw e tt
-
-    variables_led : (path : List Node) (p : Place) → AllNear v p.chain → AllInTable table p.chain → AllLed (variables_under path p)
-    variables_led [] p a h = tt
-    variables_led (declaration ∷ path) p a h =
-        row_led p.node (variable_row declaration p.chain) (is_pure_declarator p.node) (bound_names p.node) (variable_led (is_with_text kind.VariableDeclaration (codes "var") declaration) declaration p.chain a h refl)
-
     neither : (a b : Bool) → not (a || b) ≡ true → (a ≡ false) × (b ≡ false)
     neither true b k = absurd cc
     neither false true k = absurd cc
@@ -138,64 +109,15 @@ module _ (v : ℕ → ℕ) (table : List (Option ℕ)) where
     in_block : (p : Place) → is_block_function p ≡ true → (is_var (innermost p.chain) ≡ false) × (is_clause (innermost p.chain) ≡ false)
     in_block p h = neither (is_var (innermost p.chain)) (is_clause (innermost p.chain)) (second_holds (not (is_special p.node) && not (is_typescript p.source_type) && not (is_strict p.chain)) (not (is_var (innermost p.chain) || is_clause (innermost p.chain))) h)
 
-    function_led : (b : Bool) (p : Place) → AllNear v p.chain → AllInTable table p.chain → is_block_function p ≡ b → IsRouteLed (function_row p).how (function_row p).route
-    function_led true p a h e = let q : (is_var (innermost p.chain) ≡ false) × (is_clause (innermost p.chain) ≡ false) = in_block p e in rw e (past_led p.chain z root q.0 q.1 a h)
-    function_led false p a h e = rw e tt
-
-    parameters_led : (path : List Node) (p : Place) → AllLed (parameters_under path p)
-    parameters_led [] p = tt
-    parameters_led (l ∷ path) p = names_led p symbol.FunctionScopedVariable.bits (parameter_excluded l p.chain) (bound_names p.node)
-
-    catch_led : (p : Place) (patterns : List Node) → AllLed (flat_map (catch_names p) patterns)
-    catch_led p [] = tt
-    catch_led p (x ∷ xs) = led-append (catch_names p x) (flat_map (catch_names p) xs) (go (is kind.BindingIdentifier x)) (catch_led p xs)
-      where
-        go : (b : Bool) → AllLed (if b then declare p.node (record { flags = union symbol.FunctionScopedVariable.bits symbol.CatchVariable.bits; excluded = 0; how = caught; route = here p.chain }) false x ∷ [] else declare_here p (union symbol.BlockScopedVariable.bits symbol.CatchVariable.bits) symbol.BlockScopedVariableExcludes.bits (bound_names x))
-        go true = (tt, tt)
-        go false = names_led p (union symbol.BlockScopedVariable.bits symbol.CatchVariable.bits) symbol.BlockScopedVariableExcludes.bits (bound_names x)
-
-    enums_led : (p : Place) → AllLed (enums p)
-    enums_led p = go (has mark.Const p.node)
-      where
-        go : (b : Bool) → AllLed (if b then declare_here p (union symbol.ConstEnum.bits (marked_ambient p.node)) symbol.ConstEnumExcludes.bits (ids p.node) else declare_here p (union symbol.RegularEnum.bits (marked_ambient p.node)) symbol.RegularEnumExcludes.bits (ids p.node))
-        go true = names_led p (union symbol.ConstEnum.bits (marked_ambient p.node)) symbol.ConstEnumExcludes.bits (ids p.node)
-        go false = names_led p (union symbol.RegularEnum.bits (marked_ambient p.node)) symbol.RegularEnumExcludes.bits (ids p.node)
-
-    namespace_led : (s : InstanceState) (p : Place) → AllLed (namespace_row s p)
-    namespace_led non_instantiated p = names_led p (union symbol.NamespaceModule.bits (marked_ambient p.node)) symbol.NamespaceModuleExcludes.bits (ids p.node)
-    namespace_led const_enum_only p = names_led p (union symbol.ValueModule.bits (marked_ambient p.node)) symbol.ValueModuleExcludes.bits (ids p.node)
-    namespace_led instantiated p = names_led p (union symbol.ValueModule.bits (marked_ambient p.node)) symbol.ValueModuleExcludes.bits (ids p.node)
+    moved_led : (p : Place) → AllNear v p.chain → AllInTable table p.chain → is_block_function p ≡ true → IsRouteLed moved (outward_past is_var p.chain)
+    moved_led p a h e = let q : (is_var (innermost p.chain) ≡ false) × (is_clause (innermost p.chain) ≡ false) = in_block p e in past_led p.chain z root q.0 q.1 a h
 
     entering_led : (k : AstType) (p : Place) → AllNear v p.chain → AllInTable table p.chain → AllLed (declared_by k p)
-    entering_led kind.VariableDeclarator p a h = variables_led p.path p a h
-    entering_led kind.Function p a h =
-        led-cond (is_statement p.node) (map (declare p.node (function_row p) (has mark.Pure p.node)) (ids p.node)) []
-        (row_led p.node (function_row p) (has mark.Pure p.node) (ids p.node) (function_led (is_block_function p) p a h refl)) tt
-    entering_led kind.Class p a h =
-        led-cond (is_statement p.node) (map (declare p.node (class_row p p.chain) false) (ids p.node)) [] (row_led p.node (class_row p p.chain) false (ids p.node) tt) tt
-    entering_led kind.FormalParameter p a h = parameters_led p.path p
-    entering_led kind.FormalParameterRest p a h = parameters_led p.path p
-    entering_led kind.BindingRestElement p a h =
-        led-cond (parent_holds (is kind.FormalParameters) p.path) (declare_here p symbol.FunctionScopedVariable.bits (union symbol.FunctionScopedVariableExcludes.bits symbol.FunctionScopedVariable.bits) (bound_names p.node)) []
-        (names_led p symbol.FunctionScopedVariable.bits (union symbol.FunctionScopedVariableExcludes.bits symbol.FunctionScopedVariable.bits) (bound_names p.node)) tt
-    entering_led kind.CatchParameter p a h = catch_led p (children_of role.Pattern p.node.children)
-    entering_led kind.ImportSpecifier p a h = names_led p (import_flags p) symbol.ImportBindingExcludes.bits (names_at role.Local p.node)
-    entering_led kind.ImportDefaultSpecifier p a h = names_led p (import_flags p) symbol.ImportBindingExcludes.bits (names_at role.Local p.node)
-    entering_led kind.ImportNamespaceSpecifier p a h = names_led p (import_flags p) symbol.ImportBindingExcludes.bits (names_at role.Local p.node)
-    entering_led kind.TSImportEqualsDeclaration p a h = names_led p symbol.Import.bits symbol.ImportBindingExcludes.bits (ids p.node)
-    entering_led kind.TSTypeAliasDeclaration p a h = names_led p (union symbol.TypeAlias.bits (marked_ambient p.node)) symbol.TypeAliasExcludes.bits (ids p.node)
-    entering_led kind.TSInterfaceDeclaration p a h = names_led p (union symbol.Interface.bits (marked_ambient p.node)) symbol.InterfaceExcludes.bits (ids p.node)
-    entering_led kind.TSEnumDeclaration p a h = enums_led p
-    entering_led kind.TSEnumMember p a h = names_led p symbol.EnumMember.bits symbol.EnumMemberExcludes.bits (flat_map (member_named p.node) (children_of role.Id p.node.children))
-    entering_led kind.TSNamespaceDeclaration p a h = namespace_led (instance_state p.node p.path (nodes_around p.node p.path)) p
-    entering_led kind.TSTypeParameter p a h = row_led p.node (type_parameter_row (type_parameter_route p)) false (names_at role.Name p.node) tt
-    entering_led _ p a h = tt
+    entering_led k p a h =
+        each_on_entering (λ d. IsLed d.how d) IsRouteLed name_led k p (record { at_home = tt; when_caught = tt; when_hoisted = λ e. outward_led p.chain a h; when_moved = λ e s q. moved_led p a h q; when_inferred = tt })
 
     inside_led : (k : AstType) (p : Place) (own : OpenScope) → AllLed (declared_inside k p own)
-    inside_led kind.Function p own = led-cond (is_statement p.node) [] (map (declare p.node (own_function_row p own) (has mark.Pure p.node)) (ids p.node)) tt (row_led p.node (own_function_row p own) (has mark.Pure p.node) (ids p.node) tt)
-    inside_led kind.Class p own = led-cond (is_statement p.node) [] (map (declare p.node (class_row p (own ∷ [])) false) (ids p.node)) tt (row_led p.node (class_row p (own ∷ [])) false (ids p.node) tt)
-    inside_led kind.TSMappedType p own = row_led p.node (type_parameter_row (here (own ∷ []))) false (names_at role.Key p.node) tt
-    inside_led _ p own = tt
+    inside_led k p own = each_on_opening (λ d. IsLed d.how d) IsRouteLed name_led k p own (λ e. tt)
 
     placed_led : (how : How) (ds : List Declaration) (d : Declaration) → d.how ≡ how → IsLed d.how d → IsLed (placed_by how ds d).how (placed_by how ds d)
     placed_led plain ds d e h = h
