@@ -5,6 +5,7 @@ pub mod ScopeKind
 pub mod Ambient
 pub mod Cursor
 pub mod Step
+pub mod EachStep
 pub mod Reference
 pub mod Declaration
 pub mod Namespace

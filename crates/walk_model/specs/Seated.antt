@@ -1,11 +1,12 @@
 -- Below the root each node stands in some scope, and none is a program.
-use Rattle.std.specs.Prelude.{◌≡◌, ℕ, List, [], ◌∷◌, Option, None, Bool, true, ◌&&◌, not}
+use Rattle.std.specs.Prelude.{◌≡◌, ℕ, List, Option, None, Bool, true, ◌&&◌, not}
 use Rattle.semantic_kinds.specs.Kinds.{same_kind}
 use Rattle.semantic_kinds.specs.declared.kind.AstType.TheVariants as kind
 use Rattle.semantic_tree.specs.Forest.{Forest, nothing, tree}
 use Rattle.semantic_model.specs.Place.{Place, OpenScope}
 use Rattle.semantic_model.specs.Cursor.{on_entering}
 use Rattle.semantic_model.specs.Step.{Step, entering, opening, header_ending, closing, leaving, steps_below}
+use Rattle.semantic_model.specs.EachStep.{EachStep}
 use Rattle.walk_model.specs.Shown.{HasVar, IsGrounded}
 
 abbrev pub IsStepGrounded : Step → Type 0
@@ -17,8 +18,7 @@ IsStepGrounded (leaving p) = Unit {0}
 
 -- each place of the steps stands in a function's scope, or the like, or is the root
 abbrev pub AllGrounded : List Step → Type 0
-AllGrounded [] = Unit {0}
-AllGrounded (s ∷ more) = IsStepGrounded s × AllGrounded more
+AllGrounded = EachStep IsStepGrounded
 
 -- no node of the trees is a program
 abbrev pub none_is_program : Forest → Bool

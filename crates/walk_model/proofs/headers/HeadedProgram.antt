@@ -13,9 +13,10 @@ use Rattle.semantic_model.specs.Place.{Place, OpenScope}
 use Rattle.semantic_model.specs.Inside.{opens, header_roles, is_in_header, scopes_in}
 use Rattle.semantic_model.specs.ScopeKind.{opened_scope}
 use Rattle.semantic_model.specs.Cursor.{on_entering}
-use Rattle.semantic_model.specs.Step.{Step, entering, opening, closing, leaving, steps_below, steps, opening_at, ending_after, opening_last, scope_at, next_at, child_place, cursor_past, root_place}
+use Rattle.semantic_model.specs.Step.{Step, opening, closing, leaving, steps_below, steps, opening_last, root_place}
+use Rattle.semantic_model.proofs.steps.Turn.{Turn, turn_at}
 use Rattle.semantic_model.proofs.form.Clauses.{kind_is, second_holds}
-use Rattle.semantic_model.proofs.steps.Opened.{openings, openings-append, opened_below, none_after, next_opened}
+use Rattle.semantic_model.proofs.steps.Opened.{opened_by_node, openings, none_after, next_opened}
 use Rattle.walk_model.proofs.places.Grounds.{is_open_inside}
 use Rattle.walk_model.proofs.places.Shapes.{holds_below}
 use Rattle.walk_model.proofs.headers.NoStatements.{table_closes, place_closes}
@@ -88,60 +89,51 @@ headed_below p own n cursor nothing awaiting fs e fl cl m sh l o sp =
     subst (λ a. LeadsOn a awaiting fs (opening_last p own n)) (sym (none_with p own awaiting)) (at_last p own n awaiting fs e sh l o)
 headed_below p own n cursor (tree r k span text marks below id after) awaiting fs e fl cl m sh l o sp =
     let node : Node = record { kind = k; span = span; text = text; marks = marks; children = below; node_id = id } in
+    let turn : Turn = turn_at p own n cursor r node after in
     let here : Forest = tree r k span text marks below id after in
-    let scope : Option OpenScope = scope_at p r own n in
-    let next : ℕ = next_at p r own n in
-    let child : Place = child_place p scope cursor r node in
-    let inner : ℕ = on_entering k child.cursor in
-    let xs : List Step = opening_at p r own n in
-    let ys : List Step = steps_below child None next inner below in
-    let zs : List Step = entering child ∷ (ys ++ leaving child ∷ []) in
-    let es : List Step = ending_after p r scope after in
-    let rest : ℕ = next + cond (opens k) 1 0 + scopes_in below in
-    let ws : List Step = steps_below p scope rest (cursor_past p r cursor child) after in
-    let aw : List ℕ = awaiting_with p scope here awaiting in
-    let fs_x : List ℕ = flags_after fs xs in
-    let fs_z : List ℕ = flags_after fs_x zs in
-    let fs_e : List ℕ = flags_after fs_z es in
+    let aw : List ℕ = awaiting_with p turn.scope here awaiting in
+    let fs_x : List ℕ = flags_after fs turn.before in
+    let fs_z : List ℕ = flags_after fs_x turn.whole in
+    let fs_e : List ℕ = flags_after fs_z turn.behind in
     let shaped : ShapedChild p.node.kind r k text below after = shaped_child p.node.kind r k text below after here refl refl refl refl sp in
-    let next_is : n + openings xs ≡ next = next_opened p r own n in
-    let count_child : openings zs ≡ cond (opens k) 1 0 + scopes_in below = omega (arith, openings-append ys (leaving child ∷ []), opened_below child None next inner below) in
-    let length_x : length fs_x ≡ next = omega (arith, flags_length fs xs, next_is, e) in
-    let length_e : length fs_e ≡ rest = omega (arith, flags_length fs_z es, flags_length fs_x zs, none_after p r scope after, count_child, length_x) in
-    let longer : n ≤ next = omega (arith, next_is) in
-    let o_x : OwnHeadOf awaiting fs_x p scope here = own_opened p r own n here awaiting fs e l cl o in
-    let fl_x : AreFlagged fs_x p.chain = flagged_later fs xs p.chain fl in
-    let cl_x : ChainLess p.chain next = chain_less_more p.chain n next longer cl in
-    let l_x : AllLess awaiting next = less_more awaiting n next longer l in
-    let within : length fs_x ≤ next = omega (arith, length_x) in
-    let fl_child : AreFlagged fs_x child.chain = child_flagged awaiting fs_x p scope here cursor r node fl_x o_x in
-    let cl_child : ChainLess child.chain next = child_less awaiting fs_x p scope here cursor r node next within cl_x o_x in
-    let sh_child : IsSheltered aw child = child_sheltered awaiting fs_x p scope here after cursor r node (is_open_inside p r own n) shaped.leads refl shaped.by_table shaped.by_place sh o_x in
-    let l_child : AllLess aw next = with_less awaiting fs_x p scope here next within l_x o_x in
-    let m_child : AllMatch aw child.chain ⊎ ((k ≡ kind.BindingIdentifier) × (below ≡ nothing)) = elim (which p.node.kind r k text below after shaped) [
-      | inl i ↦ inl (child_matches awaiting fs_x p scope here cursor r node (inl i) (ap (λ b. b || left p after) i ∙ sym (ap (λ b. b || left p here) i)) m o_x)
+    let next_is : n + openings turn.before ≡ turn.next = next_opened p r own n in
+    let count_child : openings turn.whole ≡ cond (opens k) 1 0 + scopes_in below = opened_by_node turn.child turn.next in
+    let length_x : length fs_x ≡ turn.next = omega (arith, flags_length fs turn.before, next_is, e) in
+    let length_e : length fs_e ≡ turn.rest = omega (arith, flags_length fs_z turn.behind, flags_length fs_x turn.whole, none_after p r turn.scope after, count_child, length_x) in
+    let longer : n ≤ turn.next = omega (arith, next_is) in
+    let o_x : OwnHeadOf awaiting fs_x p turn.scope here = own_opened p r own n here awaiting fs e l cl o in
+    let fl_x : AreFlagged fs_x p.chain = flagged_later fs turn.before p.chain fl in
+    let cl_x : ChainLess p.chain turn.next = chain_less_more p.chain n turn.next longer cl in
+    let l_x : AllLess awaiting turn.next = less_more awaiting n turn.next longer l in
+    let within : length fs_x ≤ turn.next = omega (arith, length_x) in
+    let fl_child : AreFlagged fs_x turn.child.chain = child_flagged awaiting fs_x p turn.scope here cursor r node fl_x o_x in
+    let cl_child : ChainLess turn.child.chain turn.next = child_less awaiting fs_x p turn.scope here cursor r node turn.next within cl_x o_x in
+    let sh_child : IsSheltered aw turn.child = child_sheltered awaiting fs_x p turn.scope here after cursor r node (is_open_inside p r own n) shaped.leads refl shaped.by_table shaped.by_place sh o_x in
+    let l_child : AllLess aw turn.next = with_less awaiting fs_x p turn.scope here turn.next within l_x o_x in
+    let m_child : AllMatch aw turn.child.chain ⊎ ((k ≡ kind.BindingIdentifier) × (below ≡ nothing)) = elim (which p.node.kind r k text below after shaped) [
+      | inl i ↦ inl (child_matches awaiting fs_x p turn.scope here cursor r node (inl i) (ap (λ b. b || left p after) i ∙ sym (ap (λ b. b || left p here) i)) m o_x)
       | inr w ↦ elim w [
-        | inl g ↦ inl (child_matches awaiting fs_x p scope here cursor r node (behind (is_in_header p.node.kind r) (left p after) refl g) (sym (or_same (is_in_header p.node.kind r) (left p after))) m o_x)
+        | inl g ↦ inl (child_matches awaiting fs_x p turn.scope here cursor r node (behind (is_in_header p.node.kind r) (left p after) refl g) (sym (or_same (is_in_header p.node.kind r) (left p after))) m o_x)
         | inr b ↦ inr b
       ]
     ] in
-    let part : Child aw fs_x child ys = child_part aw fs_x child next inner below fl_child sh_child (subst (AllLess aw) (sym length_x) l_child) m_child
-    (λ mm. headed_below child None next inner below aw fs_x length_x fl_child cl_child mm sh_child l_child refl shaped.inner) in
-    let leaves : LeadsOn aw aw (flags_after fs_x ys) (leaving child ∷ []) = record { headed = (tt, tt); is = refl } in
-    let both : LeadsOn aw aw fs_x (ys ++ leaving child ∷ []) = leads_on-append aw aw aw fs_x ys (leaving child ∷ []) part.below leaves in
-    let first : LeadsOn (awaiting_with p own here awaiting) aw fs xs = at_opening p r own n here awaiting fs sh (subst (AllLess awaiting) (sym e) l) o in
-    let second : LeadsOn aw aw fs_x zs = record { headed = (part.place, both.headed); is = both.is } in
-    let third : LeadsOn aw (awaiting_with p scope after awaiting) fs_z es = at_ending p r scope here after awaiting fs_z refl (older_own awaiting fs_x p scope here o_x) in
-    let o_e : OwnHeadOf awaiting fs_e p scope after = subst (λ g. OwnHeadOf awaiting g p scope after) (flags-append fs_x zs es) (own_later awaiting fs_x (zs ++ es) p r own n here after o_x) in
-    let fl_e : AreFlagged fs_e p.chain = flagged_later fs_z es p.chain (flagged_later fs_x zs p.chain fl_x) in
-    let far : next ≤ rest = omega arith in
-    let fourth : LeadsOn (awaiting_with p scope after awaiting) awaiting fs_e ws =
-    headed_below p scope rest (cursor_past p r cursor child) after awaiting fs_e length_e fl_e (chain_less_more p.chain next rest far cl_x) m sh (less_more awaiting next rest far l_x) o_e shaped.others in
-    let two : LeadsOn (awaiting_with p own here awaiting) aw fs (xs ++ zs) = leads_on-append (awaiting_with p own here awaiting) aw aw fs xs zs first second in
-    let three : LeadsOn (awaiting_with p own here awaiting) (awaiting_with p scope after awaiting) fs (xs ++ zs ++ es) =
-    leads_on-append (awaiting_with p own here awaiting) aw (awaiting_with p scope after awaiting) fs (xs ++ zs) es two (subst (λ g. LeadsOn aw (awaiting_with p scope after awaiting) g es) (sym (flags-append fs xs zs)) third) in
-    leads_on-append (awaiting_with p own here awaiting) (awaiting_with p scope after awaiting) awaiting fs (xs ++ zs ++ es) ws three
-    (subst (λ g. LeadsOn (awaiting_with p scope after awaiting) awaiting g ws) (sym (flags-append fs (xs ++ zs) es ∙ ap (λ g. flags_after g es) (flags-append fs xs zs))) fourth)
+    let part : Child aw fs_x turn.child turn.below = child_part aw fs_x turn.child turn.next turn.inner below fl_child sh_child (subst (AllLess aw) (sym length_x) l_child) m_child
+    (λ mm. headed_below turn.child None turn.next turn.inner below aw fs_x length_x fl_child cl_child mm sh_child l_child refl shaped.inner) in
+    let leaves : LeadsOn aw aw (flags_after fs_x turn.below) (leaving turn.child ∷ []) = record { headed = (tt, tt); is = refl } in
+    let both : LeadsOn aw aw fs_x (turn.below ++ leaving turn.child ∷ []) = leads_on-append aw aw aw fs_x turn.below (leaving turn.child ∷ []) part.below leaves in
+    let first : LeadsOn (awaiting_with p own here awaiting) aw fs turn.before = at_opening p r own n here awaiting fs sh (subst (AllLess awaiting) (sym e) l) o in
+    let second : LeadsOn aw aw fs_x turn.whole = record { headed = (part.place, both.headed); is = both.is } in
+    let third : LeadsOn aw (awaiting_with p turn.scope after awaiting) fs_z turn.behind = at_ending p r turn.scope here after awaiting fs_z refl (older_own awaiting fs_x p turn.scope here o_x) in
+    let o_e : OwnHeadOf awaiting fs_e p turn.scope after = subst (λ g. OwnHeadOf awaiting g p turn.scope after) (flags-append fs_x turn.whole turn.behind) (own_later awaiting fs_x (turn.whole ++ turn.behind) p r own n here after o_x) in
+    let fl_e : AreFlagged fs_e p.chain = flagged_later fs_z turn.behind p.chain (flagged_later fs_x turn.whole p.chain fl_x) in
+    let far : turn.next ≤ turn.rest = omega arith in
+    let fourth : LeadsOn (awaiting_with p turn.scope after awaiting) awaiting fs_e turn.others =
+    headed_below p turn.scope turn.rest turn.past after awaiting fs_e length_e fl_e (chain_less_more p.chain turn.next turn.rest far cl_x) m sh (less_more awaiting turn.next turn.rest far l_x) o_e shaped.others in
+    let two : LeadsOn (awaiting_with p own here awaiting) aw fs (turn.before ++ turn.whole) = leads_on-append (awaiting_with p own here awaiting) aw aw fs turn.before turn.whole first second in
+    let three : LeadsOn (awaiting_with p own here awaiting) (awaiting_with p turn.scope after awaiting) fs (turn.before ++ turn.whole ++ turn.behind) =
+    leads_on-append (awaiting_with p own here awaiting) aw (awaiting_with p turn.scope after awaiting) fs (turn.before ++ turn.whole) turn.behind two (subst (λ g. LeadsOn aw (awaiting_with p turn.scope after awaiting) g turn.behind) (sym (flags-append fs turn.before turn.whole)) third) in
+    leads_on-append (awaiting_with p own here awaiting) (awaiting_with p turn.scope after awaiting) awaiting fs (turn.before ++ turn.whole ++ turn.behind) turn.others three
+    (subst (λ g. LeadsOn (awaiting_with p turn.scope after awaiting) awaiting g turn.others) (sym (flags-append fs (turn.before ++ turn.whole) turn.behind ∙ ap (λ g. flags_after g turn.behind) (flags-append fs turn.before turn.whole))) fourth)
 
 -- in the end no header is awaited
 pub program_awaits : (p : Tree) → first_fault p ≡ None → awaiting_after [] (steps p) ≡ []

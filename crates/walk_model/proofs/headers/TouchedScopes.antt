@@ -1,19 +1,12 @@
 -- Which scopes the events of a step touch: open ones, and no scope from within a header to one outside.
-use Rattle.std.proofs.Common.{◌≡◌, ℕ, ◌<◌, ◌≤◌, List, [], ◌∷◌, ◌++◌, Some, Bool, true, false, cond, ◌&&◌, not, ◌⊎◌, inl, inr, refl, sym, ap, subst, ◌∙◌, map, flat_map, nat_lt, if◌then◌else◌, codes, arith}
+use Rattle.std.proofs.Common.{◌≡◌, ℕ, ◌<◌, ◌≤◌, List, [], ◌∷◌, ◌++◌, Some, Bool, true, false, ◌&&◌, not, ◌⊎◌, inl, inr, refl, sym, ap, subst, ◌∙◌, nat_lt, if◌then◌else◌, arith}
 use Rattle.std.proofs.lemmas.Bool.Decides.{Decides-ltb}
-use Rattle.semantic_tree.specs.declared.node.Node.{Node}
 use Rattle.semantic_kinds.specs.declared.kind.AstType.{AstType}
 use Rattle.semantic_kinds.specs.declared.kind.AstType.TheVariants as kind
-use Rattle.semantic_kinds.specs.declared.role.Role.TheVariants as role
-use Rattle.semantic_kinds.specs.declared.mark.Mark.TheVariants as mark
-use Rattle.semantic_syntax.specs.declared.symbol_flags.TheConstants.SymbolFlags as symbol
-use Rattle.semantic_syntax.specs.Sets.{union}
-use Rattle.semantic_tree.specs.Views.{is, has, is_with_text, children_of}
-use Rattle.semantic_model.specs.Names.{bound_names, names_at}
-use Rattle.semantic_model.specs.Namespace.{InstanceState, non_instantiated, const_enum_only, instantiated, instance_state, nodes_around}
-use Rattle.semantic_model.specs.Place.{Place, OpenScope, innermost, outside, parent_holds}
-use Rattle.semantic_model.specs.Declaration.{How, plain, hoisted, moved, caught, Declaration, here, first_with, outward_to, outward_past, stands_in}
-use Rattle.semantic_model.specs.Binder.{Row, declare, declare_here, is_var, is_statement, is_block_function, variable_row, variables_under, function_row, class_row, is_pure_declarator, ids, parameter_excluded, parameters_under, catch_names, enums, member_named, marked_ambient, import_flags, namespace_row, type_parameter_route, type_parameter_row, declared_by, declared_on_entering}
+use Rattle.semantic_model.specs.Place.{Place, OpenScope, innermost, outside}
+use Rattle.semantic_model.specs.Declaration.{How, plain, hoisted, moved, caught, Declaration, first_with, outward_to, outward_past, stands_in}
+use Rattle.semantic_model.specs.Binder.{is_var, is_statement, declared_by, declared_on_entering}
+use Rattle.semantic_model.proofs.fold.EachDeclared.{EachDeclared, each_on_entering}
 use Rattle.semantic_model.specs.Event.{Event, declares, is_barred, staying, placed_by, placed, declares_all}
 use Rattle.walk_model.proofs.places.Nested.{Descends}
 use Rattle.walk_model.proofs.places.Routes.{grounded, GoesOut, AllGoOut, placed_goes, not_var, target_below}
@@ -79,19 +72,7 @@ IsByVar p moved target = (is_closed p.node.kind p.node.text ≡ false) × ((t : 
 IsByVar p _ target = Unit {0}
 
 abbrev pub AllByVar : Place → List Declaration → Type 0
-AllByVar p [] = Unit {0}
-AllByVar p (d ∷ ds) = IsByVar p d.how d.target × AllByVar p ds
-
-var-append : (p : Place) (ds es : List Declaration) → AllByVar p ds → AllByVar p es → AllByVar p (ds ++ es)
-var-append p [] es h k = k
-var-append p (d ∷ ds) es h k = (h.0, var-append p ds es h.1 k)
-
-row_by_var : (p : Place) (node : Node) (row : Row) (is_pure : Bool) (names : List Node) → IsByVar p row.how row.route.target → AllByVar p (map (declare node row is_pure) names)
-row_by_var p node row is_pure [] h = tt
-row_by_var p node row is_pure (x ∷ xs) h = (h, row_by_var p node row is_pure xs h)
-
-here_by_var : (p : Place) (flags excluded : ℕ) (names : List Node) → AllByVar p (declare_here p flags excluded names)
-here_by_var p flags excluded names = row_by_var p p.node (record { flags = flags; excluded = excluded; how = plain; route = here p.chain }) false names tt
+AllByVar p = EachDeclared (λ d. IsByVar p d.how d.target)
 
 outward_target : (chain : List OpenScope) (t : OpenScope) → first_with is_var chain ≡ Some t → (outward_to is_var chain).target ≡ t
 outward_target chain t e = rw e refl
@@ -100,80 +81,20 @@ past_target : (chain : List OpenScope) (t : OpenScope) → is_var (innermost cha
 past_target [] t v e = absurd cc
 past_target (s ∷ ss) t v e = let q : first_with is_var ss ≡ Some t = rw v at e in rw q refl
 
-variable_by_var : (p : Place) (b : Bool) (declaration : Node) → is_closed p.node.kind p.node.text ≡ false → is_with_text kind.VariableDeclaration (codes "var") declaration ≡ b → IsByVar p (variable_row declaration p.chain).how (variable_row declaration p.chain).route.target
-variable_by_var p true declaration c e = rw e (c, λ t q. outward_target p.chain t q)
-variable_by_var p false declaration c e = rw e tt
-
-variables_by_var : (path : List Node) (p : Place) → is_closed p.node.kind p.node.text ≡ false → AllByVar p (variables_under path p)
-variables_by_var [] p c = tt
-variables_by_var (declaration ∷ path) p c = row_by_var p p.node (variable_row declaration p.chain) (is_pure_declarator p.node) (bound_names p.node) (variable_by_var p (is_with_text kind.VariableDeclaration (codes "var") declaration) declaration c refl)
-
-function_by_var : (p : Place) (b : Bool) → is_closed p.node.kind p.node.text ≡ false → is_block_function p ≡ b → IsByVar p (function_row p).how (function_row p).route.target
-function_by_var p true c e = let v : is_var (innermost p.chain) ≡ false = not_var p e in rw e (c, λ t q. past_target p.chain t v q)
-function_by_var p false c e = rw e tt
-
 statement_open : (p : Place) → p.node.kind ≡ kind.Function → is_statement p.node ≡ true → is_closed p.node.kind p.node.text ≡ false
 statement_open p e h = rw e (ap (λ b. not (true && b)) h)
-
-functions_by_var : (p : Place) → p.node.kind ≡ kind.Function → AllByVar p (cond (is_statement p.node) (map (declare p.node (function_row p) (has mark.Pure p.node)) (ids p.node)) [])
-functions_by_var p e = by (is_statement p.node) refl
-  where
-    by : (b : Bool) → is_statement p.node ≡ b → AllByVar p (cond b (map (declare p.node (function_row p) (has mark.Pure p.node)) (ids p.node)) [])
-    by true h = row_by_var p p.node (function_row p) (has mark.Pure p.node) (ids p.node) (function_by_var p (is_block_function p) (statement_open p e h) refl)
-    by false h = tt
-
-cond_by_var : (p : Place) (b : Bool) (ds : List Declaration) → AllByVar p ds → AllByVar p (cond b ds [])
-cond_by_var p true ds h = h
-cond_by_var p false ds h = tt
-
-parameters_by_var : (path : List Node) (p : Place) → AllByVar p (parameters_under path p)
-parameters_by_var [] p = tt
-parameters_by_var (l ∷ path) p = here_by_var p symbol.FunctionScopedVariable.bits (parameter_excluded l p.chain) (bound_names p.node)
-
-catch_by_var : (p : Place) (patterns : List Node) → AllByVar p (flat_map (catch_names p) patterns)
-catch_by_var p [] = tt
-catch_by_var p (x ∷ xs) = var-append p (catch_names p x) (flat_map (catch_names p) xs) (go (is kind.BindingIdentifier x) (bound_names x)) (catch_by_var p xs)
-  where
-    go : (b : Bool) (names : List Node) → AllByVar p (if b then declare p.node (record { flags = union symbol.FunctionScopedVariable.bits symbol.CatchVariable.bits; excluded = 0; how = caught; route = here p.chain }) false x ∷ [] else declare_here p (union symbol.BlockScopedVariable.bits symbol.CatchVariable.bits) symbol.BlockScopedVariableExcludes.bits names)
-    go true names = (tt, tt)
-    go false names = here_by_var p (union symbol.BlockScopedVariable.bits symbol.CatchVariable.bits) symbol.BlockScopedVariableExcludes.bits names
-
-enums_by_var : (p : Place) → AllByVar p (enums p)
-enums_by_var p = go (has mark.Const p.node)
-  where
-    go : (b : Bool) → AllByVar p (if b then declare_here p (union symbol.ConstEnum.bits (marked_ambient p.node)) symbol.ConstEnumExcludes.bits (ids p.node) else declare_here p (union symbol.RegularEnum.bits (marked_ambient p.node)) symbol.RegularEnumExcludes.bits (ids p.node))
-    go true = here_by_var p (union symbol.ConstEnum.bits (marked_ambient p.node)) symbol.ConstEnumExcludes.bits (ids p.node)
-    go false = here_by_var p (union symbol.RegularEnum.bits (marked_ambient p.node)) symbol.RegularEnumExcludes.bits (ids p.node)
-
-namespace_by_var : (s : InstanceState) (p : Place) → AllByVar p (namespace_row s p)
-namespace_by_var non_instantiated p = here_by_var p (union symbol.NamespaceModule.bits (marked_ambient p.node)) symbol.NamespaceModuleExcludes.bits (ids p.node)
-namespace_by_var const_enum_only p = here_by_var p (union symbol.ValueModule.bits (marked_ambient p.node)) symbol.ValueModuleExcludes.bits (ids p.node)
-namespace_by_var instantiated p = here_by_var p (union symbol.ValueModule.bits (marked_ambient p.node)) symbol.ValueModuleExcludes.bits (ids p.node)
 
 loose_open : (p : Place) → p.node.kind ≡ kind.VariableDeclarator → is_closed p.node.kind p.node.text ≡ false
 loose_open p e = rw e refl
 
 pub entering_by_var : (k : AstType) (p : Place) → p.node.kind ≡ k → AllByVar p (declared_by k p)
-entering_by_var kind.VariableDeclarator p e = variables_by_var p.path p (loose_open p e)
-entering_by_var kind.Function p e = functions_by_var p e
-entering_by_var kind.Class p e = cond_by_var p (is_statement p.node) (map (declare p.node (class_row p p.chain) false) (ids p.node)) (row_by_var p p.node (class_row p p.chain) false (ids p.node) tt)
-entering_by_var kind.FormalParameter p e = parameters_by_var p.path p
-entering_by_var kind.FormalParameterRest p e = parameters_by_var p.path p
-entering_by_var kind.BindingRestElement p e =
-    cond_by_var p (parent_holds (is kind.FormalParameters) p.path) (declare_here p symbol.FunctionScopedVariable.bits (union symbol.FunctionScopedVariableExcludes.bits symbol.FunctionScopedVariable.bits) (bound_names p.node))
-    (here_by_var p symbol.FunctionScopedVariable.bits (union symbol.FunctionScopedVariableExcludes.bits symbol.FunctionScopedVariable.bits) (bound_names p.node))
-entering_by_var kind.CatchParameter p e = catch_by_var p (children_of role.Pattern p.node.children)
-entering_by_var kind.ImportSpecifier p e = here_by_var p (import_flags p) symbol.ImportBindingExcludes.bits (names_at role.Local p.node)
-entering_by_var kind.ImportDefaultSpecifier p e = here_by_var p (import_flags p) symbol.ImportBindingExcludes.bits (names_at role.Local p.node)
-entering_by_var kind.ImportNamespaceSpecifier p e = here_by_var p (import_flags p) symbol.ImportBindingExcludes.bits (names_at role.Local p.node)
-entering_by_var kind.TSImportEqualsDeclaration p e = here_by_var p symbol.Import.bits symbol.ImportBindingExcludes.bits (ids p.node)
-entering_by_var kind.TSTypeAliasDeclaration p e = here_by_var p (union symbol.TypeAlias.bits (marked_ambient p.node)) symbol.TypeAliasExcludes.bits (ids p.node)
-entering_by_var kind.TSInterfaceDeclaration p e = here_by_var p (union symbol.Interface.bits (marked_ambient p.node)) symbol.InterfaceExcludes.bits (ids p.node)
-entering_by_var kind.TSEnumDeclaration p e = enums_by_var p
-entering_by_var kind.TSEnumMember p e = here_by_var p symbol.EnumMember.bits symbol.EnumMemberExcludes.bits (flat_map (member_named p.node) (children_of role.Id p.node.children))
-entering_by_var kind.TSNamespaceDeclaration p e = namespace_by_var (instance_state p.node p.path (nodes_around p.node p.path)) p
-entering_by_var kind.TSTypeParameter p e = row_by_var p p.node (type_parameter_row (type_parameter_route p)) false (names_at role.Name p.node) tt
-entering_by_var _ p e = tt
+entering_by_var k p e = each_on_entering (λ d. IsByVar p d.how d.target) (λ how r. IsByVar p how r.target) (λ node row is_pure name h. h) k p (record {
+  at_home = tt;
+  when_caught = tt;
+  when_hoisted = λ q. (loose_open p (e ∙ q), λ t f. outward_target p.chain t f);
+  when_moved = λ q s b. (statement_open p (e ∙ q) s, λ t f. past_target p.chain t (not_var p b) f);
+  when_inferred = tt;
+})
 
 -- a scope above another
 abbrev pub above : ℕ → ℕ → Bool

@@ -8,12 +8,13 @@ use Rattle.semantic_tree.specs.Tree.{Tree}
 use Rattle.semantic_tree.specs.Faults.{first_fault}
 use Rattle.semantic_tree.specs.declared.node.Node.{Node}
 use Rattle.semantic_model.specs.Place.{Place, OpenScope}
-use Rattle.semantic_model.specs.Inside.{opens, is_inside, scopes_in}
+use Rattle.semantic_model.specs.Inside.{opens, is_inside}
 use Rattle.semantic_model.specs.ScopeKind.{opened_scope}
 use Rattle.semantic_model.specs.Cursor.{on_entering}
 use Rattle.semantic_model.specs.Binder.{declared_by}
 use Rattle.semantic_model.specs.Event.{declared_at}
-use Rattle.semantic_model.specs.Step.{Step, entering, opening, closing, leaving, steps_below, steps, opening_at, ending_after, opening_last, scope_at, next_at, child_place, cursor_past, root_place}
+use Rattle.semantic_model.specs.Step.{Step, entering, opening, closing, leaving, steps_below, steps, opening_at, ending_after, opening_last, scope_at, root_place}
+use Rattle.semantic_model.proofs.steps.Turn.{Turn, turn_at}
 use Rattle.semantic_model.proofs.form.Clauses.{first_holds, second_holds}
 use Rattle.semantic_model.proofs.form.Shape.{has_form}
 use Rattle.semantic_model.proofs.steps.TurnCases.{ending_case}
@@ -67,22 +68,17 @@ module _ (x : ℕ) where
   below_times p own n cursor nothing q l = omega (arith, last_times p own n)
   below_times p own n cursor (tree r kd span text marks below id after) q l =
       let node : Node = record { kind = kd; span = span; text = text; marks = marks; children = below; node_id = id } in
-      let scope : Option OpenScope = scope_at p r own n in
-      let next : ℕ = next_at p r own n in
-      let child : Place = child_place p scope cursor r node in
-      let inner : ℕ = on_entering kd child.cursor in
-      let ys : List Step = steps_below child None next inner below in
-      let ws : List Step = steps_below p scope (next + cond (opens kd) 1 0 + scopes_in below) (cursor_past p r cursor child) after in
+      let turn : Turn = turn_at p own n cursor r node after in
       let here : names_quietly p.node.kind r kd text ≡ true = first_holds (names_quietly p.node.kind r kd text) _ q in
       let both : (holds_below names_quietly kd below && holds_below names_quietly p.node.kind after) ≡ true = second_holds (names_quietly p.node.kind r kd text) _ q in
       omega (
         arith,
-        turn_times (opening_at p r own n) ys (ending_after p r scope after) ws child,
+        turn_times (opening_at p r own n) turn.below (ending_after p r turn.scope after) turn.others turn.child,
         first_times p r own n,
-        none_ending p r scope after,
-        child_times x p.node.kind r child here refl l.0,
-        below_times child None next inner below (first_holds (holds_below names_quietly kd below) _ both) l.1.0,
-        below_times p scope (next + cond (opens kd) 1 0 + scopes_in below) (cursor_past p r cursor child) after (second_holds (holds_below names_quietly kd below) _ both) l.1.1,
+        none_ending p r turn.scope after,
+        child_times x p.node.kind r turn.child here refl l.0,
+        below_times turn.child None turn.next turn.inner below (first_holds (holds_below names_quietly kd below) _ both) l.1.0,
+        below_times p turn.scope turn.rest turn.past after (second_holds (holds_below names_quietly kd below) _ both) l.1.1,
       )
 
   root_times : (k : AstType) (p : Place) → k ≡ kind.Program → declared_times x (declared_by k p) + opened_times x k p.node ≡ 0

@@ -12,12 +12,13 @@ use Rattle.semantic_kinds.specs.declared.kind.AstType.TheVariants as kind
 use Rattle.semantic_kinds.specs.declared.role.Role.{Role}
 use Rattle.semantic_tree.specs.Views.{is}
 use Rattle.semantic_model.specs.Place.{Place, OpenScope}
-use Rattle.semantic_model.specs.Inside.{opens, is_inside, scopes_in}
+use Rattle.semantic_model.specs.Inside.{opens, is_inside}
 use Rattle.semantic_model.specs.ScopeKind.{opened_scope}
 use Rattle.semantic_model.specs.Cursor.{on_entering}
 use Rattle.semantic_syntax.specs.Members.{contains}
 use Rattle.semantic_model.specs.Reference.{Occurrence, reference_at, references}
-use Rattle.semantic_model.specs.Step.{Step, entering, opening, header_ending, closing, leaving, steps_below, steps, opening_at, ending_after, opening_last, scope_at, next_at, child_place, cursor_past, root_place}
+use Rattle.semantic_model.specs.Step.{Step, entering, opening, header_ending, closing, leaving, steps_below, steps, opening_at, ending_after, opening_last, scope_at, root_place}
+use Rattle.semantic_model.proofs.steps.Turn.{Turn, turn_at}
 use Rattle.semantic_model.specs.TablesOf.{evals, opened_entry, scopes}
 use Rattle.semantic_model.specs.NodeTable.{Belongs, numbered_from, node_tables}
 use Rattle.semantic_model.proofs.lists.Members.{contains-append}
@@ -241,22 +242,17 @@ openers_below p None n cursor nothing k e l = by (opens p.node.kind)
     by false = spread_none p.node.node_id k (k + 0) true
 openers_below p own n cursor (tree r kd span text marks below id after) k e l =
     let node : Node = record { kind = kd; span = span; text = text; marks = marks; children = below; node_id = id } in
-    let scope : Option OpenScope = scope_at p r own n in
-    let next : ℕ = next_at p r own n in
-    let child : Place = child_place p scope cursor r node in
-    let inner : ℕ = on_entering kd child.cursor in
-    let ys : List Step = steps_below child None next inner below in
-    let ws : List Step = steps_below p scope (next + cond (opens kd) 1 0 + scopes_in below) (cursor_past p r cursor child) after in
+    let turn : Turn = turn_at p own n cursor r node after in
     let g : FirstNumbered k id below after = first_numbered k r kd span text marks below id after e in
     let mid : ℕ = k + 1 + count below in
     let hi : ℕ = k + (count below + count after + 1) in
-    let c1 : Spread id (k + 1) mid true (flat_map opener ys) = openers_below child None next inner below (k + 1) g.inner (omega (arith, g.first)) in
-    let c2 : Ranged k mid (flat_map opener ys) = spread_child k mid true (flat_map opener ys) (omega arith) (subst (λ m. Spread m (k + 1) mid true (flat_map opener ys)) g.first c1) in
-    let rest : Spread p.node.node_id mid hi (is_to_open scope) (flat_map opener ws) =
-    subst (λ m. Spread p.node.node_id mid m (is_to_open scope) (flat_map opener ws)) (omega arith) (openers_below p scope (next + cond (opens kd) 1 0 + scopes_in below) (cursor_past p r cursor child) after mid g.others (omega arith)) in
-    let both : Spread p.node.node_id k hi (is_to_open scope) (flat_map opener ys ++ flat_map opener ws) = spread_append p.node.node_id k mid hi (is_to_open scope) (flat_map opener ys) (flat_map opener ws) l (omega arith) (omega arith) c2 rest in
-    subst (Spread p.node.node_id k hi (is_to_open own)) (sym (turn_openers p (opening_at p r own n) ys (ending_after p r scope after) ws child (none_ending p r scope after)))
-    (first_open own n (flat_map opener ys ++ flat_map opener ws) hi both)
+    let c1 : Spread id (k + 1) mid true (flat_map opener turn.below) = openers_below turn.child None turn.next turn.inner below (k + 1) g.inner (omega (arith, g.first)) in
+    let c2 : Ranged k mid (flat_map opener turn.below) = spread_child k mid true (flat_map opener turn.below) (omega arith) (subst (λ m. Spread m (k + 1) mid true (flat_map opener turn.below)) g.first c1) in
+    let rest : Spread p.node.node_id mid hi (is_to_open turn.scope) (flat_map opener turn.others) =
+    subst (λ m. Spread p.node.node_id mid m (is_to_open turn.scope) (flat_map opener turn.others)) (omega arith) (openers_below p turn.scope turn.rest turn.past after mid g.others (omega arith)) in
+    let both : Spread p.node.node_id k hi (is_to_open turn.scope) (flat_map opener turn.below ++ flat_map opener turn.others) = spread_append p.node.node_id k mid hi (is_to_open turn.scope) (flat_map opener turn.below) (flat_map opener turn.others) l (omega arith) (omega arith) c2 rest in
+    subst (Spread p.node.node_id k hi (is_to_open own)) (sym (turn_openers p (opening_at p r own n) turn.below (ending_after p r turn.scope after) turn.others turn.child (none_ending p r turn.scope after)))
+    (first_open own n (flat_map opener turn.below ++ flat_map opener turn.others) hi both)
   where
     first_open : (o : Option OpenScope) (n : ℕ) (xs : List ℕ) (hi : ℕ) → Spread p.node.node_id k hi (is_to_open (scope_at p r o n)) xs → Spread p.node.node_id k hi (is_to_open o) (flat_map opener (opening_at p r o n) ++ xs)
     first_open (Some s) n xs hi h = h
@@ -295,21 +291,16 @@ referrers_below : (p : Place) (own : Option OpenScope) (n cursor : ℕ) (f : For
 referrers_below p own n cursor nothing k e = subst (Ranged k (k + 0)) (sym (none_last p own n)) (ranged_none k (k + 0))
 referrers_below p own n cursor (tree r kd span text marks below id after) k e =
     let node : Node = record { kind = kd; span = span; text = text; marks = marks; children = below; node_id = id } in
-    let scope : Option OpenScope = scope_at p r own n in
-    let next : ℕ = next_at p r own n in
-    let child : Place = child_place p scope cursor r node in
-    let inner : ℕ = on_entering kd child.cursor in
-    let ys : List Step = steps_below child None next inner below in
-    let ws : List Step = steps_below p scope (next + cond (opens kd) 1 0 + scopes_in below) (cursor_past p r cursor child) after in
+    let turn : Turn = turn_at p own n cursor r node after in
     let g : FirstNumbered k id below after = first_numbered k r kd span text marks below id after e in
     let mid : ℕ = k + 1 + count below in
     let hi : ℕ = k + (count below + count after + 1) in
-    let own_one : Ranged k (k + 1) (referrer (entering child)) = referrer_own child k (k + 1) (omega (arith, g.first)) (omega (arith, g.first)) in
-    let inside : Ranged (k + 1) mid (flat_map referrer ys) = referrers_below child None next inner below (k + 1) g.inner in
-    let first : Ranged k mid (referrer (entering child) ++ flat_map referrer ys) = ranged_append k (k + 1) mid (referrer (entering child)) (flat_map referrer ys) (omega arith) (omega arith) own_one inside in
-    let rest : Ranged mid hi (flat_map referrer ws) = subst (λ m. Ranged mid m (flat_map referrer ws)) (omega arith) (referrers_below p scope (next + cond (opens kd) 1 0 + scopes_in below) (cursor_past p r cursor child) after mid g.others) in
-    subst (Ranged k hi) (sym (turn_referrers (opening_at p r own n) ys (ending_after p r scope after) ws child (none_open p r own n) (none_ended p r scope after)))
-    (ranged_append k mid hi (referrer (entering child) ++ flat_map referrer ys) (flat_map referrer ws) (omega arith) (omega arith) first rest)
+    let own_one : Ranged k (k + 1) (referrer (entering turn.child)) = referrer_own turn.child k (k + 1) (omega (arith, g.first)) (omega (arith, g.first)) in
+    let inside : Ranged (k + 1) mid (flat_map referrer turn.below) = referrers_below turn.child None turn.next turn.inner below (k + 1) g.inner in
+    let first : Ranged k mid (referrer (entering turn.child) ++ flat_map referrer turn.below) = ranged_append k (k + 1) mid (referrer (entering turn.child)) (flat_map referrer turn.below) (omega arith) (omega arith) own_one inside in
+    let rest : Ranged mid hi (flat_map referrer turn.others) = subst (λ m. Ranged mid m (flat_map referrer turn.others)) (omega arith) (referrers_below p turn.scope turn.rest turn.past after mid g.others) in
+    subst (Ranged k hi) (sym (turn_referrers (opening_at p r own n) turn.below (ending_after p r turn.scope after) turn.others turn.child (none_open p r own n) (none_ended p r turn.scope after)))
+    (ranged_append k mid hi (referrer (entering turn.child) ++ flat_map referrer turn.below) (flat_map referrer turn.others) (omega arith) (omega arith) first rest)
 
 -- the lists of the definitions are these
 openers_listed : (calls : List (List ℕ)) (ss : List Step) → map (λ s. s.node) (filter_map (opened_entry calls) ss) ≡ flat_map opener ss

@@ -1,5 +1,5 @@
 -- Each place below the root stands in some function's scope, or the like.
-use Rattle.std.proofs.Common.{◌≡◌, ℕ, ◌+◌, List, [], ◌∷◌, ◌++◌, Option, Some, None, Bool, true, false, cond, ◌&&◌, ◌||◌, not, ◌⊎◌, inl, inr, refl, sym, subst, ◌∙◌}
+use Rattle.std.proofs.Common.{◌≡◌, ℕ, List, [], ◌∷◌, Option, Some, None, Bool, true, false, cond, ◌&&◌, ◌||◌, not, ◌⊎◌, inl, inr, refl, sym, subst, ◌∙◌}
 use Rattle.std.proofs.lemmas.Bool.{cases_Bool}
 use Rattle.semantic_tree.specs.Forest.{Forest, nothing, tree}
 use Rattle.semantic_tree.specs.Tree.{Tree}
@@ -18,11 +18,13 @@ use Rattle.semantic_syntax.specs.Sets.{meets, union}
 use Rattle.semantic_syntax.specs.SourceTypes.{is_module}
 use Rattle.semantic_tree.specs.Views.{has_use_strict}
 use Rattle.semantic_model.specs.Place.{Place, OpenScope, outside, is_strict}
-use Rattle.semantic_model.specs.Inside.{opens, is_inside, is_in_header, is_parameter_decorator, scopes_in}
+use Rattle.semantic_model.specs.Inside.{is_inside, is_in_header, is_parameter_decorator}
 use Rattle.semantic_model.specs.ScopeKind.{opened_scope, strict_if}
 use Rattle.semantic_model.specs.Cursor.{on_entering}
 use Rattle.semantic_model.specs.Binder.{is_var}
-use Rattle.semantic_model.specs.Step.{Step, entering, leaving, steps_below, steps, opening_at, ending_after, opening_last, scope_at, next_at, child_place, chain_within, cursor_past, root_place}
+use Rattle.semantic_model.specs.Step.{steps_below, steps, opening_at, ending_after, opening_last, scope_at, child_place, chain_within, root_place}
+use Rattle.semantic_model.proofs.steps.Turn.{Turn, turn_at}
+use Rattle.semantic_model.proofs.steps.EachStep.{each_of_node, each_of_turn}
 use Rattle.semantic_model.proofs.form.Clauses.{kind_is, first_holds, second_holds}
 use Rattle.semantic_model.proofs.form.ParameterShape.{holds_inside, is_parameter, stands_under, parameters_stand}
 use Rattle.semantic_model.proofs.fold.Orders.{HasForm}
@@ -68,10 +70,6 @@ program_parts k = elim (cases_Bool (same_kind k kind.Program)) [
 
 abbrev holds_parameters : AstType → Bool
 holds_parameters k = same_kind k kind.FormalParameters || is_parameter k
-
-grounded-append : (xs ys : List Step) → AllGrounded xs → AllGrounded ys → AllGrounded (xs ++ ys)
-grounded-append [] ys h k = k
-grounded-append (x ∷ xs) ys h k = (h.0, grounded-append xs ys h.1 k)
 
 opening_grounded : (p : Place) (r : Role) (own : Option OpenScope) (n : ℕ) → IsGrounded p → AllGrounded (opening_at p r own n)
 opening_grounded p r own n g = opening_case AllGrounded p r own n tt (g, tt)
@@ -196,32 +194,22 @@ grounded_below : (p : Place) (own : Option OpenScope) (n cursor : ℕ) (f : Fore
 grounded_below p own n cursor nothing g o outer s t = last_grounded p own n g
 grounded_below p own n cursor (tree r k span text marks below id after) g o outer s t =
     let node : Node = record { kind = k; span = span; text = text; marks = marks; children = below; node_id = id } in
-    let scope : Option OpenScope = scope_at p r own n in
-    let next : ℕ = next_at p r own n in
-    let child : Place = child_place p scope cursor r node in
-    let inner : ℕ = on_entering k child.cursor in
-    let xs : List Step = opening_at p r own n in
-    let ys : List Step = steps_below child None next inner below in
-    let es : List Step = ending_after p r scope after in
-    let rest : ℕ = next + cond (opens k) 1 0 + scopes_in below in
-    let ws : List Step = steps_below p scope rest (cursor_past p r cursor child) after in
-    let o_scope : OwnVar p scope = own_var p r own n o in
-    let i : is_inside p.node.kind r ≡ true → scope ≡ None → ⊥ = is_open_inside p r own n in
+    let turn : Turn = turn_at p own n cursor r node after in
+    let o_scope : OwnVar p turn.scope = own_var p r own n o in
+    let i : is_inside p.node.kind r ≡ true → turn.scope ≡ None → ⊥ = is_open_inside p r own n in
     let s_here : stands_under p.node.kind r k ≡ true = first_holds (stands_under p.node.kind r k) _ s in
     let s_rest : (parameters_stand k below && parameters_stand p.node.kind after) ≡ true = second_holds (stands_under p.node.kind r k) _ s in
     let t_here : not_in_program p.node.kind r k text ≡ true = first_holds (not_in_program p.node.kind r k text) _ t in
     let t_rest : (holds_below not_in_program k below && holds_below not_in_program p.node.kind after) ≡ true = second_holds (not_in_program p.node.kind r k text) _ t in
-    let v : HasVar child.chain = child_var p scope cursor r node g o_scope i outer in
-    grounded-append (xs ++ (entering child ∷ (ys ++ leaving child ∷ [])) ++ es) ws
-    (grounded-append (xs ++ (entering child ∷ (ys ++ leaving child ∷ []))) es
-    (grounded-append xs (entering child ∷ (ys ++ leaving child ∷ [])) (opening_grounded p r own n g) (
-      inl v,
-      grounded-append ys (leaving child ∷ [])
-          (grounded_below child None next inner below (inl v) tt (child_outer p scope cursor r node g i outer s_here t_here) (first_holds (parameters_stand k below) _ s_rest) (first_holds (holds_below not_in_program k below) _ t_rest))
-          (tt, tt),
-    ))
-    (ending_grounded p r scope after))
-    (grounded_below p scope rest (cursor_past p r cursor child) after g o_scope outer (second_holds (parameters_stand k below) _ s_rest) (second_holds (holds_below not_in_program k below) _ t_rest))
+    let v : HasVar turn.child.chain = child_var p turn.scope cursor r node g o_scope i outer in
+    each_of_turn IsStepGrounded turn (record {
+      before = opening_grounded p r own n g;
+      whole = each_of_node IsStepGrounded turn.child turn.below (inl v)
+          (grounded_below turn.child None turn.next turn.inner below (inl v) tt (child_outer p turn.scope cursor r node g i outer s_here t_here) (first_holds (parameters_stand k below) _ s_rest) (first_holds (holds_below not_in_program k below) _ t_rest))
+          tt;
+      behind = ending_grounded p r turn.scope after;
+      others = grounded_below p turn.scope turn.rest turn.past after g o_scope outer (second_holds (parameters_stand k below) _ s_rest) (second_holds (holds_below not_in_program k below) _ t_rest);
+    })
 
 root_holds_none : (p : Tree) → p.root.kind ≡ kind.Program → holds_parameters p.root.kind ≡ true → HasVar (outside (root_place p).chain)
 root_holds_none p e h = let q : false ≡ true = rw e at h in absurd cc
@@ -229,8 +217,6 @@ root_holds_none p e h = let q : false ≡ true = rw e at h in absurd cc
 -- so it is in a program
 pub all_grounded : (p : Tree) → first_fault p ≡ None → AllGrounded (steps p)
 all_grounded p h =
-    let form : HasForm p = has_form p h in (
-      inr form.root,
-      grounded-append (steps_below (root_place p) None 0 (on_entering p.root.kind 0) p.root.children) (leaving (root_place p) ∷ [])
-          (grounded_below (root_place p) None 0 (on_entering p.root.kind 0) p.root.children (inr form.root) tt (root_holds_none p form.root) form.parameters (tree_holds not_in_program program_parts p h)) (tt, tt),
-    )
+    let form : HasForm p = has_form p h in
+    each_of_node IsStepGrounded (root_place p) (steps_below (root_place p) None 0 (on_entering p.root.kind 0) p.root.children) (inr form.root)
+    (grounded_below (root_place p) None 0 (on_entering p.root.kind 0) p.root.children (inr form.root) tt (root_holds_none p form.root) form.parameters (tree_holds not_in_program program_parts p h)) tt

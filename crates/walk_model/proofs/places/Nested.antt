@@ -13,10 +13,10 @@ use Rattle.semantic_tree.specs.Views.{has_role}
 use Rattle.semantic_model.specs.Place.{Place, OpenScope, outside}
 use Rattle.semantic_model.specs.Inside.{opens, is_inside, any_inside, header_roles, is_in_header, is_parameter_decorator, scopes_in}
 use Rattle.semantic_model.specs.ScopeKind.{opened_scope}
-use Rattle.semantic_model.specs.Cursor.{on_entering}
-use Rattle.semantic_syntax.specs.Members.{contains}
-use Rattle.semantic_model.specs.Step.{Step, entering, opening, header_ending, closing, leaving, steps_below, opening_at, ending_after, opening_last, scope_at, next_at, child_place, chain_within, cursor_past}
-use Rattle.semantic_model.proofs.steps.Opened.{openings, openings-append, opened_below, none_after, next_opened}
+use Rattle.semantic_model.specs.Declaration.{contains}
+use Rattle.semantic_model.specs.Step.{Step, entering, opening, header_ending, closing, leaving, steps_below, opening_at, ending_after, opening_last, scope_at, child_place, chain_within}
+use Rattle.semantic_model.proofs.steps.Turn.{Turn, turn_at}
+use Rattle.semantic_model.proofs.steps.Opened.{opened_by_node, openings, none_after, next_opened}
 use Rattle.semantic_model.proofs.lists.Members.{contains_first}
 use Rattle.semantic_model.proofs.form.Clauses.{first_holds}
 use Rattle.semantic_model.proofs.steps.TurnCases.{last_case}
@@ -277,37 +277,28 @@ nested_below p own n cursor nothing stack seen e h o =
     subst (λ l. Leads l stack seen (opening_last p own n)) (sym (none_with p own stack)) (at_last p own n stack seen e h)
 nested_below p own n cursor (tree r k span text marks below id after) stack seen e h o =
     let node : Node = record { kind = k; span = span; text = text; marks = marks; children = below; node_id = id } in
+    let turn : Turn = turn_at p own n cursor r node after in
     let here : Forest = tree r k span text marks below id after in
-    let scope : Option OpenScope = scope_at p r own n in
-    let next : ℕ = next_at p r own n in
-    let child : Place = child_place p scope cursor r node in
-    let inner : ℕ = on_entering k child.cursor in
-    let xs : List Step = opening_at p r own n in
-    let ys : List Step = steps_below child None next inner below in
-    let zs : List Step = entering child ∷ (ys ++ leaving child ∷ []) in
-    let es : List Step = ending_after p r scope after in
-    let rest : ℕ = next + cond (opens k) 1 0 + scopes_in below in
-    let ws : List Step = steps_below p scope rest (cursor_past p r cursor child) after in
-    let then_open : List ℕ = open_with p scope here stack in
-    let seen_x : List (List ℕ) = seen_after seen xs in
-    let seen_z : List (List ℕ) = seen_after seen_x zs in
-    let seen_e : List (List ℕ) = seen_after seen_z es in
-    let count_child : openings zs ≡ cond (opens k) 1 0 + scopes_in below = omega (arith, openings-append ys (leaving child ∷ []), opened_below child None next inner below) in
-    let length_x : length seen_x ≡ next = omega (arith, seen_length seen xs, next_opened p r own n, e) in
-    let length_e : length seen_e ≡ rest = omega (arith, seen_length seen_z es, seen_length seen_x zs, none_after p r scope after, count_child, length_x) in
-    let own_x : IsOwnOf seen_x p scope = own_opened p r own n stack seen e h o in
-    let chain_x : IsChain stack seen_x p.chain = chain_more stack seen seen_x p.chain (seen_extends seen xs) h in
-    let chain_child : IsChain then_open seen_x child.chain = child_chain p scope cursor r node after stack seen_x chain_x own_x in
-    let first : Leads (open_with p own here stack) then_open seen xs = at_opening p r own n here stack seen e (λ q. rw q refl) h in
-    let inside : Leads then_open then_open seen_x ys = nested_below child None next inner below then_open seen_x length_x chain_child tt in
-    let leaves : Leads then_open then_open (seen_after seen_x ys) (leaving child ∷ []) = record { nested = (tt, tt); open_is = refl } in
-    let both : Leads then_open then_open seen_x (ys ++ leaving child ∷ []) = leads-append then_open then_open then_open seen_x ys (leaving child ∷ []) inside leaves in
-    let second : Leads then_open then_open seen_x zs = record { nested = (chain_child, both.nested); open_is = both.open_is } in
-    let third : Leads then_open (open_with p scope after stack) seen_z es = at_ending p r scope here after stack seen_z refl in
-    let extends : Extends seen_x seen_e = then_extends seen_x seen_z seen_e (seen_extends seen_x zs) (seen_extends seen_z es) in
-    let fourth : Leads (open_with p scope after stack) stack seen_e ws = nested_below p scope rest (cursor_past p r cursor child) after stack seen_e length_e (chain_more stack seen_x seen_e p.chain extends chain_x) (own_more seen_x seen_e p scope extends own_x) in
-    let two : Leads (open_with p own here stack) then_open seen (xs ++ zs) = leads-append (open_with p own here stack) then_open then_open seen xs zs first second in
-    let three : Leads (open_with p own here stack) (open_with p scope after stack) seen (xs ++ zs ++ es) =
-    leads-append (open_with p own here stack) then_open (open_with p scope after stack) seen (xs ++ zs) es two (subst (λ l. Leads then_open (open_with p scope after stack) l es) (sym (seen-append seen xs zs)) third) in
-    leads-append (open_with p own here stack) (open_with p scope after stack) stack seen (xs ++ zs ++ es) ws three
-    (subst (λ l. Leads (open_with p scope after stack) stack l ws) (sym (seen-append seen (xs ++ zs) es ∙ ap (λ l. seen_after l es) (seen-append seen xs zs))) fourth)
+    let then_open : List ℕ = open_with p turn.scope here stack in
+    let seen_x : List (List ℕ) = seen_after seen turn.before in
+    let seen_z : List (List ℕ) = seen_after seen_x turn.whole in
+    let seen_e : List (List ℕ) = seen_after seen_z turn.behind in
+    let count_child : openings turn.whole ≡ cond (opens k) 1 0 + scopes_in below = opened_by_node turn.child turn.next in
+    let length_x : length seen_x ≡ turn.next = omega (arith, seen_length seen turn.before, next_opened p r own n, e) in
+    let length_e : length seen_e ≡ turn.rest = omega (arith, seen_length seen_z turn.behind, seen_length seen_x turn.whole, none_after p r turn.scope after, count_child, length_x) in
+    let own_x : IsOwnOf seen_x p turn.scope = own_opened p r own n stack seen e h o in
+    let chain_x : IsChain stack seen_x p.chain = chain_more stack seen seen_x p.chain (seen_extends seen turn.before) h in
+    let chain_child : IsChain then_open seen_x turn.child.chain = child_chain p turn.scope cursor r node after stack seen_x chain_x own_x in
+    let first : Leads (open_with p own here stack) then_open seen turn.before = at_opening p r own n here stack seen e (λ q. rw q refl) h in
+    let inside : Leads then_open then_open seen_x turn.below = nested_below turn.child None turn.next turn.inner below then_open seen_x length_x chain_child tt in
+    let leaves : Leads then_open then_open (seen_after seen_x turn.below) (leaving turn.child ∷ []) = record { nested = (tt, tt); open_is = refl } in
+    let both : Leads then_open then_open seen_x (turn.below ++ leaving turn.child ∷ []) = leads-append then_open then_open then_open seen_x turn.below (leaving turn.child ∷ []) inside leaves in
+    let second : Leads then_open then_open seen_x turn.whole = record { nested = (chain_child, both.nested); open_is = both.open_is } in
+    let third : Leads then_open (open_with p turn.scope after stack) seen_z turn.behind = at_ending p r turn.scope here after stack seen_z refl in
+    let extends : Extends seen_x seen_e = then_extends seen_x seen_z seen_e (seen_extends seen_x turn.whole) (seen_extends seen_z turn.behind) in
+    let fourth : Leads (open_with p turn.scope after stack) stack seen_e turn.others = nested_below p turn.scope turn.rest turn.past after stack seen_e length_e (chain_more stack seen_x seen_e p.chain extends chain_x) (own_more seen_x seen_e p turn.scope extends own_x) in
+    let two : Leads (open_with p own here stack) then_open seen (turn.before ++ turn.whole) = leads-append (open_with p own here stack) then_open then_open seen turn.before turn.whole first second in
+    let three : Leads (open_with p own here stack) (open_with p turn.scope after stack) seen (turn.before ++ turn.whole ++ turn.behind) =
+    leads-append (open_with p own here stack) then_open (open_with p turn.scope after stack) seen (turn.before ++ turn.whole) turn.behind two (subst (λ l. Leads then_open (open_with p turn.scope after stack) l turn.behind) (sym (seen-append seen turn.before turn.whole)) third) in
+    leads-append (open_with p own here stack) (open_with p turn.scope after stack) stack seen (turn.before ++ turn.whole ++ turn.behind) turn.others three
+    (subst (λ l. Leads (open_with p turn.scope after stack) stack l turn.others) (sym (seen-append seen (turn.before ++ turn.whole) turn.behind ∙ ap (λ l. seen_after l turn.behind) (seen-append seen turn.before turn.whole))) fourth)

@@ -1,24 +1,17 @@
 -- What holds of each part of a kind holds of each child in a tree without a fault.
-use Rattle.std.proofs.Common.{◌≡◌, ℕ, List, [], ◌∷◌, ◌++◌, Bool, true, false, ◌&&◌, None, take, drop, length, refl, sym, subst, ◌∙◌, inl, inr, ◌==◌, arith}
-use Rattle.std.specs.List.{list_all}
-use Rattle.std.proofs.lemmas.Bool.Decides.{eqb_tells}
-use Rattle.std.proofs.lemmas.List.{take-append-drop}
-use Rattle.semantic_kinds.specs.Classes.{is_of}
+use Rattle.std.proofs.Common.{◌≡◌, ℕ, List, ◌++◌, Bool, true, ◌&&◌, None, refl}
 use Rattle.semantic_kinds.specs.Parts.{parts}
-use Rattle.semantic_kinds.specs.Roles.{same_role}
 use Rattle.semantic_kinds.specs.declared.kind.AstType.{AstType}
 use Rattle.semantic_kinds.specs.declared.role.Role.{Role}
-use Rattle.semantic_kinds.specs.declared.part.Part.{Part}
 use Rattle.semantic_tree.specs.Forest.{Forest, nothing, tree}
 use Rattle.semantic_tree.specs.Tree.{Tree}
 use Rattle.semantic_tree.specs.Nodes.{trees}
-use Rattle.semantic_tree.specs.Fit.{lead, all_of, is_run, fit}
 use Rattle.semantic_tree.specs.Faults.{first_fault}
 use Rattle.semantic_tree.specs.Place.{root_place, child_place, placed_below}
 use Rattle.semantic_tree.specs.Rules.{is_well_formed, is_rooted, keeps_table, stands, names_foreign}
 use Rattle.semantic_tree.specs.declared.node.Node.{Node}
 use Rattle.semantic_tree.specs.declared.place.Place.{Place}
-use Rattle.semantic_model.proofs.form.Clauses.{role_is, first_holds, second_holds, both_hold}
+use Rattle.semantic_model.proofs.form.Clauses.{first_holds, second_holds, both_hold}
 pub use Rattle.semantic_model.proofs.form.PartsHold.{HoldsPart, HoldParts}
 use Rattle.semantic_model.proofs.form.PartsHold.{hold, fit_holds}
 use Rattle.semantic_model.proofs.form.Shape.{NoneMisshapen, first_formed, rest_formed, table_kept, fit_kept, none_misshapen}

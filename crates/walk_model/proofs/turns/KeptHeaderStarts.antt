@@ -10,9 +10,10 @@ use Rattle.semantic_model.specs.Inside.{opens, is_inside, any_inside, header_rol
 use Rattle.semantic_model.specs.ScopeKind.{opened_scope}
 use Rattle.semantic_model.specs.Cursor.{on_entering}
 use Rattle.semantic_model.specs.Declaration.{Declaration}
-use Rattle.semantic_syntax.specs.Outcome.{Pending}
-use Rattle.semantic_model.specs.Step.{Step, entering, opening, header_ending, closing, leaving, steps_below, steps_of, opening_at, ending_after, opening_last, scope_at, next_at, child_place, chain_within, cursor_past}
-use Rattle.semantic_model.proofs.steps.Opened.{openings, openings-append, opened_below, none_after, next_opened}
+use Rattle.semantic_model.specs.Outcome.{Pending}
+use Rattle.semantic_model.specs.Step.{Step, entering, opening, header_ending, closing, leaving, steps_below, steps_of, opening_at, ending_after, opening_last, scope_at, next_at, child_place, chain_within}
+use Rattle.semantic_model.proofs.steps.Turn.{Turn, turn_at}
+use Rattle.semantic_model.proofs.steps.Opened.{opened_by_node, rest_opened, openings, openings-append, next_opened}
 use Rattle.semantic_model.proofs.steps.TurnCases.{opening_case, last_case}
 use Rattle.walk_model.specs.WalkState.{WalkState, nothing_made}
 use Rattle.walk_model.specs.Opens.{number_of}
@@ -99,30 +100,20 @@ pub from_below : (c n : ℕ) (p : Place) (own : Option OpenScope) (cursor : ℕ)
 from_below c n p own cursor nothing z l h o = from_last c n p own h
 from_below c n p own cursor (tree r k span text marks below id after) z l h o =
     let node : Node = record { kind = k; span = span; text = text; marks = marks; children = below; node_id = id } in
-    let scope : Option OpenScope = scope_at p r own n in
-    let next : ℕ = next_at p r own n in
-    let child : Place = child_place p scope cursor r node in
-    let inner : ℕ = on_entering k child.cursor in
-    let xs : List Step = opening_at p r own n in
-    let ys : List Step = steps_below child None next inner below in
-    let zs : List Step = entering child ∷ (ys ++ leaving child ∷ []) in
-    let es : List Step = ending_after p r scope after in
-    let rest : ℕ = next + cond (opens k) 1 0 + scopes_in below in
-    let ws : List Step = steps_below p scope rest (cursor_past p r cursor child) after in
-    let count_x : n + openings xs ≡ next = next_opened p r own n in
-    let later : n ≤ next = omega (arith, count_x) in
-    let count_z : openings zs ≡ cond (opens k) 1 0 + scopes_in below = omega (arith, openings-append ys (leaving child ∷ []), opened_below child None next inner below) in
-    let count_e : openings es ≡ 0 = none_after p r scope after in
-    let h_x : Descends next p.chain = descends_more n next p.chain later h in
-    let o_x : OwnFrom c next p scope = own_opened c n p r own l h o in
-    let h_child : Descends next child.chain = child_descends c next p scope cursor r node h_x o_x in
-    let a : StepsFrom c n xs = from_opening c n p r own h in
-    let b : StepsFrom c next zs = (at_below next child (omega (arith, z, later)) h_child, from-append c next ys (leaving child ∷ []) (from_below c next child None inner below (omega (arith, z, later)) (omega (arith, l, later)) h_child tt) tt) in
-    let e : StepsFrom c rest es = from_ending c rest p r scope after (own_more c next rest p scope (omega arith) o_x) in
-    let d : StepsFrom c rest ws = from_below c rest p scope (cursor_past p r cursor child) after (omega (arith, z, later)) (omega (arith, l, later)) (descends_more next rest p.chain (omega arith) h_x) (own_more c next rest p scope (omega arith) o_x) in
-    let two : StepsFrom c n (xs ++ zs) = from-append c n xs zs a (subst (λ m. StepsFrom c m zs) (sym count_x) b) in
-    let three : StepsFrom c n (xs ++ zs ++ es) = from-append c n (xs ++ zs) es two (subst (λ m. StepsFrom c m es) (omega (arith, count_x, count_z, openings-append xs zs)) e) in
-    from-append c n (xs ++ zs ++ es) ws three (subst (λ m. StepsFrom c m ws) (omega (arith, count_x, count_z, count_e, openings-append xs zs, openings-append (xs ++ zs) es)) d)
+    let turn : Turn = turn_at p own n cursor r node after in
+    let count_x : n + openings turn.before ≡ turn.next = next_opened p r own n in
+    let later : n ≤ turn.next = omega (arith, count_x) in
+    let count_z : openings turn.whole ≡ cond (opens k) 1 0 + scopes_in below = opened_by_node turn.child turn.next in
+    let h_x : Descends turn.next p.chain = descends_more n turn.next p.chain later h in
+    let o_x : OwnFrom c turn.next p turn.scope = own_opened c n p r own l h o in
+    let h_child : Descends turn.next turn.child.chain = child_descends c turn.next p turn.scope cursor r node h_x o_x in
+    let a : StepsFrom c n turn.before = from_opening c n p r own h in
+    let b : StepsFrom c turn.next turn.whole = (at_below turn.next turn.child (omega (arith, z, later)) h_child, from-append c turn.next turn.below (leaving turn.child ∷ []) (from_below c turn.next turn.child None turn.inner below (omega (arith, z, later)) (omega (arith, l, later)) h_child tt) tt) in
+    let e : StepsFrom c turn.rest turn.behind = from_ending c turn.rest p r turn.scope after (own_more c turn.next turn.rest p turn.scope (omega arith) o_x) in
+    let d : StepsFrom c turn.rest turn.others = from_below c turn.rest p turn.scope turn.past after (omega (arith, z, later)) (omega (arith, l, later)) (descends_more turn.next turn.rest p.chain (omega arith) h_x) (own_more c turn.next turn.rest p turn.scope (omega arith) o_x) in
+    let two : StepsFrom c n (turn.before ++ turn.whole) = from-append c n turn.before turn.whole a (subst (λ m. StepsFrom c m turn.whole) (sym count_x) b) in
+    let three : StepsFrom c n (turn.before ++ turn.whole ++ turn.behind) = from-append c n (turn.before ++ turn.whole) turn.behind two (subst (λ m. StepsFrom c m turn.behind) (omega (arith, count_x, count_z, openings-append turn.before turn.whole)) e) in
+    from-append c n (turn.before ++ turn.whole ++ turn.behind) turn.others three (subst (λ m. StepsFrom c m turn.others) (sym (rest_opened p own n cursor r node after)) d)
 
 -- the steps of a node
 pub from_node : (c n : ℕ) (p : Place) → 0 < n → c ≤ n → Descends n p.chain → StepsFrom c n (steps_of p n)

@@ -1,5 +1,5 @@
 -- Below the root each node stands in some scope, and none is a program: what a recursion over a program's tree carries along.
-use Rattle.std.proofs.Common.{sym, ◌∙◌, ◌≡◌, ℕ, ◌+◌, List, [], ◌∷◌, ◌++◌, Option, Some, None, Bool, true, false, cond, ◌&&◌, not, inl, inr, refl, subst}
+use Rattle.std.proofs.Common.{sym, ◌∙◌, ◌≡◌, ℕ, ◌+◌, List, [], ◌∷◌, Option, Some, None, Bool, true, false, cond, ◌&&◌, not, inl, inr, refl, subst}
 use Rattle.std.specs.List.{list_all}
 use Rattle.std.proofs.lemmas.Bool.{cases_Bool}
 use Rattle.semantic_kinds.specs.Kinds.{same_kind}
@@ -17,12 +17,15 @@ use Rattle.semantic_tree.specs.declared.node.Node.{Node}
 use Rattle.semantic_model.specs.Place.{Place, OpenScope, outside}
 use Rattle.semantic_model.specs.Inside.{opens, is_parameter_decorator, scopes_in}
 use Rattle.semantic_model.specs.Cursor.{on_entering}
-use Rattle.semantic_model.specs.Step.{Step, entering, opening, leaving, steps_below, opening_at, ending_after, scope_at, next_at, child_place, chain_within, cursor_past, root_place, steps}
+use Rattle.semantic_model.specs.Step.{opening, leaving, steps_below, scope_at, next_at, child_place, chain_within, cursor_past, root_place, steps}
+use Rattle.semantic_model.proofs.steps.Turn.{Turn, turn_at}
+use Rattle.semantic_model.proofs.steps.EachStep.{EachOfTurn, each_left, turn_of_each}
 use Rattle.semantic_model.proofs.form.Clauses.{kind_is, first_holds, second_holds}
 use Rattle.semantic_model.proofs.fold.Orders.{HasForm}
 use Rattle.semantic_model.proofs.form.Shape.{has_form}
 use Rattle.walk_model.proofs.places.Routes.{HasVar}
 use Rattle.walk_model.proofs.places.Shapes.{HoldParts, holds_below, tree_holds}
+use Rattle.walk_model.specs.Seated.{IsStepGrounded}
 use Rattle.walk_model.proofs.places.Grounds.{IsGrounded, AllGrounded, all_grounded}
 use Rattle.walk_model.proofs.turns.RootSteps.{root_scope}
 pub use Rattle.walk_model.specs.Seated.{IsSeated, IsSeat}
@@ -52,14 +55,6 @@ none_parts k (p ∷ ps) h = (
   none_parts k ps (λ text. second_holds (holds_none text p) (list_all (holds_none text) ps) (h text)),
 )
 
-grounded_left : (xs ys : List Step) → AllGrounded (xs ++ ys) → AllGrounded xs
-grounded_left [] ys h = tt
-grounded_left (x ∷ xs) ys h = (h.0, grounded_left xs ys h.1)
-
-grounded_right : (xs ys : List Step) → AllGrounded (xs ++ ys) → AllGrounded ys
-grounded_right [] ys h = h
-grounded_right (x ∷ xs) ys h = grounded_right xs ys h.1
-
 -- it stands in some scope
 pub stands_in_scope : (chain : List OpenScope) → HasVar chain → chain ≡ [] → ⊥
 stands_in_scope chain h e = h (rw e refl)
@@ -86,29 +81,21 @@ pub record FirstSeated (p : Place) (own : Option OpenScope) (n cursor : ℕ) (ch
 
 pub first_seated : (p : Place) (own : Option OpenScope) (n cursor : ℕ) (child : Role × Node) (rest : List (Role × Node)) → IsSeated p own n cursor (forest_of (child ∷ rest)) → FirstSeated p own n cursor child rest
 first_seated p own n cursor child rest h =
-    let scope : Option OpenScope = scope_at p child.0 own n in
-    let next : ℕ = next_at p child.0 own n in
-    let place : Place = child_place p scope cursor child.0 child.1 in
-    let inner : ℕ = on_entering child.1.kind place.cursor in
-    let xs : List Step = opening_at p child.0 own n in
-    let ys : List Step = steps_below place None next inner child.1.children in
-    let zs : List Step = entering place ∷ (ys ++ leaving place ∷ []) in
-    let es : List Step = ending_after p child.0 scope (forest_of rest) in
-    let ws : List Step = steps_below p scope (next + cond (opens child.1.kind) 1 0 + scopes_in child.1.children) (cursor_past p child.0 cursor place) (forest_of rest) in
-    let mine : AllGrounded zs = grounded_right xs zs (grounded_left (xs ++ zs) es (grounded_left (xs ++ zs ++ es) ws h.grounded)) in
+    let turn : Turn = turn_at p own n cursor child.0 child.1 (forest_of rest) in
+    let parts : EachOfTurn IsStepGrounded turn = turn_of_each IsStepGrounded turn h.grounded in
     let free_here : not (same_kind child.1.kind kind.Program) ≡ true = first_holds (not (same_kind child.1.kind kind.Program)) (none_is_program child.1.children && none_is_program (forest_of rest)) h.free in
     let free_both : (none_is_program child.1.children && none_is_program (forest_of rest)) ≡ true = second_holds (not (same_kind child.1.kind kind.Program)) (none_is_program child.1.children && none_is_program (forest_of rest)) h.free in
     record {
       here = record {
-        var = grounded_var place (not_program child.1.kind free_here) mine.0;
+        var = grounded_var turn.child (not_program child.1.kind free_here) parts.whole.0;
         other = not_program child.1.kind free_here;
         below = record {
-          grounded = grounded_left ys (leaving place ∷ []) mine.1;
+          grounded = each_left IsStepGrounded turn.below (leaving turn.child ∷ []) parts.whole.1;
           free = first_holds (none_is_program child.1.children) (none_is_program (forest_of rest)) free_both;
         };
       };
       later = record {
-        grounded = grounded_right (xs ++ zs ++ es) ws h.grounded;
+        grounded = parts.others;
         free = second_holds (none_is_program child.1.children) (none_is_program (forest_of rest)) free_both;
       };
     }
@@ -132,7 +119,7 @@ root_seated program h =
     let all : AllGrounded (steps program) = all_grounded program h in
     record {
       grounded = root_grounded (root_place program) (on_entering program.root.kind 0) program.root.children form.root
-          (grounded_left (steps_below (root_place program) None 0 (on_entering program.root.kind 0) program.root.children) (leaving (root_place program) ∷ []) all.1);
+          (each_left IsStepGrounded (steps_below (root_place program) None 0 (on_entering program.root.kind 0) program.root.children) (leaving (root_place program) ∷ []) all.1);
       free = sym (none_below program.root.kind program.root.children) ∙ tree_holds no_program (λ k. none_parts k (parts k) (none_of k)) program h;
     }
 

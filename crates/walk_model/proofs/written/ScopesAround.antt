@@ -1,16 +1,18 @@
 -- What holds of each scope as it opens holds of all scopes in which a place stands.
-use Rattle.std.proofs.Common.{◌≡◌, ℕ, ◌+◌, List, [], ◌∷◌, ◌++◌, Option, Some, None, Bool, true, false, cond, refl}
+use Rattle.std.proofs.Common.{◌≡◌, ℕ, List, [], ◌∷◌, Option, Some, None, Bool, true, false, cond, refl}
 use Rattle.std.specs.List.{AllByRecursion}
 use Rattle.semantic_syntax.specs.declared.source_type.SourceType.{SourceType}
 use Rattle.semantic_tree.specs.Forest.{Forest, nothing, tree}
 use Rattle.semantic_tree.specs.declared.node.Node.{Node}
 use Rattle.semantic_kinds.specs.declared.role.Role.{Role}
 use Rattle.semantic_model.specs.Place.{Place, OpenScope, outside}
-use Rattle.semantic_model.specs.Inside.{opens, is_inside, is_in_header, is_parameter_decorator, scopes_in}
+use Rattle.semantic_model.specs.Inside.{is_inside, is_in_header, is_parameter_decorator}
 use Rattle.semantic_model.specs.ScopeKind.{opened_scope}
 use Rattle.semantic_model.specs.Cursor.{on_entering}
 use Rattle.semantic_tree.specs.Tree.{Tree}
-use Rattle.semantic_model.specs.Step.{Step, entering, opening, header_ending, closing, leaving, steps_below, steps, opening_at, ending_after, opening_last, scope_at, next_at, child_place, chain_within, cursor_past, root_place}
+use Rattle.semantic_model.specs.Step.{Step, entering, opening, header_ending, closing, leaving, steps_below, steps, opening_at, ending_after, opening_last, scope_at, child_place, chain_within, root_place}
+use Rattle.semantic_model.proofs.steps.Turn.{Turn, turn_at}
+use Rattle.semantic_model.proofs.steps.EachStep.{EachStep, EachOfTurn, each_left, each_of_node, each_of_turn, turn_of_each}
 use Rattle.semantic_model.proofs.steps.TurnCases.{opening_case, ending_case, last_case}
 
 module _ (P : OpenScope → Type 0) (t : SourceType) where
@@ -23,8 +25,7 @@ module _ (P : OpenScope → Type 0) (t : SourceType) where
   IsStepHanded (leaving p) = Unit {0}
 
   abbrev pub AllHanded : List Step → Type 0
-  AllHanded [] = Unit {0}
-  AllHanded (s ∷ more) = IsStepHanded s × AllHanded more
+  AllHanded = EachStep IsStepHanded
 
   -- the scopes of a place have it
   abbrev pub IsPlaceHeld : Place → Type 0
@@ -38,20 +39,7 @@ module _ (P : OpenScope → Type 0) (t : SourceType) where
   IsStepHeld (leaving p) = Unit {0}
 
   abbrev pub AllHeld : List Step → Type 0
-  AllHeld [] = Unit {0}
-  AllHeld (s ∷ more) = IsStepHeld s × AllHeld more
-
-  handed_left : (xs ys : List Step) → AllHanded (xs ++ ys) → AllHanded xs
-  handed_left [] ys h = tt
-  handed_left (x ∷ xs) ys h = (h.0, handed_left xs ys h.1)
-
-  handed_right : (xs ys : List Step) → AllHanded (xs ++ ys) → AllHanded ys
-  handed_right [] ys h = h
-  handed_right (x ∷ xs) ys h = handed_right xs ys h.1
-
-  held-append : (xs ys : List Step) → AllHeld xs → AllHeld ys → AllHeld (xs ++ ys)
-  held-append [] ys h k = k
-  held-append (x ∷ xs) ys h k = (h.0, held-append xs ys h.1 k)
+  AllHeld = EachStep IsStepHeld
 
   abbrev OwnHeld : Option OpenScope → Type 0
   OwnHeld None = Unit {0}
@@ -102,29 +90,19 @@ module _ (P : OpenScope → Type 0) (t : SourceType) where
   held_below pass p own n cursor nothing h o k = last_held p own n h k
   held_below pass p own n cursor (tree r kd span text marks below id after) h o k =
       let node : Node = record { kind = kd; span = span; text = text; marks = marks; children = below; node_id = id } in
-      let scope : Option OpenScope = scope_at p r own n in
-      let next : ℕ = next_at p r own n in
-      let child : Place = child_place p scope cursor r node in
-      let inner : ℕ = on_entering kd child.cursor in
-      let xs : List Step = opening_at p r own n in
-      let ys : List Step = steps_below child None next inner below in
-      let zs : List Step = entering child ∷ (ys ++ leaving child ∷ []) in
-      let es : List Step = ending_after p r scope after in
-      let ws : List Step = steps_below p scope (next + cond (opens kd) 1 0 + scopes_in below) (cursor_past p r cursor child) after in
-      let first : AllHanded xs = handed_left xs zs (handed_left (xs ++ zs) es (handed_left (xs ++ zs ++ es) ws k)) in
-      let second : AllHanded zs = handed_right xs zs (handed_left (xs ++ zs) es (handed_left (xs ++ zs ++ es) ws k)) in
-      let own_is : OwnHeld scope = own_held p r own n h o first in
-      let child_is : IsPlaceHeld child = child_held pass p scope cursor r node h own_is in
-      let inside : AllHeld ys = held_below pass child None next inner below child_is tt (handed_left ys (leaving child ∷ []) second.1) in
-      let rest : AllHeld ws = held_below pass p scope (next + cond (opens kd) 1 0 + scopes_in below) (cursor_past p r cursor child) after h own_is (handed_right (xs ++ zs ++ es) ws k) in
-      held-append (xs ++ zs ++ es) ws
-      (held-append (xs ++ zs) es (held-append xs zs (opening_held p r own n h first) (child_is, held-append ys (leaving child ∷ []) inside (tt, tt))) (ending_held p r scope after))
-      rest
+      let turn : Turn = turn_at p own n cursor r node after in
+      let handed : EachOfTurn IsStepHanded turn = turn_of_each IsStepHanded turn k in
+      let own_is : OwnHeld turn.scope = own_held p r own n h o handed.before in
+      let child_is : IsPlaceHeld turn.child = child_held pass p turn.scope cursor r node h own_is in
+      each_of_turn IsStepHeld turn (record {
+        before = opening_held p r own n h handed.before;
+        whole = each_of_node IsStepHeld turn.child turn.below child_is (held_below pass turn.child None turn.next turn.inner below child_is tt (each_left IsStepHanded turn.below (leaving turn.child ∷ []) handed.whole.1)) tt;
+        behind = ending_held p r turn.scope after;
+        others = held_below pass p turn.scope turn.rest turn.past after h own_is handed.others;
+      })
 
 pub program_held : (P : OpenScope → Type 0) (program : Tree) → PassesHeaders P program.source_type → AllHanded P program.source_type (steps program) → AllHeld P program.source_type (steps program)
 program_held P program pass h =
-    let below : List Step = steps_below (root_place program) None 0 (on_entering program.root.kind 0) program.root.children in (
-      (refl, tt),
-      held-append P program.source_type below (leaving (root_place program) ∷ [])
-          (held_below P program.source_type pass (root_place program) None 0 (on_entering program.root.kind 0) program.root.children (refl, tt) tt (handed_left P program.source_type below (leaving (root_place program) ∷ []) h.1)) (tt, tt),
-    )
+    let below : List Step = steps_below (root_place program) None 0 (on_entering program.root.kind 0) program.root.children in
+    each_of_node (IsStepHeld P program.source_type) (root_place program) below (refl, tt)
+    (held_below P program.source_type pass (root_place program) None 0 (on_entering program.root.kind 0) program.root.children (refl, tt) tt (each_left (IsStepHanded P program.source_type) below (leaving (root_place program) ∷ []) h.1)) tt

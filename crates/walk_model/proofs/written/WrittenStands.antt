@@ -1,5 +1,5 @@
 -- The names that are written in a program are those of its declarations that count, each in the scope where it stands.
-use Rattle.std.proofs.Common.{◌≡◌, ℕ, ◌+◌, List, [], ◌∷◌, ◌++◌, Option, Some, None, Bool, true, false, cond, ◌&&◌, ◌||◌, refl, sym, ap, ◌∙◌}
+use Rattle.std.proofs.Common.{◌≡◌, ℕ, List, [], ◌∷◌, ◌++◌, Option, Some, None, Bool, true, false, cond, ◌&&◌, ◌||◌, refl, sym, ap, ◌∙◌}
 use Rattle.std.specs.Prelude.{flat_map}
 use Rattle.std.proofs.lemmas.List.Folds.{list_any-append}
 use Rattle.semantic_kinds.specs.declared.kind.AstType.{AstType}
@@ -14,12 +14,13 @@ use Rattle.semantic_tree.specs.Rules.{is_well_formed}
 use Rattle.semantic_tree.specs.declared.node.Node.{Node}
 use Rattle.semantic_tree.specs.declared.place.Place.{Place as Spot}
 use Rattle.semantic_model.specs.Place.{Place, OpenScope}
-use Rattle.semantic_model.specs.Inside.{opens, is_inside, scopes_in}
+use Rattle.semantic_model.specs.Inside.{opens, is_inside}
 use Rattle.semantic_model.specs.ScopeKind.{opened_scope}
 use Rattle.semantic_model.specs.Cursor.{on_entering}
 use Rattle.semantic_model.specs.Binder.{declared_on_entering}
 use Rattle.semantic_model.specs.Event.{declared_at, written_declarations}
-use Rattle.semantic_model.specs.Step.{Step, entering, opening, closing, leaving, steps_below, steps, opening_at, ending_after, opening_last, scope_at, next_at, child_place, cursor_past, root_place}
+use Rattle.semantic_model.specs.Step.{Step, entering, opening, closing, leaving, steps_below, steps, opening_at, ending_after, opening_last, scope_at, root_place}
+use Rattle.semantic_model.proofs.steps.Turn.{Turn, turn_at}
 use Rattle.semantic_model.proofs.form.Clauses.{first_holds, second_holds}
 use Rattle.semantic_model.proofs.steps.Compose.{flat-append}
 use Rattle.semantic_model.proofs.form.ParameterShape.{stands_under, parameters_stand}
@@ -103,31 +104,22 @@ module _ (x : ℕ) (name : Name) where
   below_stands spot p own n cursor nothing o i g s m = last_stands p own n ∙ sym (or_none (late p own))
   below_stands spot p own n cursor (tree r k span text marks below id after) o i g s m =
       let node : Node = record { kind = k; span = span; text = text; marks = marks; children = below; node_id = id } in
+      let turn : Turn = turn_at p own n cursor r node after in
       let here : Spot = under spot p.node.kind r in
-      let scope : Option OpenScope = scope_at p r own n in
-      let next : ℕ = next_at p r own n in
-      let child : Place = child_place p scope cursor r node in
-      let inner : ℕ = on_entering k child.cursor in
-      let xs : List Step = opening_at p r own n in
-      let ys : List Step = steps_below child None next inner below in
-      let zs : List Step = entering child ∷ (ys ++ leaving child ∷ []) in
-      let es : List Step = ending_after p r scope after in
-      let rest : ℕ = next + cond (opens k) 1 0 + scopes_in below in
-      let ws : List Step = steps_below p scope rest (cursor_past p r cursor child) after in
       let q : Openers = openers_at p.node r o in
       let formed : (is_well_formed here node ≡ true) × NoneMisshapen (placed_below here k below ++ placed_below spot p.node.kind after) = first_formed (here, node) (placed_below here k below ++ placed_below spot p.node.kind after) m in
       let others : NoneMisshapen (placed_below here k below) × NoneMisshapen (placed_below spot p.node.kind after) = rest_formed (placed_below here k below) (placed_below spot p.node.kind after) formed.1 in
       let s_rest : (parameters_stand k below && parameters_stand p.node.kind after) ≡ true = second_holds (stands_under p.node.kind r k) _ s in
-      let i_scope : IsOwn p scope = own_at p r own n i in
-      let g_child : FitOpeners child q = child_fits p scope cursor r node o i_scope (is_open_inside p r own n) g (first_holds (stands_under p.node.kind r k) _ s) in
+      let i_scope : IsOwn p turn.scope = own_at p r own n i in
+      let g_child : FitOpeners turn.child q = child_fits p turn.scope cursor r node o i_scope (is_open_inside p r own n) g (first_holds (stands_under p.node.kind r k) _ s) in
       let inside : Bool = on (written_inside k node) in
-      let down : any_of ys ≡ (inside || on (written_below node q below)) = below_stands here child None next inner below q tt g_child (first_holds (parameters_stand k below) _ s_rest) others.0 in
-      let on_it : (any_in x name (declared_on_entering child) || inside) ≡ on (written_by node (Some p.node) q) = node_written x name child q g_child.within (fit_kept node (table_kept here node formed.0)) in
-      let along : any_of ws ≡ (late p scope || on (written_below p.node o after)) = below_stands spot p scope rest (cursor_past p r cursor child) after o i_scope g (second_holds (parameters_stand k below) _ s_rest) others.1 in
-      steps_append (xs ++ zs ++ es) ws
-      ∙ ap (λ b. b || any_of ws) (steps_append (xs ++ zs) es ∙ ap (λ b. b || any_of es) (steps_append xs zs))
-      ∙ (λ j. ((any_of xs || entered child ys inside (on (written_below node q below)) down j) || ending_none p r scope after j) || along j)
-      ∙ join (any_of xs) (any_in x name (declared_on_entering child)) inside (on (written_below node q below)) (late p scope) (on (written_below p.node o after))
+      let down : any_of turn.below ≡ (inside || on (written_below node q below)) = below_stands here turn.child None turn.next turn.inner below q tt g_child (first_holds (parameters_stand k below) _ s_rest) others.0 in
+      let on_it : (any_in x name (declared_on_entering turn.child) || inside) ≡ on (written_by node (Some p.node) q) = node_written x name turn.child q g_child.within (fit_kept node (table_kept here node formed.0)) in
+      let along : any_of turn.others ≡ (late p turn.scope || on (written_below p.node o after)) = below_stands spot p turn.scope turn.rest turn.past after o i_scope g (second_holds (parameters_stand k below) _ s_rest) others.1 in
+      steps_append (turn.before ++ turn.whole ++ turn.behind) turn.others
+      ∙ ap (λ b. b || any_of turn.others) (steps_append (turn.before ++ turn.whole) turn.behind ∙ ap (λ b. b || any_of turn.behind) (steps_append turn.before turn.whole))
+      ∙ (λ j. ((any_of turn.before || entered turn.child turn.below inside (on (written_below node q below)) down j) || ending_none p r turn.scope after j) || along j)
+      ∙ join (any_of turn.before) (any_in x name (declared_on_entering turn.child)) inside (on (written_below node q below)) (late p turn.scope) (on (written_below p.node o after))
       ∙ (λ j. opening_stands p r own n j || ((on_it j || on (written_below node q below)) || on (written_below p.node o after)))
       ∙ ap (λ b. late p own || b) (sym (on_append (written_by node (Some p.node) q ++ written_below node q below) (written_below p.node o after) ∙ ap (λ b. b || on (written_below p.node o after)) (on_append (written_by node (Some p.node) q) (written_below node q below))))
 
