@@ -121,7 +121,7 @@ changes_hoist table st d h =
     (i.inside, subst (λ ms. Has ms r.scope d.name r.symbol) (sym (made_against_all st d (asked_symbols st d.passed d.name))) (has_found table st r.scope d.name r.symbol h i.is_found)))
 
 -- what is moved out of a block is the symbol itself, or nothing
-abbrev IsMovable : State → ℕ → Name → ℕ → Type 0
+abbrev pub IsMovable : State → ℕ → Name → ℕ → Type 0
 IsMovable st c x s = (get st.bindings c x ≡ Some s) ⊎ (get st.bindings c x ≡ None)
 
 changes_move_out : (table : List (Option ℕ)) (d : Declaration) (a st : State) (c s : ℕ) (o : Option ℕ) → contains (path d) c ≡ true → IsMovable st c d.name s → Among (record { declaration = d; symbol = s }) st.made → Changes table d a st → Changes table d a (move_out st c d.target.number d.name s o)
@@ -140,7 +140,7 @@ found_movable st c x s e = go (get st.bindings c x) refl e
     go None g f = inr g
     go (Some r) g f = inl (g ∙ unless_some st (Some r) s f)
 
-declared_movable : (st : State) (d : Declaration) (c : ℕ) (o : Option ℕ) → found st c d.name ≡ o → IsMovable (declare_in st c d o) c d.name (chosen st o)
+pub declared_movable : (st : State) (d : Declaration) (c : ℕ) (o : Option ℕ) → found st c d.name ≡ o → IsMovable (declare_in st c d o) c d.name (chosen st o)
 declared_movable st d c None e = inl (get-put_same st.bindings c d.name (length st.symbols))
 declared_movable st d c (Some s) e = found_movable st c d.name s e
 

@@ -25,7 +25,7 @@ use Rattle.semantic_model.proofs.once.ListedUnder.{name_tells}
 use Rattle.semantic_model.proofs.swapped.Alike.{Alike, text_renamed, members_renamed, alike_renamed, is_name}
 use Rattle.semantic_model.proofs.swapped.AlikeCursor.{with_text, SameNode, SameInner, inner_same}
 use Rattle.semantic_model.proofs.swapped.AlikeScopes.{re, first_same}
-use Rattle.semantic_model.proofs.swapped.AlikeSteps.{SamePlace, AlikeSteps, Facts, steps_same}
+use Rattle.semantic_model.proofs.swapped.AlikeSteps.{AlikeStep, read_same, SamePlace, AlikeSteps, Facts, steps_same}
 
 -- what a change of names keeps: it makes no two names alike, and leaves `eval` and `arguments`
 pub record Keeps (f : Name → Name) : Type 0 where
@@ -108,35 +108,26 @@ module _ (f : Name → Name) where
     direct_same : (node : Node) (u : Name) (g : Forest) → SameNode f node u g → is_direct_eval (with_text node u g) ≡ is_direct_eval node
     direct_same node u g s = ap (λ b. is kind.CallExpression node && not (has mark.Optional node) && b) (first_same f role.Callee (λ callee. is kind.IdentifierReference (inner_expression callee) && has_text (codes "eval") (inner_expression callee)) callee_same node.children g s.children)
 
-    eval_same : (p q : Place) → SamePlace f p q → eval_in (entering q) ≡ eval_in (entering p)
-    eval_same p q s = ap (λ x. eval_in (entering x)) s.is ∙ ap (λ b. cond b (Some (numbers p.chain)) None) (direct_same p.node s.u s.g s.node)
+    eval_same : (x y : Step) → AlikeStep f x y → eval_in y ≡ eval_in x
+    eval_same (entering p) (entering q) s = ap (λ x. eval_in (entering x)) s.is ∙ ap (λ b. cond b (Some (numbers p.chain)) None) (direct_same p.node s.u s.g s.node)
+    eval_same (opening p s) (opening q t) h = refl
+    eval_same (header_ending p s) (header_ending q t) h = refl
+    eval_same (closing p s) (closing q t) h = refl
+    eval_same (leaving p) (leaving q) h = refl
+    eval_same _ _ h = absurd h
 
-    evals_same : (xs ys : List Step) → AlikeSteps f xs ys → evals ys ≡ evals xs
-    evals_same [] [] h = refl
-    evals_same [] (y ∷ ys) h = absurd h
-    evals_same (x ∷ xs) [] h = absurd h
-    evals_same (entering p ∷ xs) (entering q ∷ ys) h = λ i. cons_option (eval_same p q h.0 i) (evals_same xs ys h.1 i)
-    evals_same (opening p s ∷ xs) (opening q t ∷ ys) h = evals_same xs ys h.1
-    evals_same (header_ending p s ∷ xs) (header_ending q t ∷ ys) h = evals_same xs ys h.1
-    evals_same (closing p s ∷ xs) (closing q t ∷ ys) h = evals_same xs ys h.1
-    evals_same (leaving p ∷ xs) (leaving q ∷ ys) h = evals_same xs ys h.1
-    evals_same _ _ h = absurd h.0
-
-    opened_same : (calls : List (List ℕ)) (xs ys : List Step) → AlikeSteps f xs ys → filter_map (opened_entry calls) ys ≡ filter_map (opened_entry calls) xs
-    opened_same calls [] [] h = refl
-    opened_same calls [] (y ∷ ys) h = absurd h
-    opened_same calls (x ∷ xs) [] h = absurd h
-    opened_same calls (entering p ∷ xs) (entering q ∷ ys) h = opened_same calls xs ys h.1
-    opened_same calls (opening p s ∷ xs) (opening q t ∷ ys) h = λ i. cons_option ((ap (λ x. opened_entry calls (opening x t)) h.0.0.is ∙ ap (λ x. opened_entry calls (opening p x)) h.0.1) i) (opened_same calls xs ys h.1 i)
-    opened_same calls (header_ending p s ∷ xs) (header_ending q t ∷ ys) h = opened_same calls xs ys h.1
-    opened_same calls (closing p s ∷ xs) (closing q t ∷ ys) h = opened_same calls xs ys h.1
-    opened_same calls (leaving p ∷ xs) (leaving q ∷ ys) h = opened_same calls xs ys h.1
-    opened_same calls _ _ h = absurd h.0
+    opened_same : (calls : List (List ℕ)) (x y : Step) → AlikeStep f x y → opened_entry calls y ≡ opened_entry calls x
+    opened_same calls (entering p) (entering q) h = refl
+    opened_same calls (opening p s) (opening q t) h = ap (λ x. opened_entry calls (opening x t)) h.0.is ∙ ap (λ x. opened_entry calls (opening p x)) h.1
+    opened_same calls (header_ending p s) (header_ending q t) h = refl
+    opened_same calls (closing p s) (closing q t) h = refl
+    opened_same calls (leaving p) (leaving q) h = refl
+    opened_same calls _ _ h = absurd h
 
     pub scopes_renamed : (p : Tree) → scopes (steps (renamed_tree f p)) ≡ scopes (steps p)
     scopes_renamed p =
         let alike : AlikeSteps f (steps p) (steps (renamed_tree f p)) = program_steps p in
-        ap (λ calls. filter_map (opened_entry calls) (steps (renamed_tree f p))) (evals_same (steps p) (steps (renamed_tree f p)) alike) ∙ opened_same (evals (steps p)) (steps p) (steps (renamed_tree f p)) alike
+        ap (λ calls. filter_map (opened_entry calls) (steps (renamed_tree f p))) (read_same f eval_in eval_same (steps p) (steps (renamed_tree f p)) alike) ∙ read_same f (opened_entry (evals (steps p))) (opened_same (evals (steps p))) (steps p) (steps (renamed_tree f p)) alike
 
   pub references_renamed : (p : Tree) → references (steps (renamed_tree f p)) ≡ map (renamed_occurrence f) (references (steps p))
   references_renamed p = references_same (steps p) (steps (renamed_tree f p)) (program_steps p)

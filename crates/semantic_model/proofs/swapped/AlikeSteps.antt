@@ -1,6 +1,8 @@
 -- Trees that differ in names alone are walked in the same steps.
 use Rattle.std.proofs.Common.{◌≡◌, ℕ, ◌+◌, List, [], ◌∷◌, ◌++◌, Option, Some, None, cond, Bool, true, false, not, ◌&&◌, refl, sym, ap, subst, ◌∙◌}
 use Rattle.semantic_syntax.specs.Tables.{Name}
+use Rattle.std.specs.Prelude.{filter_map}
+use Rattle.std.specs.List.{cons_option}
 use Rattle.semantic_tree.specs.Forest.{Forest, nothing}
 use Rattle.semantic_tree.specs.declared.node.Node.{Node}
 use Rattle.semantic_kinds.specs.declared.role.Role.{Role}
@@ -45,6 +47,13 @@ module _ (f : Name → Name) where
   alike_append [] (y ∷ ys) us vs h i = absurd h
   alike_append (x ∷ xs) [] us vs h i = absurd h
   alike_append (x ∷ xs) (y ∷ ys) us vs h i = (h.0, alike_append xs ys us vs h.1 i)
+
+  -- what is read of alike steps is the same where it is of each step
+  pub read_same : {A : Type 0} (read : Step → Option A) → ((x y : Step) → AlikeStep x y → read y ≡ read x) → (xs ys : List Step) → AlikeSteps xs ys → filter_map read ys ≡ filter_map read xs
+  read_same read one [] [] h = refl
+  read_same read one [] (y ∷ ys) h = absurd h
+  read_same read one (x ∷ xs) [] h = absurd h
+  read_same read one (x ∷ xs) (y ∷ ys) h = λ i. cons_option (one x y h.0 i) (read_same read one xs ys h.1 i)
 
   -- what is known of a place
   pub record Facts (p : Place) (u : Name) (g : Forest) (path : List Node) : Type 0 where

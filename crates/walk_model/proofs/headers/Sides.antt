@@ -1,12 +1,13 @@
 -- Scopes of two sides: events that act on one side alone leave what the other binds, and the flags of its symbols.
-use Rattle.std.proofs.Common.{◌≡◌, ℕ, List, [], ◌∷◌, Option, Some, None, Bool, true, false, cond, ◌⊎◌, inl, inr, refl, sym, ap, subst, ◌∙◌, length, arith}
+use Rattle.std.proofs.Common.{◌≡◌, ℕ, List, [], ◌∷◌, Option, Some, None, Bool, true, false, cond, ◌⊎◌, inl, inr, refl, sym, ap, subst, ◌∙◌, length}
 use Rattle.semantic_syntax.specs.Tables.{Name}
+use Rattle.semantic_model.proofs.fold.Actions.{unless_some}
 use Rattle.semantic_model.specs.Place.{OpenScope}
 use Rattle.semantic_model.specs.Entries.{Among}
 use Rattle.semantic_model.specs.Binding.{Binding, get, put, remove, move, take_over}
 use Rattle.semantic_model.specs.Declaration.{How, plain, hoisted, moved, caught, Declaration, stands_in}
 use Rattle.semantic_model.specs.Event.{Event, declares, takes_over, ends_header}
-use Rattle.semantic_model.specs.Fold.{State, found, update, redeclared, note_symbol, against, declare_in, chosen, or_else, unless_expression}
+use Rattle.semantic_model.specs.Fold.{State, found, update, redeclared, note_symbol, against, declare_in, chosen, or_else}
 use Rattle.semantic_model.specs.Hoist.{PassedSymbol, passed_symbol, passed_symbol_or, counts, asked_symbols, against_all, remember, move_symbol, hoist_by, move_out, declare_by, act}
 use Rattle.semantic_model.proofs.lists.BindingLaws.{get_among, among_put, among_remove, among_take_over}
 
@@ -36,10 +37,6 @@ module _ (inside : ℕ → Bool) (side : ℕ → Bool) where
     | inl k ↦ h e k
     | inr k ↦ ap inside k.0 ∙ sym s ∙ h (record e { scope = c }) k.1
   ]
-
-  unless_some : (st : State) (o : Option ℕ) (y : ℕ) → unless_expression st o ≡ Some y → o ≡ Some y
-  unless_some st None y h = h
-  unless_some st (Some r) y h = grind arith
 
   or_else_some : (o p : Option ℕ) (y : ℕ) → or_else o p ≡ Some y → (o ≡ Some y) ⊎ (p ≡ Some y)
   or_else_some (Some r) p y h = inl h

@@ -73,7 +73,7 @@ module _ (x : ℕ) where
       let both : (holds_below names_quietly kd below && holds_below names_quietly p.node.kind after) ≡ true = second_holds (names_quietly p.node.kind r kd text) _ q in
       omega (
         arith,
-        turn_times (opening_at p r own n) turn.below (ending_after p r turn.scope after) turn.others turn.child,
+        turn_times turn.before turn.below turn.behind turn.others turn.child,
         first_times p r own n,
         none_ending p r turn.scope after,
         child_times x p.node.kind r turn.child here refl l.0,

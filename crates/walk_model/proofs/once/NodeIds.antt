@@ -251,7 +251,7 @@ openers_below p own n cursor (tree r kd span text marks below id after) k e l =
     let rest : Spread p.node.node_id mid hi (is_to_open turn.scope) (flat_map opener turn.others) =
     subst (λ m. Spread p.node.node_id mid m (is_to_open turn.scope) (flat_map opener turn.others)) (omega arith) (openers_below p turn.scope turn.rest turn.past after mid g.others (omega arith)) in
     let both : Spread p.node.node_id k hi (is_to_open turn.scope) (flat_map opener turn.below ++ flat_map opener turn.others) = spread_append p.node.node_id k mid hi (is_to_open turn.scope) (flat_map opener turn.below) (flat_map opener turn.others) l (omega arith) (omega arith) c2 rest in
-    subst (Spread p.node.node_id k hi (is_to_open own)) (sym (turn_openers p (opening_at p r own n) turn.below (ending_after p r turn.scope after) turn.others turn.child (none_ending p r turn.scope after)))
+    subst (Spread p.node.node_id k hi (is_to_open own)) (sym (turn_openers p turn.before turn.below turn.behind turn.others turn.child (none_ending p r turn.scope after)))
     (first_open own n (flat_map opener turn.below ++ flat_map opener turn.others) hi both)
   where
     first_open : (o : Option OpenScope) (n : ℕ) (xs : List ℕ) (hi : ℕ) → Spread p.node.node_id k hi (is_to_open (scope_at p r o n)) xs → Spread p.node.node_id k hi (is_to_open o) (flat_map opener (opening_at p r o n) ++ xs)
@@ -299,7 +299,7 @@ referrers_below p own n cursor (tree r kd span text marks below id after) k e =
     let inside : Ranged (k + 1) mid (flat_map referrer turn.below) = referrers_below turn.child None turn.next turn.inner below (k + 1) g.inner in
     let first : Ranged k mid (referrer (entering turn.child) ++ flat_map referrer turn.below) = ranged_append k (k + 1) mid (referrer (entering turn.child)) (flat_map referrer turn.below) (omega arith) (omega arith) own_one inside in
     let rest : Ranged mid hi (flat_map referrer turn.others) = subst (λ m. Ranged mid m (flat_map referrer turn.others)) (omega arith) (referrers_below p turn.scope turn.rest turn.past after mid g.others) in
-    subst (Ranged k hi) (sym (turn_referrers (opening_at p r own n) turn.below (ending_after p r turn.scope after) turn.others turn.child (none_open p r own n) (none_ended p r turn.scope after)))
+    subst (Ranged k hi) (sym (turn_referrers turn.before turn.below turn.behind turn.others turn.child (none_open p r own n) (none_ended p r turn.scope after)))
     (ranged_append k mid hi (referrer (entering turn.child) ++ flat_map referrer turn.below) (flat_map referrer turn.others) (omega arith) (omega arith) first rest)
 
 -- the lists of the definitions are these

@@ -1,15 +1,16 @@
 -- What the walk does for `var` variables and block functions shows what the definitions do.
-use Rattle.std.proofs.Common.{◌≡◌, ℕ, ◌<◌, List, [], ◌∷◌, refl, sym, ap, subst, ◌∙◌, Option, Some, None, cond, Bool, true, false, ◌⊎◌, inl, inr, length, arith}
+use Rattle.std.proofs.Common.{◌≡◌, ℕ, ◌<◌, List, [], ◌∷◌, refl, sym, ap, subst, ◌∙◌, Option, Some, None, cond, Bool, true, false, inl, inr, length}
 use Rattle.std.specs.Option.{unwrap_or}
 use Rattle.semantic_syntax.specs.Tables.{Name}
 use Rattle.semantic_syntax.specs.Reading.{bound_in}
+use Rattle.semantic_model.proofs.fold.Actions.{IsMovable, declared_movable}
 use Rattle.semantic_model.specs.Place.{OpenScope}
 use Rattle.semantic_model.specs.Binding.{Binding, get, put, remove, move}
 use Rattle.semantic_model.specs.Declaration.{Declaration, stands_in}
-use Rattle.semantic_model.specs.Fold.{State, found, update, redeclared, in_scope, note_symbol, against, declare_in, chosen, or_else, unless_expression}
+use Rattle.semantic_model.specs.Fold.{State, found, update, redeclared, in_scope, note_symbol, against, declare_in, chosen}
 use Rattle.semantic_model.specs.Hoist.{PassedSymbol, passed_symbol, passed_symbol_or, counts, asked_symbols, against_all, remembering, move_symbol, hoist_by, hoist, move_out, move_function}
 use Rattle.semantic_model.proofs.fits.Outwards.{flags_at}
-use Rattle.semantic_model.proofs.lists.BindingLaws.{same_key_tells, get-put_same, get-put_other}
+use Rattle.semantic_model.proofs.lists.BindingLaws.{same_key_tells, get-put_other}
 use Rattle.walk_model.specs.WalkState.{WalkState}
 use Rattle.walk_model.specs.Naming.{naming_of}
 use Rattle.walk_model.specs.Declares as writes
@@ -149,26 +150,6 @@ hoist_as n w st d l a h = rw (passed_symbol_as n w st d.passed d.name h.shows) (
     by (Some r) e =
         let q : (r.scope < n) × (r.scope ≡ d.target.number → ⊥) = passed_symbol_passed n st d.passed d.target.number d.name r a e in
         hoist_some n (reaches.against_way w (naming_of d) (numbers d.passed)) (against_all st d (asked_symbols st d.passed d.name)) d r q.0 l q.1 noted
-
--- what is moved out of a block is the symbol itself, or nothing
-abbrev pub IsMovable : State → ℕ → Name → ℕ → Type 0
-IsMovable st c x y = (get st.bindings c x ≡ Some y) ⊎ (get st.bindings c x ≡ None)
-
-unless_some : (st : State) (o : Option ℕ) (y : ℕ) → unless_expression st o ≡ Some y → o ≡ Some y
-unless_some st None y h = h
-unless_some st (Some r) y h = grind arith
-
--- a scope binds the symbol that was found in it, or remembers it
-found_movable : (st : State) (c : ℕ) (x : Name) (y : ℕ) → found st c x ≡ Some y → IsMovable st c x y
-found_movable st c x y e = go (get st.bindings c x) refl e
-  where
-    go : (o : Option ℕ) → get st.bindings c x ≡ o → unless_expression st (or_else o (get st.remembered c x)) ≡ Some y → IsMovable st c x y
-    go None g f = inr g
-    go (Some r) g f = inl (g ∙ unless_some st (Some r) y f)
-
-declared_movable : (st : State) (d : Declaration) (c : ℕ) (o : Option ℕ) → found st c d.name ≡ o → IsMovable (declare_in st c d o) c d.name (chosen st o)
-declared_movable st d c None e = inl (get-put_same st.bindings c d.name (length st.symbols))
-declared_movable st d c (Some s) e = found_movable st c d.name s e
 
 move_some : (bs : List Binding) (c t y : ℕ) (x : Name) → get bs c x ≡ Some y → move bs c t x ≡ put (remove bs c x) t x y
 move_some bs c t y x g = rw (move, g) refl
