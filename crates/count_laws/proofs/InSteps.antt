@@ -1,5 +1,5 @@
 -- How many scopes steps open, how many names they declare, and how many references they enter.
-use Rattle.std.proofs.Common.{◌≡◌, ℕ, suc, ◌+◌, List, [], ◌∷◌, ◌++◌, length, refl, arith}
+use Rattle.std.proofs.Common.{◌≡◌, ℕ, ◌+◌, List, [], ◌∷◌, ◌++◌, length, refl, arith}
 use Rattle.semantic_tree.specs.Tree.{Tree}
 use Rattle.semantic_model.specs.Declaration.{Declaration}
 use Rattle.semantic_model.specs.Step.{Step, entering, opening, header_ending, closing, leaving, steps}

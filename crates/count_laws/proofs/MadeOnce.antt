@@ -1,15 +1,15 @@
 -- Each declaration that is made is written in a node that may declare a symbol.
-use Rattle.std.proofs.Common.{ℕ, ◌+◌, ◌<◌, ◌≤◌, List, [], ◌∷◌, Option, None, cond, refl, arith}
+use Rattle.std.proofs.Common.{ℕ, ◌+◌, ◌<◌, ◌≤◌, List, [], ◌∷◌, Option, None, refl, arith}
 use Rattle.semantic_kinds.specs.declared.role.Role.{Role}
 use Rattle.semantic_tree.specs.Forest.{Forest, nothing, tree}
 use Rattle.semantic_tree.specs.Tree.{Tree}
 use Rattle.semantic_tree.specs.declared.node.Node.{Node}
 use Rattle.semantic_model.specs.Entries.{times}
-use Rattle.semantic_model.specs.Inside.{opens, scopes_in}
 use Rattle.semantic_model.specs.Place.{Place, OpenScope}
 use Rattle.semantic_model.specs.ScopeKind.{opened_scope}
 use Rattle.semantic_model.specs.Cursor.{on_entering}
-use Rattle.semantic_model.specs.Step.{Step, leaving, scope_at, next_at, opening_at, ending_after, opening_last, child_place, cursor_past, steps_below, root_place, steps}
+use Rattle.semantic_model.specs.Step.{Step, leaving, opening_at, opening_last, steps_below, root_place, steps}
+use Rattle.semantic_model.proofs.steps.Turn.{Turn, turn_at}
 use Rattle.semantic_model.specs.Binder.{declared_on_entering}
 use Rattle.semantic_model.specs.Event.{events}
 use Rattle.semantic_model.specs.Fold.{start}
@@ -42,20 +42,15 @@ module _ (x : ℕ) where
   below_within p own n cursor nothing l = omega (arith, l, last_within p own n)
   below_within p own n cursor (tree r k span text marks below id after) l =
       let node : Node = record { kind = k; span = span; text = text; marks = marks; children = below; node_id = id } in
-      let scope : Option OpenScope = scope_at p r own n in
-      let next : ℕ = next_at p r own n in
-      let child : Place = child_place p scope cursor r node in
-      let ys : List Step = steps_below child None next (on_entering k child.cursor) below in
-      let rest : ℕ = next + cond (opens k) 1 0 + scopes_in below in
-      let ws : List Step = steps_below p scope rest (cursor_past p r cursor child) after in
+      let turn : Turn = turn_at p own n cursor r node after in
       let m : ℕ = symbol_times x p.node.children in
       let whole : ℕ = symbol_times x (tree r k span text marks below id after) in
-      one_leads (step_times x (opening_at p r own n)) (declared_times x (declared_on_entering child)) (step_times x ys) (step_times x ws) m whole
+      one_leads (step_times x turn.before) (declared_times x (declared_on_entering turn.child)) (step_times x turn.below) (step_times x turn.others) m whole
       (λ a. omega (arith, a, opening_within p r own n))
-      (λ a. (let q = entered_within x k child refl a in omega (arith, q)))
-      (λ a. (let q = below_within child None next (on_entering k child.cursor) below a in omega (arith, q)))
-      (λ a. (let q = below_within p scope rest (cursor_past p r cursor child) after a in omega (arith, q)))
-      (omega (arith, l, turn_times x (opening_at p r own n) ys (ending_after p r scope after) ws child, none_ending x p r scope after))
+      (λ a. (let q = entered_within x k turn.child refl a in omega (arith, q)))
+      (λ a. (let q = below_within turn.child None turn.next turn.inner below a in omega (arith, q)))
+      (λ a. (let q = below_within p turn.scope turn.rest turn.past after a in omega (arith, q)))
+      (omega (arith, l, turn_times x turn.before turn.below turn.behind turn.others turn.child, none_ending x p r turn.scope after))
 
   program_within : (p : Tree) → Leads (step_times x (steps p)) (node_symbols x p.root)
   program_within p l =

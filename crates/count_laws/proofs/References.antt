@@ -10,10 +10,10 @@ use Rattle.semantic_tree.specs.Forest.{Forest, nothing, tree}
 use Rattle.semantic_tree.specs.Tree.{Tree}
 use Rattle.semantic_tree.specs.declared.node.Node.{Node}
 use Rattle.semantic_tree.specs.Views.{is}
-use Rattle.semantic_model.specs.Inside.{opens, scopes_in}
 use Rattle.semantic_model.specs.Place.{Place, OpenScope}
 use Rattle.semantic_model.specs.Cursor.{on_entering}
-use Rattle.semantic_model.specs.Step.{Step, entering, opening, header_ending, closing, leaving, scope_at, next_at, opening_at, ending_after, opening_last, child_place, cursor_past, steps_below, root_place, steps}
+use Rattle.semantic_model.specs.Step.{Step, entering, opening, header_ending, closing, leaving, opening_at, ending_after, opening_last, steps_below, root_place, steps}
+use Rattle.semantic_model.proofs.steps.Turn.{Turn, turn_at, turn_sum}
 use Rattle.semantic_model.specs.Reference.{Occurrence, reference_at, references}
 use Rattle.semantic_model.specs.Event.{Event, events}
 use Rattle.semantic_model.specs.Fold.{State, start}
@@ -58,25 +58,15 @@ entered_below : (p : Place) (own : Option OpenScope) (n cursor : ℕ) (f : Fores
 entered_below p own n cursor nothing = none_last p own n
 entered_below p own n cursor (tree r k span text marks below id after) =
     let node : Node = record { kind = k; span = span; text = text; marks = marks; children = below; node_id = id } in
-    let scope : Option OpenScope = scope_at p r own n in
-    let next : ℕ = next_at p r own n in
-    let child : Place = child_place p scope cursor r node in
-    let inner : List Step = steps_below child None next (on_entering k child.cursor) below in
-    let a : List Step = opening_at p r own n in
-    let b : List Step = entering child ∷ (inner ++ leaving child ∷ []) in
-    let c : List Step = ending_after p r scope after in
-    let rest : ℕ = next + cond (opens k) 1 0 + scopes_in below in
-    let d : List Step = steps_below p scope rest (cursor_past p r cursor child) after in
+    let turn : Turn = turn_at p own n cursor r node after in
     omega (
       arith,
-      entered_append (a ++ b ++ c) d,
-      entered_append (a ++ b) c,
-      entered_append a b,
-      entered_append inner (leaving child ∷ []),
+      turn_sum entered entered_append turn,
+      entered_append turn.below (leaving turn.child ∷ []),
       none_opening p r own n,
-      none_ending p r scope after,
-      entered_below child None next (on_entering k child.cursor) below,
-      entered_below p scope rest (cursor_past p r cursor child) after,
+      none_ending p r turn.scope after,
+      entered_below turn.child None turn.next turn.inner below,
+      entered_below p turn.scope turn.rest turn.past after,
     )
 
 ties_length : (st : State) (es : List Event) (n : ℕ) (rs : List Occurrence) → length (ties st es n rs) ≡ length rs

@@ -1,5 +1,5 @@
 -- The nodes of a program, as its steps enter them, stand below those on their paths.
-use Rattle.std.proofs.Common.{◌≡◌, ℕ, ◌+◌, List, [], ◌∷◌, ◌++◌, Bool, true, false, cond, ◌&&◌, not, Option, None, Some, inl, inr, reverse, refl, sym, subst}
+use Rattle.std.proofs.Common.{◌≡◌, ℕ, List, [], ◌∷◌, ◌++◌, Bool, true, false, cond, ◌&&◌, not, Option, None, Some, inl, inr, reverse, refl, sym, subst}
 use Rattle.std.proofs.lemmas.List.{reverse-append}
 use Rattle.semantic_kinds.specs.declared.role.Role.{Role}
 use Rattle.semantic_tree.specs.Forest.{Forest, nothing, tree}
@@ -8,10 +8,11 @@ use Rattle.semantic_tree.specs.declared.node.Node.{Node}
 use Rattle.semantic_model.specs.Entries.{Among}
 use Rattle.semantic_tree.specs.Views.{has_role}
 use Rattle.semantic_model.specs.Place.{Place, OpenScope}
-use Rattle.semantic_model.specs.Inside.{opens, is_inside, any_inside, header_roles, is_in_header, scopes_in}
+use Rattle.semantic_model.specs.Inside.{opens, is_inside, any_inside, header_roles, is_in_header}
 use Rattle.semantic_model.specs.ScopeKind.{opened_scope}
 use Rattle.semantic_model.specs.Cursor.{on_entering}
-use Rattle.semantic_model.specs.Step.{Step, entering, opening, header_ending, closing, leaving, steps, steps_below, root_place, opening_at, ending_after, opening_last, scope_at, next_at, child_place, cursor_past}
+use Rattle.semantic_model.specs.Step.{Step, entering, opening, header_ending, closing, leaving, steps, steps_below, root_place, opening_at, ending_after, opening_last, child_place}
+use Rattle.semantic_model.proofs.steps.Turn.{Turn, turn_at}
 use Rattle.namespace_laws.specs.Descents.{heads, StandsBelow}
 use Rattle.namespace_laws.proofs.Lists.{among-append}
 
@@ -75,26 +76,19 @@ placed-below : (root : Node) (p : Place) (own : Option OpenScope) (n cursor : �
 placed-below root p own n cursor nothing q h k a = absurd (none-last p own n q a)
 placed-below root p own n cursor (tree r kind span text marks below id after) q h k a =
     let node : Node = record { kind = kind; span = span; text = text; marks = marks; children = below; node_id = id } in
-    let scope : Option OpenScope = scope_at p r own n in
-    let next : ℕ = next_at p r own n in
-    let child : Place = child_place p scope cursor r node in
-    let within : List Step = steps_below child None next (on_entering kind child.cursor) below in
-    let front : List Step = opening_at p r own n in
-    let mine : List Step = entering child ∷ (within ++ leaving child ∷ []) in
-    let ends : List Step = ending_after p r scope after in
-    let later : List Step = steps_below p scope (next + cond (opens kind) 1 0 + scopes_in below) (cursor_past p r cursor child) after in
-    let placed : Placed root child = placed-child root p scope cursor r node h (k node (inl refl)) in
-    elim (among-append (entering q) (front ++ mine ++ ends) later a) [
-      | inr b ↦ placed-below root p scope (next + cond (opens kind) 1 0 + scopes_in below) (cursor_past p r cursor child) after q h (λ c i. k c (inr i)) b
-      | inl b ↦ elim (among-append (entering q) (front ++ mine) ends b) [
-        | inr d ↦ absurd (none-after p r scope after q d)
-        | inl d ↦ elim (among-append (entering q) front mine d) [
+    let turn : Turn = turn_at p own n cursor r node after in
+    let placed : Placed root turn.child = placed-child root p turn.scope cursor r node h (k node (inl refl)) in
+    elim (among-append (entering q) (turn.before ++ turn.whole ++ turn.behind) turn.others a) [
+      | inr b ↦ placed-below root p turn.scope turn.rest turn.past after q h (λ c i. k c (inr i)) b
+      | inl b ↦ elim (among-append (entering q) (turn.before ++ turn.whole) turn.behind b) [
+        | inr d ↦ absurd (none-after p r turn.scope after q d)
+        | inl d ↦ elim (among-append (entering q) turn.before turn.whole d) [
           | inl e ↦ absurd (none-at p r own n q e)
           | inr e ↦ elim e [
-            | inl same ↦ subst (λ (x : Place). Placed root x) (entered-same child q same) placed
-            | inr g ↦ elim (among-append (entering q) within (leaving child ∷ []) g) [
-              | inl i ↦ placed-below root child None next (on_entering kind child.cursor) below q placed (λ c j. j) i
-              | inr i ↦ absurd (none-leaving child q i)
+            | inl same ↦ subst (λ (x : Place). Placed root x) (entered-same turn.child q same) placed
+            | inr g ↦ elim (among-append (entering q) turn.below (leaving turn.child ∷ []) g) [
+              | inl i ↦ placed-below root turn.child None turn.next turn.inner below q placed (λ c j. j) i
+              | inr i ↦ absurd (none-leaving turn.child q i)
             ]
           ]
         ]
