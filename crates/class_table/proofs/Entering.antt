@@ -1,5 +1,5 @@
 -- The classes outward as a body is entered and left.
-use Rattle.std.proofs.Common.{◌≡◌, ℕ, zero, suc, ◌<◌, List, [], ◌∷◌, ◌++◌, Bool, true, false, cond, Option, None, Some, IfSome, inl, inr, refl, ap, ◌∙◌, length, arith}
+use Rattle.std.proofs.Common.{◌≡◌, ℕ, zero, suc, ◌<◌, List, [], ◌∷◌, ◌++◌, cond, Option, None, Some, IfSome, inl, inr, refl, ap, ◌∙◌, length, arith}
 use Rattle.std.specs.List.{AllByRecursion}
 use Rattle.std.specs.Option.{option_map, option_map_or, option_to_list}
 use Rattle.std.specs.Prelude.{nat_eq}
@@ -17,14 +17,25 @@ not_entry : (n c : ℕ) (current : Option ℕ) → c < n → parent_in (entry n 
 not_entry n c None l = refl
 not_entry n c (Some p) l = elim (eqb_tells c n) [ inl q ↦ absurd (omega (arith, l, q.1)) | inr q ↦ rw q.0 refl ]
 
--- the parents of the classes before it stay
-before_kept : (ps : List (ℕ × ℕ)) (n c : ℕ) (current : Option ℕ) → c < n → parent_in (ps ++ entry n current) c ≡ parent_in ps c
-before_kept [] n c current l = not_entry n c current l
-before_kept (e ∷ ps) n c current l = by (nat_eq c e.0) (before_kept ps n c current l)
-  where
-    by : (b : Bool) → parent_in (ps ++ entry n current) c ≡ parent_in ps c → cond b (Some e.1) (parent_in (ps ++ entry n current) c) ≡ cond b (Some e.1) (parent_in ps c)
-    by true h = refl
-    by false h = h
+-- entries of none of the classes before the n-th leave these as they are
+module _ (n : ℕ) (more : List (ℕ × ℕ)) (later : (c : ℕ) → c < n → parent_in more c ≡ None) where
+  parent_kept : (ps : List (ℕ × ℕ)) (c : ℕ) → c < n → parent_in (ps ++ more) c ≡ parent_in ps c
+  parent_kept [] c l = later c l
+  parent_kept (e ∷ ps) c l = ap (λ o. cond (nat_eq c e.0) (Some e.1) o) (parent_kept ps c l)
+
+  within_kept : (ps : List (ℕ × ℕ)) (k c : ℕ) → StandBefore ps → c < n → outward_within k (ps ++ more) c ≡ outward_within k ps c
+  within_kept ps zero c before l = refl
+  within_kept ps (suc k) c before l =
+      ap (λ o. c ∷ option_map_or (outward_within k (ps ++ more)) o []) (parent_kept ps c l)
+      ∙ ap (λ ids. c ∷ ids) (by (parent_in ps c) (before c) (λ p h. within_kept ps k p before (omega (arith, h, l))))
+    where
+      by : (o : Option ℕ) → IfSome o (λ p. p < c) → ((p : ℕ) → p < c → outward_within k (ps ++ more) p ≡ outward_within k ps p) → option_map_or (outward_within k (ps ++ more)) o [] ≡ option_map_or (outward_within k ps) o []
+      by None h f = refl
+      by (Some p) h f = f p h
+
+  pub outward_kept : (ps : List (ℕ × ℕ)) (current : Option ℕ) → StandBefore ps → IfSome current (λ c. c < n) → outward_from (ps ++ more) current ≡ outward_from ps current
+  outward_kept ps None before h = refl
+  outward_kept ps (Some c) before h = within_kept ps (suc c) c before h
 
 own_entry : (n : ℕ) (current : Option ℕ) → parent_in (entry n current) n ≡ current
 own_entry n None = refl
@@ -35,21 +46,6 @@ own_parent : (ps : List (ℕ × ℕ)) (n : ℕ) (current : Option ℕ) → AllBy
 own_parent [] n current h = own_entry n current
 own_parent (e ∷ ps) n current h = elim (eqb_tells n e.0) [ inl q ↦ absurd (omega (arith, h.0.0, q.1)) | inr q ↦ rw q.0 (own_parent ps n current h.1) ]
 
-within_kept : (ps : List (ℕ × ℕ)) (n k c : ℕ) (current : Option ℕ) → StandBefore ps → c < n → outward_within k (ps ++ entry n current) c ≡ outward_within k ps c
-within_kept ps n zero c current before l = refl
-within_kept ps n (suc k) c current before l =
-    ap (λ o. c ∷ option_map_or (outward_within k (ps ++ entry n current)) o []) (before_kept ps n c current l)
-    ∙ ap (λ ids. c ∷ ids) (by (parent_in ps c) (before c) (λ p h. within_kept ps n k p current before (omega (arith, h, l))))
-  where
-    by : (o : Option ℕ) → IfSome o (λ p. p < c) → ((p : ℕ) → p < c → outward_within k (ps ++ entry n current) p ≡ outward_within k ps p)
-        → option_map_or (outward_within k (ps ++ entry n current)) o [] ≡ option_map_or (outward_within k ps) o []
-    by None h f = refl
-    by (Some p) h f = f p h
-
-from_kept : (ps : List (ℕ × ℕ)) (n : ℕ) (current : Option ℕ) → StandBefore ps → IfSome current (λ c. c < n) → outward_from (ps ++ entry n current) current ≡ outward_from ps current
-from_kept ps n None before h = refl
-from_kept ps n (Some c) before h = within_kept ps n (suc c) c (Some c) before h
-
 -- once a body is entered, its class stands in front of the classes outward
 pub entered_outward : (lists : ClassLists) (current : Option ℕ) (node : ℕ) (es : List Element)
     → AllByRecursion (IsInside (length lists.nodes)) lists.parents → StandBefore (with_class lists current node es).parents → IfSome current (λ c. c < length lists.nodes)
@@ -57,7 +53,7 @@ pub entered_outward : (lists : ClassLists) (current : Option ℕ) (node : ℕ) (
 entered_outward lists current node es inside before h =
     outward_steps (with_class lists current node es).parents (length lists.nodes) before
     ∙ ap (λ o. length lists.nodes ∷ outward_from (with_class lists current node es).parents o) (own_parent lists.parents (length lists.nodes) current inside)
-    ∙ ap (λ ids. length lists.nodes ∷ ids) (from_kept lists.parents (length lists.nodes) current (stand_before (length lists.nodes) lists.parents inside) h)
+    ∙ ap (λ ids. length lists.nodes ∷ ids) (outward_kept (length lists.nodes) (entry (length lists.nodes) current) (λ c l. not_entry (length lists.nodes) c current l) lists.parents current (stand_before (length lists.nodes) lists.parents inside) h)
 
 -- once a body is left, its class is taken from the front
 pub left_outward : (lists : ClassLists) (c : ℕ) → StandBefore lists.parents → outward_from lists.parents (Some c) ≡ c ∷ outward_from lists.parents (parent_in lists.parents c)

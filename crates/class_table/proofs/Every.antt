@@ -8,6 +8,10 @@ module _ {X : Type 0} (P : X → Type 0) where
   every-push x [] h p = (p, tt)
   every-push x (y ∷ xs) h p = (h.0, every-push x xs h.1 p)
 
+  pub every-append : (xs ys : List X) → AllByRecursion P xs → AllByRecursion P ys → AllByRecursion P (xs ++ ys)
+  every-append [] ys h k = k
+  every-append (x ∷ xs) ys h k = (h.0, every-append xs ys h.1 k)
+
   pub every-set : (x : X) (xs : List X) (i : ℕ) → AllByRecursion P xs → P x → AllByRecursion P (set xs i x)
   every-set x [] i h p = tt
   every-set x (y ∷ xs) zero h p = (p, h.1)

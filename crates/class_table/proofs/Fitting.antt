@@ -11,15 +11,11 @@ use Rattle.semantic_model.specs.Class.{Class, PrivateUse}
 use Rattle.class_table.specs.Lists.{ClassLists, with_class}
 use Rattle.class_table.specs.Outward.{parent_in}
 use Rattle.class_table.specs.Told.{parents_from, with_uses, told, FitCurrent, current_elements}
-use Rattle.class_table.proofs.Every.{every-more}
+use Rattle.class_table.proofs.Every.{every-append, every-more}
 
 -- a class that stands inside another one is below n
 abbrev Below : ℕ → ℕ × ℕ → Type 0
 Below n e = e.0 < n
-
-below_append : (n : ℕ) (es fs : List (ℕ × ℕ)) → AllByRecursion (Below n) es → AllByRecursion (Below n) fs → AllByRecursion (Below n) (es ++ fs)
-below_append n [] fs h g = g
-below_append n (e ∷ es) fs h g = (h.0, below_append n es fs h.1 g)
 
 below_more : (n m : ℕ) (es : List (ℕ × ℕ)) → n ≤ m → AllByRecursion (Below n) es → AllByRecursion (Below m) es
 below_more n m es le h = every-more (Below n) (Below m) (λ e lt. omega arith) es h
@@ -30,7 +26,7 @@ below_here n m (Some p) lt = (lt, tt)
 
 below_from : (n m : ℕ) (cs : List Class) → n + length cs ≤ m → AllByRecursion (Below m) (parents_from n cs)
 below_from n m [] le = tt
-below_from n m (c ∷ cs) le = below_append m (option_to_list (option_map (λ p. (n, p)) c.parent)) (parents_from (n + 1) cs) (below_here n m c.parent (omega arith)) (below_from (n + 1) m cs (omega arith))
+below_from n m (c ∷ cs) le = every-append (Below m) (option_to_list (option_map (λ p. (n, p)) c.parent)) (parents_from (n + 1) cs) (below_here n m c.parent (omega arith)) (below_from (n + 1) m cs (omega arith))
 
 length_uses : (current : Option ℕ) (us : List PrivateUse) (uses : List (List PrivateUse)) → length (with_uses current us uses) ≡ length uses
 length_uses None us uses = refl
@@ -54,7 +50,7 @@ fits_told lists current us cs fits =
       there = rw nodes (there_more n (n + length cs) current more fits.there);
       with_elements = elements ∙ ap (λ m. m + length cs) fits.with_elements ∙ sym nodes;
       with_uses = uses ∙ ap (λ m. m + length cs) (kept ∙ fits.with_uses) ∙ sym nodes;
-      inside = rw nodes (below_append (n + length cs) lists.parents (parents_from n cs) (below_more n (n + length cs) lists.parents more fits.inside) (below_from n (n + length cs) cs (omega arith)));
+      inside = rw nodes (every-append (Below (n + length cs)) lists.parents (parents_from n cs) (below_more n (n + length cs) lists.parents more fits.inside) (below_from n (n + length cs) cs (omega arith)));
     }
 
 pub fits_class : (lists : ClassLists) (current : Option ℕ) (node : ℕ) (es : List Element) → FitCurrent lists current → FitCurrent (with_class lists current node es) (Some (length lists.nodes))
@@ -65,7 +61,7 @@ fits_class lists current node es fits =
       there = rw nodes one;
       with_elements = length-append lists.elements (es ∷ []) ∙ ap (λ m. m + 1) fits.with_elements ∙ sym nodes;
       with_uses = length-append lists.uses ([] ∷ []) ∙ ap (λ m. m + 1) fits.with_uses ∙ sym nodes;
-      inside = rw nodes (below_append (n + 1) lists.parents (option_to_list (option_map (λ p. (n, p)) current)) (below_more n (n + 1) lists.parents (omega arith) fits.inside) (below_here n (n + 1) current one));
+      inside = rw nodes (every-append (Below (n + 1)) lists.parents (option_to_list (option_map (λ p. (n, p)) current)) (below_more n (n + 1) lists.parents (omega arith) fits.inside) (below_here n (n + 1) current one));
     }
 
 pub elements_kept : (lists : ClassLists) (current : Option ℕ) (us : List PrivateUse) (cs : List Class) → FitCurrent lists current → current_elements (told lists current us cs) current ≡ current_elements lists current

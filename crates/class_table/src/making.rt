@@ -1,7 +1,6 @@
 //! The elements that the members of a class make.
-ghost use Rattle.std.specs.Prelude.{◌≡◌, true, map, option_map, IfOk};
-ghost use Rattle.semantic_kinds.specs.Classes.{is_ascii_text};
-ghost use Rattle.semantic_tree.specs.Views.{has_text, holds, child_of};
+ghost use Rattle.std.specs.Prelude.{◌≡◌, map, option_map, IfOk};
+ghost use Rattle.semantic_tree.specs.Views.{holds, child_of};
 ghost use Rattle.semantic_model.specs.Element.{is_implemented, method_kind, element_with, element_of_method, element_of, elements_of};
 ghost use Rattle.class_table.specs.Seen.{element_seen};
 
@@ -11,20 +10,13 @@ use semantic_syntax::ElementKind;
 use semantic_tree::{AstKind, AstType, Mark, Role};
 use std::alloc::{AllocError, Global};
 
-/// Whether the node has the text, which is one of the words of the grammar.
-fn reads(node: AstKind<'_>, word: &str) -> bool
-    requires { is_ascii_text word.now ≡ true }
-    ensures { result ≡ has_text word.now node.entry.node.now }
-{
-    is_word(node.text().as_str(), word)
-}
-
 /// Whether a function has a body, and isn't one that only TypeScript knows.
 fn is_implemented(value: AstKind<'_>) -> bool
     ensures { result ≡ is_implemented value.entry.node.now }
 {
+    let form = value.text();
     value.child(Role::Body).is_some()
-        && !(reads(value, "ts-declare") || reads(value, "ts-empty-body"))
+        && !(is_word(form.as_str(), "ts-declare") || is_word(form.as_str(), "ts-empty-body"))
 }
 
 /// Whether the function of a method is implemented.
@@ -41,9 +33,10 @@ fn has_implementation(member: AstKind<'_>) -> bool
 fn method_kind(member: AstKind<'_>) -> ElementKind
     ensures { result.bits ≡ method_kind member.entry.node.now }
 {
-    if reads(member, "get") {
+    let form = member.text();
+    if is_word(form.as_str(), "get") {
         ElementKind::Method.union(ElementKind::Getter)
-    } else if reads(member, "set") {
+    } else if is_word(form.as_str(), "set") {
         ElementKind::Method.union(ElementKind::Setter)
     } else {
         ElementKind::Method
@@ -71,7 +64,7 @@ fn element_with<'a>(kind: ElementKind, member: AstKind<'a>) -> Option<Element<'a
 fn element_of_method<'a>(member: AstKind<'a>) -> Option<Element<'a>>
     ensures { option_map element_seen result ≡ element_of_method member.entry.node.now }
 {
-    if !reads(member, "constructor") && has_implementation(member) {
+    if !is_word(member.text().as_str(), "constructor") && has_implementation(member) {
         element_with(method_kind(member), member)
     } else {
         None
