@@ -1,5 +1,5 @@
 -- Along the steps of a walk each node is left with the classes that its checks look at.
-use Rattle.std.proofs.Common.{◌≡◌, ℕ, ◌+◌, List, [], ◌∷◌, ◌++◌, Bool, true, false, ◌&&◌, not, cond, Option, None, Some, refl, sym, ap, subst, ◌∙◌}
+use Rattle.std.proofs.Common.{◌≡◌, ℕ, List, [], ◌∷◌, ◌++◌, Bool, true, false, ◌&&◌, not, cond, Option, None, Some, refl, sym, ap, subst, ◌∙◌}
 use Rattle.semantic_kinds.specs.declared.role.Role.{Role}
 use Rattle.semantic_kinds.specs.declared.kind.AstType.TheVariants as kind
 use Rattle.semantic_kinds.specs.Kinds.{same_kind}
@@ -8,11 +8,12 @@ use Rattle.semantic_tree.specs.Tree.{Tree}
 use Rattle.semantic_tree.specs.Faults.{first_fault}
 use Rattle.semantic_tree.specs.declared.node.Node.{Node}
 use Rattle.semantic_tree.specs.Views.{has_role}
-use Rattle.semantic_model.specs.Inside.{opens, is_inside, any_inside, header_roles, is_in_header, scopes_in}
+use Rattle.semantic_model.specs.Inside.{opens, is_inside, any_inside, header_roles, is_in_header}
 use Rattle.semantic_model.specs.Place.{Place, OpenScope}
 use Rattle.semantic_model.specs.Cursor.{on_entering}
 use Rattle.semantic_model.specs.ScopeKind.{opened_scope}
-use Rattle.semantic_model.specs.Step.{Step, entering, opening, leaving, header_ending, closing, scope_at, next_at, opening_at, ending_after, opening_last, child_place, cursor_past, steps_below, root_place, steps}
+use Rattle.semantic_model.specs.Step.{Step, entering, opening, leaving, header_ending, closing, opening_at, ending_after, opening_last, steps_below, root_place, steps}
+use Rattle.semantic_model.proofs.steps.Turn.{Turn, turn_at}
 use Rattle.class_table.specs.Noted.{left, noted_below, entered, begun}
 use Rattle.class_table.specs.NotedSteps.{noting, noting_all}
 use Rattle.class_table.specs.declared.builder.ClassTableBuilder.{ClassTableBuilder}
@@ -95,24 +96,17 @@ steps_shown nothing p own n cursor b h =
     (quiet.0, subst (λ (x : ClassTableBuilder). ShowsClasses x.classes x.current_class_id p) (sym quiet.1) h)
 steps_shown (tree r k span text marks below id after) p own n cursor b h =
     let here : Node = record { kind = k; span = span; text = text; marks = marks; children = below; node_id = id } in
-    let scope : Option OpenScope = scope_at p r own n in
-    let next : ℕ = next_at p r own n in
-    let child : Place = child_place p scope cursor r here in
-    let before : List Step = opening_at p r own n in
-    let inner : List Step = steps_below child None next (on_entering k child.cursor) below in
-    let mine : List Step = entering child ∷ (inner ++ leaving child ∷ []) in
-    let behind : List Step = ending_after p r scope after in
-    let later : List Step = steps_below p scope (next + cond (opens k) 1 0 + scopes_in below) (cursor_past p r cursor child) after in
+    let parts : Turn = turn_at p own n cursor r here after in
     let into : ClassTableBuilder = entered p.node.kind p.node.node_id here b in
-    let x : ClassTableBuilder = noting_all into inner in
+    let x : ClassTableBuilder = noting_all into parts.below in
     let shape = child_comes b p r here after h in
-    let under = steps_shown below child None next (on_entering k child.cursor) into (comes b child shape.0 shape.1 h.around) in
-    let walked : noting_all b mine ≡ left k x = all_append into inner (leaving child ∷ []) in
-    let noted : left k (noted_below k id below into) ≡ noting_all b mine = ap (left k) (sym (steps_note below child None next (on_entering k child.cursor) into)) ∙ sym walked in
-    let rest = steps_shown after p scope (next + cond (opens k) 1 0 + scopes_in below) (cursor_past p r cursor child) (noting_all b mine) (subst (λ y. ShowsBetween y p after) noted (turns b p r here after h)) in
-    let own_steps : AllRightly b mine = (tt, rightly-append into inner (leaving child ∷ []) under.0 (under.1, tt)) in (
-      turn_rightly b before mine behind later (opens_quietly p r own n) (ends_quietly p r scope after) own_steps rest.0,
-      subst (λ (y : ClassTableBuilder). ShowsClasses y.classes y.current_class_id p) (sym (turn b before mine behind later (opens_quietly p r own n) (ends_quietly p r scope after))) rest.1,
+    let under = steps_shown below parts.child None parts.next parts.inner into (comes b parts.child shape.0 shape.1 h.around) in
+    let walked : noting_all b parts.whole ≡ left k x = all_append into parts.below (leaving parts.child ∷ []) in
+    let noted : left k (noted_below k id below into) ≡ noting_all b parts.whole = ap (left k) (sym (steps_note below parts.child None parts.next parts.inner into)) ∙ sym walked in
+    let rest = steps_shown after p parts.scope parts.rest parts.past (noting_all b parts.whole) (subst (λ y. ShowsBetween y p after) noted (turns b p r here after h)) in
+    let own_steps : AllRightly b parts.whole = (tt, rightly-append into parts.below (leaving parts.child ∷ []) under.0 (under.1, tt)) in (
+      turn_rightly b parts.before parts.whole parts.behind parts.others (opens_quietly p r own n) (ends_quietly p r parts.scope after) own_steps rest.0,
+      subst (λ (y : ClassTableBuilder). ShowsClasses y.classes y.current_class_id p) (sym (turn b parts.before parts.whole parts.behind parts.others (opens_quietly p r own n) (ends_quietly p r parts.scope after))) rest.1,
     )
 
 -- the steps of a program

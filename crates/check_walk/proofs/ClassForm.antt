@@ -1,9 +1,7 @@
 -- In a program without a fault classes have their shape.
-use Rattle.std.proofs.Common.{◌≡◌, ℕ, List, [], ◌∷◌, ◌++◌, Bool, true, false, not, ◌&&◌, cond, take, drop, length, refl, sym, subst, ◌∙◌, inl, inr, ◌==◌, arith, None}
+use Rattle.std.proofs.Common.{◌≡◌, ℕ, List, ◌∷◌, ◌++◌, Bool, true, false, not, ◌&&◌, cond, refl, sym, subst, inl, inr, None}
 use Rattle.std.specs.List.{list_all}
 use Rattle.std.proofs.lemmas.Bool.{cases_Bool}
-use Rattle.std.proofs.lemmas.Bool.Decides.{eqb_tells}
-use Rattle.std.proofs.lemmas.List.{take-append-drop}
 use Rattle.semantic_kinds.specs.Kinds.{same_kind}
 use Rattle.semantic_kinds.specs.Roles.{same_role}
 use Rattle.semantic_kinds.specs.Classes.{is_of}
@@ -18,12 +16,12 @@ use Rattle.semantic_kinds.specs.declared.part.Part.{Part}
 use Rattle.semantic_tree.specs.Forest.{Forest, nothing, tree}
 use Rattle.semantic_tree.specs.Tree.{Tree}
 use Rattle.semantic_tree.specs.Nodes.{trees}
-use Rattle.semantic_tree.specs.Fit.{lead, all_of, is_run, fit}
+use Rattle.semantic_tree.specs.Fit.{fit}
 use Rattle.semantic_tree.specs.Place.{root_place, child_place, placed_below}
 use Rattle.semantic_tree.specs.Faults.{first_fault}
 use Rattle.semantic_tree.specs.declared.node.Node.{Node}
 use Rattle.semantic_tree.specs.declared.place.Place.{Place}
-use Rattle.semantic_model.proofs.form.Clauses.{kind_is, role_is, first_holds, second_holds, both_hold}
+use Rattle.semantic_model.proofs.form.Clauses.{kind_is, first_holds, second_holds, both_hold}
 use Rattle.semantic_model.proofs.form.PartsHold.{hold, passed_hold, fit_holds}
 use Rattle.semantic_model.proofs.form.Shape.{NoneMisshapen, first_formed, rest_formed, table_kept, fit_kept, none_misshapen}
 use Rattle.class_table.specs.Bodies.{end_rightly, all_end_rightly}

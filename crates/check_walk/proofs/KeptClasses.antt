@@ -1,8 +1,8 @@
 -- Classes that are told more leave those before them as they are.
-use Rattle.std.proofs.Common.{◌≡◌, ℕ, zero, suc, ◌+◌, ◌<◌, ◌≤◌, List, [], ◌∷◌, ◌++◌, Bool, true, false, cond, Option, None, Some, IfSome, refl, sym, ap, subst, ◌∙◌, map, length, arith, add-zero, length-append}
+use Rattle.std.proofs.Common.{◌≡◌, ℕ, ◌+◌, ◌<◌, ◌≤◌, List, [], ◌∷◌, ◌++◌, Bool, true, false, cond, Option, None, Some, IfSome, refl, sym, ap, subst, ◌∙◌, map, length, arith, add-zero, length-append}
 use Rattle.std.specs.Prelude.{nat_eq, option_map}
 use Rattle.std.specs.List.{AllByRecursion}
-use Rattle.std.specs.Option.{option_map_or, option_to_list}
+use Rattle.std.specs.Option.{option_to_list}
 use Rattle.std.proofs.lemmas.List.{get_or_append_left}
 use Rattle.semantic_kinds.specs.Kinds.{same_kind}
 use Rattle.semantic_kinds.specs.declared.kind.AstType.TheVariants as kind
@@ -10,10 +10,11 @@ use Rattle.semantic_tree.specs.Forest.{Forest, nothing, tree}
 use Rattle.semantic_model.specs.Element.{elements_of}
 use Rattle.semantic_model.specs.Class.{Class, PrivateUse, uses_below, body_count, classes_below}
 use Rattle.class_table.specs.Lists.{ClassLists, IsInside}
-use Rattle.class_table.specs.Outward.{parent_in, StandBefore, outward_within, outward_from}
+use Rattle.class_table.specs.Outward.{parent_in, StandBefore, outward_from}
 use Rattle.class_table.specs.Told.{parents_from, told}
 use Rattle.class_table.proofs.Parents.{stand_before}
-use Rattle.class_table.proofs.Every.{every-more}
+use Rattle.class_table.proofs.Every.{every-append, every-more}
+use Rattle.class_table.proofs.Entering.{outward_kept}
 use Rattle.class_table.proofs.Fitting.{length_told}
 use Rattle.check_model.specs.Context.{seen_class, classes_from}
 use Rattle.check_walk.proofs.ClassSteps.{map_same, from_below}
@@ -87,10 +88,6 @@ stand_inside (tree r k span text marks below id after) n around node h =
         inside-append n cs (classes_below (n + 0 + body_count below) around node after) (subst (λ m. StandInside m cs) same (inner (n + 0) around id (below_more n (n + 0) around (omega arith) h)))
         (subst (λ m. StandInside m (classes_below (n + 0 + body_count below) around node after)) (sym next) (later (n + 0 + body_count below) around node (below_more n (n + 0 + body_count below) around more h)))
 
-every-append : (P : ℕ × ℕ → Type 0) (xs ys : List (ℕ × ℕ)) → AllByRecursion P xs → AllByRecursion P ys → AllByRecursion P (xs ++ ys)
-every-append P [] ys h k = k
-every-append P (x ∷ xs) ys h k = (h.0, every-append P xs ys h.1 k)
-
 entry_inside : (n m : ℕ) (parent : Option ℕ) → n < m → IfSome parent (λ p. p < n) → AllByRecursion (IsInside m) (option_to_list (option_map (λ p. (n, p)) parent))
 entry_inside n m None l h = tt
 entry_inside n m (Some p) l h = ((l, h), tt)
@@ -129,25 +126,6 @@ none_before c m (k ∷ cs) l = by k.parent (none_before c (m + 1) cs (omega arit
     by None later = later
     by (Some p) later = ap (λ b. cond b (Some p) (parent_in (parents_from (m + 1) cs) c)) other ∙ later
 
-parent_kept : (ps : List (ℕ × ℕ)) (n c : ℕ) (cs : List Class) → c < n → parent_in (ps ++ parents_from n cs) c ≡ parent_in ps c
-parent_kept [] n c cs l = none_before c n cs l
-parent_kept (e ∷ ps) n c cs l = ap (λ o. cond (nat_eq c e.0) (Some e.1) o) (parent_kept ps n c cs l)
-
-within_kept : (ps : List (ℕ × ℕ)) (n k c : ℕ) (cs : List Class) → StandBefore ps → c < n → outward_within k (ps ++ parents_from n cs) c ≡ outward_within k ps c
-within_kept ps n zero c cs before l = refl
-within_kept ps n (suc k) c cs before l =
-    ap (λ o. c ∷ option_map_or (outward_within k (ps ++ parents_from n cs)) o []) (parent_kept ps n c cs l)
-    ∙ ap (λ ids. c ∷ ids) (by (parent_in ps c) (before c) (λ p h. within_kept ps n k p cs before (omega (arith, h, l))))
-  where
-    by : (o : Option ℕ) → IfSome o (λ p. p < c) → ((p : ℕ) → p < c → outward_within k (ps ++ parents_from n cs) p ≡ outward_within k ps p)
-        → option_map_or (outward_within k (ps ++ parents_from n cs)) o [] ≡ option_map_or (outward_within k ps) o []
-    by None h f = refl
-    by (Some p) h f = f p h
-
-outward_kept : (ps : List (ℕ × ℕ)) (n : ℕ) (current : Option ℕ) (cs : List Class) → StandBefore ps → IfSome current (λ c. c < n) → outward_from (ps ++ parents_from n cs) current ≡ outward_from ps current
-outward_kept ps n None cs before h = refl
-outward_kept ps n (Some c) cs before h = within_kept ps n (suc c) c cs before h
-
 -- a class that is there, and those around it, whatever is told more
 pub classes_kept : (lists : ClassLists) (current : Option ℕ) (us : List PrivateUse) (cs : List Class) → AllByRecursion (IsInside (length lists.nodes)) lists.parents → length lists.elements ≡ length lists.nodes
     → IfSome current (λ c. c < length lists.nodes) → classes_from (told lists current us cs) current ≡ classes_from lists current
@@ -155,6 +133,6 @@ classes_kept lists current us cs inside same h =
     let n : ℕ = length lists.nodes in
     let more : ClassLists = told lists current us cs in
     let before : StandBefore lists.parents = stand_before n lists.parents inside in
-    ap (map (seen_class more)) (outward_kept lists.parents n current cs before h)
+    ap (map (seen_class more)) (outward_kept n (parents_from n cs) (λ c l. none_before c n cs l) lists.parents current before h)
     ∙ map_same (λ c. c < n) (seen_class more) (seen_class lists) (outward_from lists.parents current) (from_below lists.parents n current before h)
     (λ c l. λ i. record { node = get_or_append_left lists.nodes (map (λ k. k.node) cs) 0 c l i; elements = get_or_append_left lists.elements (map (λ k. k.elements) cs) [] c (omega (arith, l, same)) i })
