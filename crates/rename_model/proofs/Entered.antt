@@ -1,5 +1,5 @@
 -- Each node of a program is entered.
-use Rattle.std.proofs.Common.{◌≡◌, ℕ, ◌+◌, List, [], ◌∷◌, ◌++◌, Option, None, cond, inl, inr, refl}
+use Rattle.std.proofs.Common.{◌≡◌, ℕ, List, [], ◌∷◌, ◌++◌, Option, None, inl, inr, refl}
 use Rattle.semantic_kinds.specs.declared.kind.AstType.{AstType}
 use Rattle.semantic_tree.specs.Forest.{Forest, nothing, tree}
 use Rattle.semantic_tree.specs.Place.{child_place as tree_child, placed_below, root_place as tree_root, all_placed}
@@ -8,9 +8,9 @@ use Rattle.semantic_tree.specs.declared.node.Node.{Node}
 use Rattle.semantic_tree.specs.declared.place.Place as placed
 use Rattle.semantic_model.specs.Cursor.{on_entering}
 use Rattle.semantic_model.specs.Entries.{Among}
-use Rattle.semantic_model.specs.Inside.{opens, scopes_in}
 use Rattle.semantic_model.specs.Place.{Place, OpenScope}
-use Rattle.semantic_model.specs.Step.{Step, entering, leaving, steps_below, steps, opening_at, ending_after, scope_at, next_at, child_place, cursor_past, root_place}
+use Rattle.semantic_model.specs.Step.{Step, entering, leaving, steps_below, steps, root_place}
+use Rattle.semantic_model.proofs.steps.Turn.{Turn, turn_at}
 use Rattle.semantic_model.proofs.lists.Members.{among_left, among_right, among_cases}
 use Rattle.program_laws.proofs.TreeNodes.{nodes_below, nodes_from}
 
@@ -24,24 +24,15 @@ enters_below : (p : Place) (own : Option OpenScope) (n cursor : ℕ) (g : Forest
 enters_below p own n cursor nothing x a = absurd a
 enters_below p own n cursor (tree r k span text marks below id after) x a =
     let node : Node = record { kind = k; span = span; text = text; marks = marks; children = below; node_id = id } in
-    let scope : Option OpenScope = scope_at p r own n in
-    let next : ℕ = next_at p r own n in
-    let child : Place = child_place p scope cursor r node in
-    let xs : List Step = opening_at p r own n in
-    let ys : List Step = steps_below child None next (on_entering k child.cursor) below in
-    let middle : List Step = entering child ∷ (ys ++ leaving child ∷ []) in
-    let es : List Step = ending_after p r scope after in
-    let m : ℕ = next + cond (opens k) 1 0 + scopes_in below in
-    let past : ℕ = cursor_past p r cursor child in
-    let ws : List Step = steps_below p scope m past after in
-    let in_middle : (q : Place) → Among (entering q) middle → Among (entering q) (xs ++ middle ++ es ++ ws) = λ q b. among_left (entering q) (xs ++ middle ++ es) ws (among_left (entering q) (xs ++ middle) es (among_right (entering q) xs middle b)) in
+    let turn : Turn = turn_at p own n cursor r node after in
+    let in_middle : (q : Place) → Among (entering q) turn.whole → Among (entering q) (turn.before ++ turn.whole ++ turn.behind ++ turn.others) = λ q b. among_left (entering q) (turn.before ++ turn.whole ++ turn.behind) turn.others (among_left (entering q) (turn.before ++ turn.whole) turn.behind (among_right (entering q) turn.before turn.whole b)) in
     elim a [
-      | inl e ↦ record { place = child; among = in_middle child (inl refl); node = e }
+      | inl e ↦ record { place = turn.child; among = in_middle turn.child (inl refl); node = e }
       | inr b ↦ elim (among_cases x (nodes_below below) (nodes_below after) b) [
-        | inl c ↦ (let w : Enters ys x = enters_below child None next (on_entering k child.cursor) below x c in
-            record { place = w.place; among = in_middle w.place (inr (among_left (entering w.place) ys (leaving child ∷ []) w.among)); node = w.node })
-        | inr c ↦ (let w : Enters ws x = enters_below p scope m past after x c in
-            record { place = w.place; among = among_right (entering w.place) (xs ++ middle ++ es) ws w.among; node = w.node })
+        | inl c ↦ (let w : Enters turn.below x = enters_below turn.child None turn.next turn.inner below x c in
+            record { place = w.place; among = in_middle w.place (inr (among_left (entering w.place) turn.below (leaving turn.child ∷ []) w.among)); node = w.node })
+        | inr c ↦ (let w : Enters turn.others x = enters_below p turn.scope turn.rest turn.past after x c in
+            record { place = w.place; among = among_right (entering w.place) (turn.before ++ turn.whole ++ turn.behind) turn.others w.among; node = w.node })
       ]
     ]
 

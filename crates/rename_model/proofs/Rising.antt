@@ -1,16 +1,15 @@
 -- The nodes of a numbered program are entered in the order of their ids.
-use Rattle.std.proofs.Common.{◌≡◌, ℕ, ◌+◌, ◌≤◌, List, [], ◌∷◌, ◌++◌, Option, Some, None, cond, Bool, true, false, not, ◌&&◌, inl, inr, ap, subst, arith}
+use Rattle.std.proofs.Common.{◌≡◌, ℕ, ◌+◌, ◌≤◌, List, [], ◌∷◌, ◌++◌, Option, None, inl, inr, ap, subst, arith}
 use Rattle.semantic_kinds.specs.declared.role.Role.{Role}
 use Rattle.semantic_tree.specs.Forest.{Forest, nothing, tree, count, numbered}
 use Rattle.semantic_tree.specs.Tree.{Tree, IsNumbered}
 use Rattle.semantic_tree.specs.declared.node.Node.{Node}
 use Rattle.semantic_model.specs.Cursor.{on_entering}
 use Rattle.semantic_model.specs.Entries.{Among}
-use Rattle.semantic_model.specs.Inside.{opens, is_inside, any_inside, header_roles, is_in_header, scopes_in}
-use Rattle.semantic_tree.specs.Views.{has_role}
 use Rattle.semantic_model.specs.Place.{Place, OpenScope}
-use Rattle.semantic_model.specs.ScopeKind.{opened_scope}
-use Rattle.semantic_model.specs.Step.{Step, entering, opening, header_ending, closing, leaving, steps_below, steps, opening_at, ending_after, opening_last, scope_at, next_at, child_place, cursor_past, root_place}
+use Rattle.semantic_model.specs.Step.{Step, entering, opening, header_ending, closing, leaving, steps_below, steps, opening_at, ending_after, opening_last, root_place}
+use Rattle.semantic_model.proofs.steps.TurnCases.{opening_case, ending_case, last_case}
+use Rattle.semantic_model.proofs.steps.Turn.{Turn, turn_at}
 use Rattle.program_laws.proofs.TreeNodes.{below_same}
 
 -- the ids of the nodes that are entered rise from the first number, and stay below the second
@@ -39,51 +38,29 @@ append low mid high (closing p s ∷ xs) ys h k = append low mid high xs ys h k
 append low mid high (leaving p ∷ xs) ys h k = append low mid high xs ys h k
 
 opening_rises : (p : Place) (r : Role) (own : Option OpenScope) (n low : ℕ) → Rises low low (opening_at p r own n)
-opening_rises p r (Some s) n low = omega arith
-opening_rises p r None n low = go (is_inside p.node.kind r)
-  where
-    go : (b : Bool) → Rises low low (cond b (opening p (opened_scope p n) ∷ []) [])
-    go true = omega arith
-    go false = omega arith
+opening_rises p r own n low = opening_case (Rises low low) p r own n (omega arith) (omega arith)
 
 last_rises : (p : Place) (own : Option OpenScope) (n low : ℕ) → Rises low low (opening_last p own n)
-last_rises p (Some s) n low = omega arith
-last_rises p None n low = go (opens p.node.kind)
-  where
-    go : (b : Bool) → Rises low low (cond b (opening p (opened_scope p n) ∷ closing p (opened_scope p n) ∷ []) [])
-    go true = omega arith
-    go false = omega arith
+last_rises p own n low = last_case (Rises low low) p own n (omega arith) (omega arith)
 
 ending_rises : (p : Place) (r : Role) (own : Option OpenScope) (after : Forest) (low : ℕ) → Rises low low (ending_after p r own after)
-ending_rises p r None after low = omega arith
-ending_rises p r (Some s) after low = go (is_in_header p.node.kind r && not (has_role (header_roles p.node.kind) after)) (is_inside p.node.kind r && not (any_inside p.node.kind after))
-  where
-    go : (x y : Bool) → Rises low low (cond x (header_ending p s ∷ []) [] ++ cond y (closing p s ∷ []) [])
-    go true true = omega arith
-    go true false = omega arith
-    go false true = omega arith
-    go false false = omega arith
+ending_rises p r own after low = ending_case (Rises low low) p r own after (omega arith) (λ s. omega arith) (λ s. omega arith) (λ s. omega arith)
 
 below_rises : (m : ℕ) (p : Place) (own : Option OpenScope) (n cursor : ℕ) (g : Forest) → numbered m g ≡ g → Rises m (m + count g) (steps_below p own n cursor g)
 below_rises m p own n cursor nothing h = subst (λ k. Rises m k (opening_last p own n)) (omega arith) (last_rises p own n m)
 below_rises m p own n cursor (tree r k span text marks below id after) h =
     let (inner, is, rest) = below_same h in
     let node : Node = record { kind = k; span = span; text = text; marks = marks; children = below; node_id = id } in
-    let scope : Option OpenScope = scope_at p r own n in
-    let next : ℕ = next_at p r own n in
-    let child : Place = child_place p scope cursor r node in
-    let ys : List Step = steps_below child None next (on_entering k child.cursor) below in
-    let middle : List Step = entering child ∷ (ys ++ leaving child ∷ []) in
+    let turn : Turn = turn_at p own n cursor r node after in
     let mid : ℕ = m + 1 + count below in
-    let xs_rise : Rises m m (opening_at p r own n) = opening_rises p r own n m in
-    let ys_rise : Rises (id + 1) mid ys = subst (λ i. Rises (i + 1) mid ys) is (below_rises (m + 1) child None next (on_entering k child.cursor) below inner) in
-    let middle_rise : Rises m mid middle = (omega (arith, is), append (id + 1) mid mid ys (leaving child ∷ []) ys_rise (omega arith)) in
-    let es_rise : Rises mid mid (ending_after p r scope after) = ending_rises p r scope after mid in
-    let ws : List Step = steps_below p scope (next + cond (opens k) 1 0 + scopes_in below) (cursor_past p r cursor child) after in
-    let ws_rise : Rises mid (mid + count after) ws = below_rises mid p scope (next + cond (opens k) 1 0 + scopes_in below) (cursor_past p r cursor child) after rest in
-    subst (λ i. Rises m i (opening_at p r own n ++ middle ++ ending_after p r scope after ++ ws)) (omega arith)
-    (append m mid (mid + count after) (opening_at p r own n ++ middle ++ ending_after p r scope after) ws
-    (append m mid mid (opening_at p r own n ++ middle) (ending_after p r scope after) (append m m mid (opening_at p r own n) middle xs_rise middle_rise) es_rise) ws_rise)
+    let xs_rise : Rises m m turn.before = opening_rises p r own n m in
+    let ys_rise : Rises (id + 1) mid turn.below = subst (λ i. Rises (i + 1) mid turn.below) is (below_rises (m + 1) turn.child None turn.next turn.inner below inner) in
+    let middle_rise : Rises m mid turn.whole = (omega (arith, is), append (id + 1) mid mid turn.below (leaving turn.child ∷ []) ys_rise (omega arith)) in
+    let es_rise : Rises mid mid turn.behind = ending_rises p r turn.scope after mid in
+    let ws_rise : Rises mid (mid + count after) turn.others = below_rises mid p turn.scope turn.rest turn.past after rest in
+    subst (λ i. Rises m i (turn.before ++ turn.whole ++ turn.behind ++ turn.others)) (omega arith)
+    (append m mid (mid + count after) (turn.before ++ turn.whole ++ turn.behind) turn.others
+    (append m mid mid (turn.before ++ turn.whole) turn.behind (append m m mid turn.before turn.whole xs_rise middle_rise) es_rise) ws_rise)
 
 pub steps_rise : (p : Tree) → IsNumbered p.root → Rises 0 (1 + count p.root.children) (steps p)
 steps_rise p h =
