@@ -1,5 +1,5 @@
 -- The names that the steps of a program give are those that its nodes give.
-use Rattle.std.proofs.Common.{◌≡◌, ℕ, ◌+◌, List, [], ◌∷◌, ◌++◌, Option, Some, None, Bool, true, false, not, ◌&&◌, cond, map, flat_map, refl, sym, ap, ◌∙◌}
+use Rattle.std.proofs.Common.{◌≡◌, ℕ, List, [], ◌∷◌, ◌++◌, Option, None, Bool, true, false, cond, map, flat_map, refl, sym, ap, ◌∙◌}
 use Rattle.std.proofs.lemmas.List.{append-nil, map-append}
 use Rattle.semantic_kinds.specs.declared.kind.AstType.TheVariants as kind
 use Rattle.semantic_kinds.specs.declared.role.Role.{Role}
@@ -8,12 +8,12 @@ use Rattle.semantic_tree.specs.Forest.{Forest, nothing, tree}
 use Rattle.semantic_tree.specs.Tree.{Tree}
 use Rattle.semantic_tree.specs.declared.node.Node.{Node}
 use Rattle.semantic_model.specs.Cursor.{on_entering}
-use Rattle.semantic_model.specs.Inside.{opens, is_inside, any_inside, header_roles, is_in_header, scopes_in}
 use Rattle.semantic_model.specs.Names.{bound_names}
-use Rattle.semantic_tree.specs.Views.{is, has_role, children_of}
+use Rattle.semantic_tree.specs.Views.{is, children_of}
 use Rattle.semantic_model.specs.Place.{Place, OpenScope}
-use Rattle.semantic_model.specs.ScopeKind.{opened_scope}
-use Rattle.semantic_model.specs.Step.{Step, entering, opening, header_ending, closing, leaving, steps_below, steps, opening_at, ending_after, opening_last, scope_at, next_at, child_place, cursor_past, root_place}
+use Rattle.semantic_model.specs.Step.{Step, entering, opening, header_ending, closing, leaving, steps_below, steps, opening_at, ending_after, opening_last, root_place}
+use Rattle.semantic_model.proofs.steps.TurnCases.{opening_case, ending_case, last_case}
+use Rattle.semantic_model.proofs.steps.Turn.{Turn, turn_at}
 use Rattle.semantic_model.proofs.steps.Compose.{flat-append}
 use Rattle.program_names.specs.Exported.{is_default_declaration, exported_names, default_exported_names}
 use Rattle.node_symbols.specs.declared.exports.Export.{Export}
@@ -33,30 +33,13 @@ given_at e (leaving p) = []
 
 module _ (e : Export) where
   none_open : (p : Place) (r : Role) (own : Option OpenScope) (n : ℕ) → flat_map (given_at e) (opening_at p r own n) ≡ []
-  none_open p r (Some s) n = refl
-  none_open p r None n = go (is_inside p.node.kind r)
-    where
-      go : (b : Bool) → flat_map (given_at e) (cond b (opening p (opened_scope p n) ∷ []) []) ≡ []
-      go true = refl
-      go false = refl
+  none_open p r own n = opening_case (λ ss. flat_map (given_at e) ss ≡ []) p r own n refl refl
 
   none_last : (p : Place) (own : Option OpenScope) (n : ℕ) → flat_map (given_at e) (opening_last p own n) ≡ []
-  none_last p (Some s) n = refl
-  none_last p None n = go (opens p.node.kind)
-    where
-      go : (b : Bool) → flat_map (given_at e) (cond b (opening p (opened_scope p n) ∷ closing p (opened_scope p n) ∷ []) []) ≡ []
-      go true = refl
-      go false = refl
+  none_last p own n = last_case (λ ss. flat_map (given_at e) ss ≡ []) p own n refl refl
 
   none_ended : (p : Place) (r : Role) (own : Option OpenScope) (after : Forest) → flat_map (given_at e) (ending_after p r own after) ≡ []
-  none_ended p r None after = refl
-  none_ended p r (Some s) after = go (is_in_header p.node.kind r && not (has_role (header_roles p.node.kind) after)) (is_inside p.node.kind r && not (any_inside p.node.kind after))
-    where
-      go : (a b : Bool) → flat_map (given_at e) (cond a (header_ending p s ∷ []) [] ++ cond b (closing p s ∷ []) []) ≡ []
-      go true true = refl
-      go true false = refl
-      go false true = refl
-      go false false = refl
+  none_ended p r own after = ending_case (λ ss. flat_map (given_at e) ss ≡ []) p r own after refl (λ s. refl) (λ s. refl) (λ s. refl)
 
   -- what a child gives, and then the others
   turn : (xs ys es ws : List Step) (child : Place) → flat_map (given_at e) xs ≡ [] → flat_map (given_at e) es ≡ []
@@ -76,15 +59,9 @@ module _ (e : Export) where
   steps_give p own n cursor nothing = none_last p own n
   steps_give p own n cursor (tree r k span text marks below id after) =
       let node : Node = record { kind = k; span = span; text = text; marks = marks; children = below; node_id = id } in
-      let scope : Option OpenScope = scope_at p r own n in
-      let next : ℕ = next_at p r own n in
-      let child : Place = child_place p scope cursor r node in
-      let ys : List Step = steps_below child None next (on_entering k child.cursor) below in
-      let m : ℕ = next + cond (opens k) 1 0 + scopes_in below in
-      let past : ℕ = cursor_past p r cursor child in
-      let ws : List Step = steps_below p scope m past after in
-      turn (opening_at p r own n) ys (ending_after p r scope after) ws child (none_open p r own n) (none_ended p r scope after)
-      ∙ (λ i. given_names e node ++ steps_give child None next (on_entering k child.cursor) below i ++ steps_give p scope m past after i)
+      let parts : Turn = turn_at p own n cursor r node after in
+      turn parts.before parts.below parts.behind parts.others parts.child (none_open p r own n) (none_ended p r parts.scope after)
+      ∙ (λ i. given_names e node ++ steps_give parts.child None parts.next parts.inner below i ++ steps_give p parts.scope parts.rest parts.past after i)
 
   program_gives : (p : Tree) → flat_map (given_at e) (steps p) ≡ given_from e p.root
   program_gives p =
