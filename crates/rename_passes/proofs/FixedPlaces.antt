@@ -1,5 +1,5 @@
 -- The first node that fixes a name, among the steps of a program and among the nodes of its tree.
-use Rattle.std.proofs.Common.{◌≡◌, ℕ, ◌+◌, List, [], ◌∷◌, ◌++◌, Option, Some, None, Bool, true, false, not, ◌&&◌, ◌||◌, cond, refl, sym, ap, ◌∙◌}
+use Rattle.std.proofs.Common.{◌≡◌, ℕ, List, [], ◌∷◌, ◌++◌, Option, Some, None, Bool, true, false, ◌&&◌, ◌||◌, cond, refl, sym, ap, ◌∙◌}
 use Rattle.semantic_kinds.specs.declared.role.Role.{Role}
 use Rattle.semantic_tree.specs.Faults.{first_where}
 use Rattle.semantic_tree.specs.Forest.{Forest, nothing, tree}
@@ -9,12 +9,11 @@ use Rattle.semantic_tree.specs.declared.node.Node.{Node}
 use Rattle.semantic_tree.specs.declared.place.Place as placed
 use Rattle.semantic_tree.proofs.Faults.{or_else, first_where-append}
 use Rattle.semantic_model.specs.Cursor.{on_entering}
-use Rattle.semantic_syntax.specs.Members.{contains}
-use Rattle.semantic_model.specs.Inside.{opens, is_inside, any_inside, header_roles, is_in_header, scopes_in}
-use Rattle.semantic_tree.specs.Views.{has_role}
+use Rattle.semantic_model.specs.Declaration.{contains}
 use Rattle.semantic_model.specs.Place.{Place, OpenScope}
-use Rattle.semantic_model.specs.ScopeKind.{opened_scope}
-use Rattle.semantic_model.specs.Step.{Step, entering, opening, header_ending, closing, leaving, steps_below, steps, opening_at, ending_after, opening_last, scope_at, next_at, child_place, cursor_past, root_place}
+use Rattle.semantic_model.specs.Step.{Step, entering, leaving, steps_below, steps, opening_at, ending_after, opening_last, root_place}
+use Rattle.semantic_model.proofs.steps.TurnCases.{opening_case, ending_case, last_case}
+use Rattle.semantic_model.proofs.steps.Turn.{Turn, turn_at}
 use Rattle.rename_model.specs.Refusal.{fixes_name, node_in, first_fixed}
 use Rattle.rename_passes.specs.Fixing.{names_property_at, fixes_at}
 
@@ -36,30 +35,13 @@ module _ (exported : List ℕ) (chosen : ℕ → Bool) where
   first_append (x ∷ xs) ys = ap (λ o. cond (fixes_name exported chosen x) (Some (node_in x)) o) (first_append xs ys) ∙ either_first (fixes_name exported chosen x) (node_in x) (first_in xs) (first_in ys)
 
   none_open : (p : Place) (r : Role) (own : Option OpenScope) (n : ℕ) → first_in (opening_at p r own n) ≡ None
-  none_open p r (Some s) n = refl
-  none_open p r None n = go (is_inside p.node.kind r)
-    where
-      go : (b : Bool) → first_fixed exported chosen (cond b (opening p (opened_scope p n) ∷ []) []) ≡ None
-      go true = refl
-      go false = refl
+  none_open p r own n = opening_case (λ ss. first_in ss ≡ None) p r own n refl refl
 
   none_last : (p : Place) (own : Option OpenScope) (n : ℕ) → first_in (opening_last p own n) ≡ None
-  none_last p (Some s) n = refl
-  none_last p None n = go (opens p.node.kind)
-    where
-      go : (b : Bool) → first_fixed exported chosen (cond b (opening p (opened_scope p n) ∷ closing p (opened_scope p n) ∷ []) []) ≡ None
-      go true = refl
-      go false = refl
+  none_last p own n = last_case (λ ss. first_in ss ≡ None) p own n refl refl
 
   none_ended : (p : Place) (r : Role) (own : Option OpenScope) (after : Forest) → first_in (ending_after p r own after) ≡ None
-  none_ended p r None after = refl
-  none_ended p r (Some s) after = go (is_in_header p.node.kind r && not (has_role (header_roles p.node.kind) after)) (is_inside p.node.kind r && not (any_inside p.node.kind after))
-    where
-      go : (a b : Bool) → first_fixed exported chosen (cond a (header_ending p s ∷ []) [] ++ cond b (closing p s ∷ []) []) ≡ None
-      go true true = refl
-      go true false = refl
-      go false true = refl
-      go false false = refl
+  none_ended p r own after = ending_case (λ ss. first_in ss ≡ None) p r own after refl (λ s. refl) (λ s. refl) (λ s. refl)
 
   -- the child itself, what is below it, and then the others
   turn : (xs ys es ws : List Step) (child : Place) → first_in xs ≡ None → first_in es ≡ None
@@ -82,16 +64,10 @@ module _ (exported : List ℕ) (chosen : ℕ → Bool) where
   fixed_below place p own n cursor nothing = none_last p own n
   fixed_below place p own n cursor (tree r k span text marks below id after) =
       let node : Node = record { kind = k; span = span; text = text; marks = marks; children = below; node_id = id } in
-      let scope : Option OpenScope = scope_at p r own n in
-      let next : ℕ = next_at p r own n in
-      let child : Place = child_place p scope cursor r node in
+      let parts : Turn = turn_at p own n cursor r node after in
       let here : placed.Place = tree_child place p.node.kind r in
-      let ys : List Step = steps_below child None next (on_entering k child.cursor) below in
-      let m : ℕ = next + cond (opens k) 1 0 + scopes_in below in
-      let past : ℕ = cursor_past p r cursor child in
-      let ws : List Step = steps_below p scope m past after in
-      turn (opening_at p r own n) ys (ending_after p r scope after) ws child (none_open p r own n) (none_ended p r scope after)
-      ∙ (λ i. or_else (cond (test here node) (Some id) (fixed_below here child None next (on_entering k child.cursor) below i)) (fixed_below place p scope m past after i))
+      turn parts.before parts.below parts.behind parts.others parts.child (none_open p r own n) (none_ended p r parts.scope after)
+      ∙ (λ i. or_else (cond (test here node) (Some id) (fixed_below here parts.child None parts.next parts.inner below i)) (fixed_below place p parts.scope parts.rest parts.past after i))
       ∙ sym (
       ap (λ o. cond (test here node) (Some id) o) (first_where-append test (placed_below here k below) (placed_below place p.node.kind after))
       ∙ either_first (test here node) id (first_where test (placed_below here k below)) (first_where test (placed_below place p.node.kind after)))
