@@ -12,3 +12,8 @@ pub mod TreeNodes
 pub mod Walked
 pub mod DeclaredNodes
 pub mod NodeNames
+pub mod FormedNodes
+pub mod FitChildren
+pub mod BindingParts
+pub mod BoundAlike
+pub mod ComputedNames

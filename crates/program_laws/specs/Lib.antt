@@ -2,3 +2,4 @@ pub mod Remarked
 pub mod ReadMarks
 pub mod SameAnalysis
 pub mod SymbolNames
+pub mod NamesAlike
