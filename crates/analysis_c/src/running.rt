@@ -5,7 +5,8 @@ ghost use Rattle.analysis_c.specs.Answers.{Answers};
 
 use crate::ends::BytesSource;
 use crate::words::words_of;
-use report::{ReportStatus, refuse_words, run, tell};
+use program_ends::tell;
+use report::{ReportStatus, refuse_words, run};
 use report_ends::{ReportError, SureSink};
 use std::alloc::Global;
 

@@ -1,5 +1,5 @@
 -- What is read of an input.
-use Rattle.std.proofs.Common.{◌≡◌, ℕ, List, Option, Some, Result, Ok, Err, subst, sym}
+use Rattle.std.proofs.Common.{◌≡◌, ℕ, List, Result, Ok, Err, subst, sym}
 use Rattle.std.specs.Result.{IsErrAnd, IfOk, IfErr}
 use Rattle.report_ends.specs.Causes.{Rose}
 use Rattle.report_ends.specs.Streams.{IsReadWhole, HadAtMost, HadMoreThan, ReadCause}
@@ -37,11 +37,6 @@ stopped_no_set P cause (Err told) same = tt
 stopped_no_set P cause (Ok x) same = absurd same
 
 -- ---- an input that is read whole
-
--- an input is what the source had
-pub input_is : (left new : Option (List ℕ)) (items input : List ℕ) → left ≡ Some input → IsReadWhole left new items → items ≡ input
-input_is left new items input told whole =
-    let known : IsReadWhole (Some input) new items = subst (λ l. IsReadWhole l new items) told whole in known.0
 
 -- the modules of the input are found
 pub finds : (source : SourceCall) (bytes : List ℕ) (ms : List Module) → IsReadWhole source.left source.left_then bytes → HadAtMost 67108864 source.left → StandsForSet bytes ms → Finds StandsForSet source ms

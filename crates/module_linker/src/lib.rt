@@ -18,4 +18,4 @@ pub use report_ends::{
     Writing,
 };
 pub use status::LinkStatus;
-pub use stops::{finish, refuse_words, tell_memory};
+pub use stops::USAGE;

@@ -2,8 +2,9 @@
 ghost use Rattle.std.specs.Prelude.{◌≡◌};
 ghost use Rattle.program_ends.specs.Codes.{code_of};
 ghost use Rattle.module_linker.specs.Codes.{end_of};
+ghost use Rattle.module_linker.specs.declared.status.LinkStatus.{LinkStatus};
 
-use program_ends::Stop;
+use program_ends::{Status, Stop};
 
 /// How the program ends.
 #[derive(Clone, Copy, Debug, PartialEq, Eq)]
@@ -29,19 +30,20 @@ pub enum LinkStatus {
 impl LinkStatus {
     /// The exit status, from 0 to 7.
     pub fn code(self) -> u8
-        ensures { result ≡ code_of (end_of self) }
+        ensures code { result ≡ code_of (end_of self) }
+        // No other status has it.
+        ensures own { (other : LinkStatus) → code_of (end_of other) ≡ result → other ≡ self }
     {
         self as u8
     }
 }
 
-impl From<Stop> for LinkStatus {
-    ghost use Rattle.program_ends.specs.Meaning.{end_of_stop};
+impl Status for LinkStatus {
     ghost use Rattle.module_linker.specs.Codes.{end_of};
 
-    ghost from_gives = { λ stop status. end_of status ≡ end_of_stop stop };
+    ghost end_of = { end_of };
 
-    fn from(stop: Stop) -> Self {
+    fn of_stop(stop: Stop) -> Self {
         match stop {
             Stop::Usage => LinkStatus::Usage,
             Stop::Tree => LinkStatus::Tree,
@@ -50,5 +52,9 @@ impl From<Stop> for LinkStatus {
             Stop::Write => LinkStatus::Write,
             Stop::Memory => LinkStatus::Memory,
         }
+    }
+
+    fn is_answer(self) -> bool {
+        matches!(self, LinkStatus::Done | LinkStatus::Found)
     }
 }

@@ -1,8 +1,7 @@
 //! Tells why the program stopped.
 ghost use Rattle.std.specs.Prelude.{◌≡◌, IfOk, string_bytes};
 ghost use Rattle.program_ends.specs.Calls.{sink_call};
-ghost use Rattle.program_ends.specs.Ending.{TellsEnd, Finishes};
-ghost use Rattle.program_ends.specs.Lines.{memory_line};
+ghost use Rattle.program_ends.specs.Ending.{TellsEnd};
 ghost use Rattle.module_linker.specs.Lines.{place_line, module_line, tree_refused_line, cause_line, usage_line};
 ghost use Rattle.module_linker.specs.Telling.{stop_of_refusal, failure_line, failure_stop};
 ghost use Rattle.module_linker.specs.Codes.{end_of};
@@ -10,8 +9,8 @@ ghost use Rattle.module_linker.specs.Codes.{end_of};
 use crate::failure::LinkFailure;
 use crate::status::LinkStatus;
 use module_set::LinkError;
-use program_ends::{Stop, numbered_line, tell, tell_stop, tree_line};
-use report_ends::{ReportError, Sink, WriteFault};
+use program_ends::{Status, Stop, numbered_line, refuse, tell, tell_stop, tree_line};
+use report_ends::Sink;
 use semantic_syntax::NodeId;
 use semantic_tree::TreeError;
 use std::alloc::{AllocError, Global};
@@ -78,7 +77,7 @@ fn tell_refusal<E: Sink>(alloc: Global, error: &LinkError, errs: &mut E) -> Link
     ensures { TellsEnd (sink_call E.held E.faults errs.old errs.new) (cause_line error.now) (stop_of_refusal error.now) (end_of result) }
 {
     match cause_line(alloc, error) {
-        Ok(line) => LinkStatus::from(tell_stop(&line, stop_of_refusal(error), errs)),
+        Ok(line) => LinkStatus::of_stop(tell_stop(&line, stop_of_refusal(error), errs)),
         Err(_) => LinkStatus::Memory,
     }
 }
@@ -94,43 +93,16 @@ pub(crate) fn tell_failure<E: Sink>(
 {
     match failure {
         LinkFailure::Refused(error) => tell_refusal(alloc, error, errs),
-        LinkFailure::Stopped(error) => LinkStatus::from(tell(alloc, error, errs)),
+        LinkFailure::Stopped(error) => tell(alloc, error, errs),
     }
 }
 
-const USAGE: &str = "usage: module_linker\n";
+/// The line on words, for which there is no use.
+pub const USAGE: &str = "usage: module_linker\n";
 
 /// Answers words, for which there is no use.
-pub fn refuse_words<E: Sink>(errs: &mut E) -> LinkStatus
+pub(crate) fn refuse_words<E: Sink>(errs: &mut E) -> LinkStatus
     ensures { TellsEnd (sink_call E.held E.faults errs.old errs.new) usage_line Stop.Usage (end_of result) }
 {
-    LinkStatus::from(tell_stop(USAGE, Stop::Usage, errs))
-}
-
-/// Tells that memory is wanting.
-pub fn tell_memory<E: Sink>(alloc: Global, errs: &mut E) -> LinkStatus
-    ensures { TellsEnd (sink_call E.held E.faults errs.old errs.new) memory_line Stop.Memory (end_of result) }
-{
-    LinkStatus::from(tell(alloc, &ReportError::Memory, errs))
-}
-
-/// The status once the last bytes that a buffer kept are handed on. A fault in that is told where all went well before,
-/// and gives `Write`, or `Memory`.
-pub fn finish<E: Sink>(
-    alloc: Global,
-    status: LinkStatus,
-    flushed: Result<(), WriteFault>,
-    errs: &mut E,
-) -> LinkStatus
-    ensures { Finishes (sink_call E.held E.faults errs.old errs.new) (end_of status) flushed (end_of result) }
-{
-    match flushed {
-        Ok(()) => status,
-        Err(fault) => match status {
-            LinkStatus::Done | LinkStatus::Found => {
-                LinkStatus::from(tell(alloc, &ReportError::from(fault), errs))
-            }
-            other => other,
-        },
-    }
+    refuse(USAGE, errs)
 }

@@ -1,5 +1,5 @@
 -- What the program has done at its end.
-use Rattle.std.proofs.Common.{◌≡◌, ◌⊎◌, inl, inr, ℕ, List, [], ◌∷◌, Bool, true, false, IsTrue, ◌↔◌, Some, String, Ok, Err, subst, sym, ap, ◌∙◌, refl}
+use Rattle.std.proofs.Common.{◌≡◌, ℕ, List, [], ◌∷◌, Bool, true, false, IsTrue, ◌↔◌, Some, String, Ok, Err, subst, sym, ap, ◌∙◌, refl}
 use Rattle.std.specs.declared.alloc.Global.{Global}
 use Rattle.semantic_tree.specs.Tree.{Tree}
 use Rattle.report_ends.specs.declared.error.ReportError.{ReportError}
@@ -8,11 +8,11 @@ use Rattle.program_ends.specs.Calls.{SourceCall, SinkCall, Unread, Untouched}
 use Rattle.program_ends.specs.Completeness.{IsClear, IsNotRefused, IsDoneOrMemory}
 use Rattle.program_ends.specs.Ending.{TellsEnd}
 use Rattle.program_ends.specs.Lines.{tree_line, line_of}
-use Rattle.program_ends.specs.Meaning.{End, Finds, Answered, MeansOf}
+use Rattle.program_ends.specs.Meaning.{Finds, is_answer}
 use Rattle.program_ends.specs.Reads.{Stands, RefusedFor}
 use Rattle.program_ends.specs.Telling.{stop_of}
 use Rattle.program_ends.specs.declared.stops.Stop.TheVariants as stop
-use Rattle.program_ends.proofs.Endings.{ends_usage, ends_told, memory_ends}
+use Rattle.program_ends.proofs.Endings.{ends_usage, ends_answered, ends_told, answer_ends, memory_ends}
 use Rattle.program_ends.proofs.Meanings.{clear_reading}
 use Rattle.name_uses.specs.Known.{names_of}
 use Rattle.name_uses.specs.Undeclared.{undeclared}
@@ -21,7 +21,6 @@ use Rattle.name_lint.specs.Meaning.{Answers, Ends, RefusesNone, Means}
 use Rattle.name_lint.specs.Telling.{usage_line}
 use Rattle.name_lint.specs.Words.{AreNames}
 use Rattle.name_lint.specs.declared.status.NamesStatus.{NamesStatus}
-use Rattle.name_lint.specs.declared.status.NamesStatus.TheVariants as status
 
 -- ---- the meaning of the status
 
@@ -29,29 +28,23 @@ use Rattle.name_lint.specs.declared.status.NamesStatus.TheVariants as status
 pub refused_by : {P : Type 0} (test : Bool) → IsTrue test ↔ P → test ≡ false → P → ⊥
 refused_by test both off p = let on : test ≡ true = both.1 p in absurd (cc)
 
-done_or_found : (unused undeclared : List ℕ) → (status_for unused undeclared ≡ status.Done) ⊎ (status_for unused undeclared ≡ status.Found)
-done_or_found [] [] = inl refl
-done_or_found [] (r ∷ rs) = inr refl
-done_or_found (y ∷ ys) rs = inr refl
+is_answer_for : (unused undeclared : List ℕ) → is_answer (end_of (status_for unused undeclared)) ≡ true
+is_answer_for [] [] = refl
+is_answer_for [] (r ∷ rs) = refl
+is_answer_for (y ∷ ys) rs = refl
+
+is_answered : (words : List (String Global)) (source : SourceCall) (out : SinkCall) (result : NamesStatus) → Ends words source out (Ok result) → is_answer (end_of result) ≡ true
+is_answered words source out result whole = ap is_answer whole.answers.ends ∙ is_answer_for whole.answers.unused (undeclared (names_of words) whole.what)
 
 module _ (source : SourceCall) (out errs : SinkCall) (words : List (String Global)) where
-  -- what the program has done at an end
-  abbrev MeansAt : End → Type 0
-  MeansAt end = MeansOf (AreNames words) (AreNames words) usage_line (Finds Stands) RefusedFor tree_line (Answers words) RefusesNone source out errs end
-
   -- the words are refused
   pub means_refused : (result : NamesStatus) → (AreNames words → ⊥) → Unread source → Untouched out → TellsEnd errs usage_line stop.Usage (end_of result) → Means source out errs words result
-  means_refused result not_names unread untouched tells = ends_usage (AreNames words) (AreNames words) usage_line (Finds Stands) (Answers words) RefusesNone source out errs (end_of result) not_names unread untouched tells
-
-  answered : (end : End) → AreNames words → Answered (Finds Stands) (Answers words) source out end → (end ≡ end_of status.Done) ⊎ (end ≡ end_of status.Found) → Untouched errs → MeansAt end
-  answered end asked whole (inl done) untouched = subst MeansAt (sym done) (asked, subst (Answered (Finds Stands) (Answers words) source out) done whole, untouched)
-  answered end asked whole (inr found) untouched = subst MeansAt (sym found) (asked, subst (Answered (Finds Stands) (Answers words) source out) found whole, untouched)
+  means_refused result not_names unread untouched tells = ends_usage (AreNames words) (AreNames words) usage_line (Finds Stands) RefusedFor tree_line (Answers words) RefusesNone source out errs (end_of result) not_names unread untouched tells
 
   -- the lines are written
   pub means_answered : (result : NamesStatus) → AreNames words → Ends words source out (Ok result) → Untouched errs → Means source out errs words result
   means_answered result asked whole untouched =
-      answered (end_of result) asked whole
-      (elim (done_or_found whole.answers.unused (undeclared (names_of words) whole.what)) [ inl done ↦ inl (whole.answers.ends ∙ ap end_of done) | inr found ↦ inr (whole.answers.ends ∙ ap end_of found) ]) untouched
+      ends_answered (AreNames words) (AreNames words) usage_line (Finds Stands) RefusedFor tree_line (Answers words) RefusesNone source out errs (end_of result) asked whole (is_answered words source out result whole) untouched
 
   -- why they aren't is told
   pub means_stopped : (cause : ReportError) (result : NamesStatus) → AreNames words → Ends words source out (Err cause) → TellsEnd errs (line_of cause) (stop_of cause) (end_of result) → Means source out errs words result
@@ -59,13 +52,8 @@ module _ (source : SourceCall) (out errs : SinkCall) (words : List (String Globa
 
 -- ---- completeness
 
-done_for : (unused undeclared : List ℕ) → IsDoneOrMemory (end_of (status_for unused undeclared))
-done_for [] [] = tt
-done_for [] (r ∷ rs) = tt
-done_for (y ∷ ys) rs = tt
-
 pub answered_done : (words : List (String Global)) (source : SourceCall) (out : SinkCall) (result : NamesStatus) → Ends words source out (Ok result) → IsDoneOrMemory (end_of result)
-answered_done words source out result whole = subst IsDoneOrMemory (sym whole.answers.ends) (done_for whole.answers.unused (undeclared (names_of words) whole.what))
+answered_done words source out result whole = answer_ends (end_of result) (is_answered words source out result whole)
 
 pub clear_stopped : (words : List (String Global)) (source : SourceCall) (out errs : SinkCall) (cause : ReportError) (result : NamesStatus) → IsClear source out → ((input : List ℕ) (program : Tree) → source.left ≡ Some input → Stands input program → IsNotRefused cause) → Ends words source out (Err cause)
     → TellsEnd errs (line_of cause) (stop_of cause) (end_of result) → IsDoneOrMemory (end_of result)

@@ -5,10 +5,8 @@ mod finding;
 mod name_lines;
 mod program;
 mod status;
-mod stops;
 
 pub use finding::find_names;
 pub use name_uses::{NameReport, ReferenceIdList, SymbolIdList};
-pub use program::run_names;
+pub use program::{USAGE, run_names};
 pub use status::NamesStatus;
-pub use stops::{finish, refuse_words, tell};

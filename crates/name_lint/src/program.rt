@@ -9,18 +9,19 @@ ghost use Rattle.name_uses.specs.Gathered.{text_of, span_of};
 ghost use Rattle.program_ends.specs.Answering.{WritesAll};
 ghost use Rattle.program_ends.specs.Calls.{source_call, sink_call};
 ghost use Rattle.program_ends.specs.Completeness.{IsClear, IsNotRefused, IsDoneOrMemory, IsUsageOrMemory};
+ghost use Rattle.program_ends.specs.Ending.{TellsEnd};
 ghost use Rattle.program_ends.specs.Reads.{Stands};
 ghost use Rattle.name_lint.specs.Codes.{status_for, end_of};
 ghost use Rattle.name_lint.specs.Lines.{name_lines};
 ghost use Rattle.name_lint.specs.Meaning.{GivesAnswer, Ends, Means};
+ghost use Rattle.name_lint.specs.Telling.{usage_line};
 ghost use Rattle.name_lint.specs.Words.{AreNames};
 
 use crate::finding::drop_analysis;
 use crate::name_lines::write_names;
 use crate::status::NamesStatus;
-use crate::stops::{refuse_words, tell};
 use name_uses::{NameReport, TreePass, names_by};
-use program_ends::read_program_from;
+use program_ends::{Stop, read_program_from, refuse, tell};
 use report_ends::{ReportError, Sink, Source};
 use scoping::{NodeTables, Scoping};
 use semantic::SemanticBuilder;
@@ -124,6 +125,16 @@ fn answer_input<S: Source, K: Sink>(
 {
     let program = read_program_from(alloc, source)?;
     answer(alloc, words, &program, out)
+}
+
+/// The line on words that aren't names, or can't be had.
+pub const USAGE: &str = "usage: name_lint [NAME ..]\n";
+
+/// Answers words that aren't names.
+fn refuse_words<E: Sink>(errs: &mut E) -> NamesStatus
+    ensures { TellsEnd (sink_call E.held E.faults errs.old errs.new) usage_line Stop.Usage (end_of result) }
+{
+    refuse(USAGE, errs)
 }
 
 /// Does all that the program does: it reads the whole input, which is a program's tree as JSON, and writes to `out` the

@@ -2,8 +2,9 @@
 ghost use Rattle.std.specs.Prelude.{◌≡◌};
 ghost use Rattle.program_ends.specs.Codes.{code_of};
 ghost use Rattle.name_lint.specs.Codes.{end_of};
+ghost use Rattle.name_lint.specs.declared.status.NamesStatus.{NamesStatus};
 
-use program_ends::Stop;
+use program_ends::{Status, Stop};
 
 /// How the program ends.
 #[derive(Clone, Copy, Debug, PartialEq, Eq)]
@@ -29,19 +30,20 @@ pub enum NamesStatus {
 impl NamesStatus {
     /// The exit status, from 0 to 7.
     pub fn code(self) -> u8
-        ensures { result ≡ code_of (end_of self) }
+        ensures code { result ≡ code_of (end_of self) }
+        // No other status has it.
+        ensures own { (other : NamesStatus) → code_of (end_of other) ≡ result → other ≡ self }
     {
         self as u8
     }
 }
 
-impl From<Stop> for NamesStatus {
-    ghost use Rattle.program_ends.specs.Meaning.{end_of_stop};
+impl Status for NamesStatus {
     ghost use Rattle.name_lint.specs.Codes.{end_of};
 
-    ghost from_gives = { λ stop status. end_of status ≡ end_of_stop stop };
+    ghost end_of = { end_of };
 
-    fn from(stop: Stop) -> Self {
+    fn of_stop(stop: Stop) -> Self {
         match stop {
             Stop::Usage => NamesStatus::Usage,
             Stop::Tree => NamesStatus::Tree,
@@ -50,5 +52,9 @@ impl From<Stop> for NamesStatus {
             Stop::Write => NamesStatus::Write,
             Stop::Memory => NamesStatus::Memory,
         }
+    }
+
+    fn is_answer(self) -> bool {
+        matches!(self, NamesStatus::Done | NamesStatus::Found)
     }
 }

@@ -17,10 +17,7 @@ writes_not_all held faults old new text status cause (Ok given) writes same = ab
 
 no_refusal : (rose : Type 0) (cause : ReportError) → WriteCause rose cause → IsNotRefused cause
 no_refusal rose (error.Tree refusal) why = absurd why
-no_refusal rose error.TooLong why = tt
-no_refusal rose error.Read why = tt
-no_refusal rose error.Write why = tt
-no_refusal rose error.Memory why = tt
+no_refusal rose other why = tt
 
 module _ {K S Input : Type 0} (held : K → Option (List ℕ)) (faults : K → ℕ) (end_of : S → End) (Answers : End → Input → List ℕ → Type 0) (what : Input) where
   -- memory was wanting before there was an answer

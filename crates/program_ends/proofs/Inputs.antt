@@ -22,12 +22,8 @@ use Rattle.program_ends.specs.Meaning.{Finds, NotFound}
 use Rattle.program_ends.specs.Completeness.{IsNotRefused}
 
 refused_cause : (input : List ℕ) (cause : TreeError) → (¬ (IsWantOfMemory cause) → Refuses (reading input) cause) → InputCause input (error_of_tree cause)
-refused_cause input tree.NotJson why = record { other = λ h. h; why = why (λ h. h) }
-refused_cause input (tree.Shape place) why = record { other = λ h. h; why = why (λ h. h) }
-refused_cause input tree.TooMany why = record { other = λ h. h; why = why (λ h. h) }
-refused_cause input (tree.TooDeep node) why = record { other = λ h. h; why = why (λ h. h) }
-refused_cause input (tree.Span fault) why = record { other = λ h. h; why = why (λ h. h) }
 refused_cause input (tree.Memory wanting) why = tt
+refused_cause input other why = record { other = λ h. h; why = why (λ h. h) }
 
 -- the reader's refusal is the input's
 pub refused_input : {T : Type 0} (input : List ℕ) (cause : TreeError) (result : Result T ReportError) → (¬ (IsWantOfMemory cause) → Refuses (reading input) cause) → IsErrAnd result (λ told. told ≡ error_of_tree cause) → IfErr result (InputCause input)
@@ -38,11 +34,7 @@ refused_input input cause (Ok x) why same = tt
 pub memory_told : {T : Type 0} (cause : TreeError) (result : Result T ReportError) → IsWantOfMemory cause → IsErrAnd result (λ told. told ≡ error_of_tree cause) → IfErr result (λ told. told ≡ error.Memory)
 memory_told (tree.Memory wanting) (Err told) memory same = same
 memory_told (tree.Memory wanting) (Ok x) memory same = tt
-memory_told tree.NotJson result memory same = absurd memory
-memory_told (tree.Shape place) result memory same = absurd memory
-memory_told tree.TooMany result memory same = absurd memory
-memory_told (tree.TooDeep node) result memory same = absurd memory
-memory_told (tree.Span fault) result memory same = absurd memory
+memory_told other result memory same = absurd memory
 
 -- where the reader is complete, it reads a program from an input that stands for it
 pub reads_form : (bytes input : List ℕ) (p : Tree) (result : Result Tree TreeError) → ((d : Data) (q : Tree) → IsUtf8 bytes → read bytes ≡ Some d → IsWrittenForm d q → IsNumbered q.root → IsShaped q → IsReadAs q result)
@@ -67,10 +59,7 @@ not_read source cause (Ok x) why same = tt
 
 unread_no_refusal : (rose longer : Type 0) (cause : ReportError) → ReadCause rose longer cause → IsNotRefused cause
 unread_no_refusal rose longer (error.Tree refusal) why = absurd why
-unread_no_refusal rose longer error.TooLong why = tt
-unread_no_refusal rose longer error.Read why = tt
-unread_no_refusal rose longer error.Write why = tt
-unread_no_refusal rose longer error.Memory why = tt
+unread_no_refusal rose longer other why = tt
 
 -- an input that isn't read whole isn't refused
 pub not_read_no_refusal : {T : Type 0} (rose longer : Type 0) (cause : ReportError) (result : Result T ReportError) → ReadCause rose longer cause → IsErrAnd result (λ told. told ≡ cause) → IfErr result IsNotRefused

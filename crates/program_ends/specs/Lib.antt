@@ -7,3 +7,4 @@ pub mod Codes
 pub mod Ending
 pub mod Answering
 pub mod Completeness
+pub mod Running

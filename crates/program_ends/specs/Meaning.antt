@@ -1,5 +1,5 @@
 -- What each end of a program means, whatever the program does.
-use Rattle.std.specs.Prelude.{◌⊎◌, ℕ, List}
+use Rattle.std.specs.Prelude.{◌⊎◌, ℕ, List, Bool, true, false}
 use Rattle.std.specs.Io.KnownBytes.{Appends}
 use Rattle.report_ends.specs.Causes.{Rose}
 use Rattle.report_ends.specs.Streams.{IsReadWhole, HadMoreThan, HadAtMost, AppendsPrefix}
@@ -24,6 +24,12 @@ pub data End : Type 0 where
   memory : End
   -- what was asked of a good input is refused
   refused : End
+
+-- the program has answered
+abbrev pub is_answer : End → Bool
+is_answer done = true
+is_answer found = true
+is_answer other = false
 
 abbrev pub end_of_stop : Stop → End
 end_of_stop stop.Usage = usage

@@ -1,10 +1,13 @@
-//! What programs share: their words, the way from bytes to a tree, and the lines on what stops them.
+//! What programs share: how they run over the real ends, the way from bytes to a tree, the lines on what stops them, and
+//! what their statuses stand for.
 #![tactic(auto)]
 
 mod input;
+mod standard;
+mod status;
 mod stops;
-mod words;
 
 pub use input::read_program_from;
-pub use stops::{Stop, numbered_line, tell, tell_line, tell_stop, tree_line};
-pub use words::words_of;
+pub use standard::run_over_standard_ends;
+pub use status::{Status, finish, refuse, tell};
+pub use stops::{Stop, numbered_line, tell_line, tell_stop, tree_line};

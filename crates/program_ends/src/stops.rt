@@ -106,7 +106,7 @@ fn error_line(alloc: Global, error: &ReportError) -> Result<String, AllocError>
 
 /// Tells an error's line, and answers its stop, or that memory is wanting. The sink has taken a prefix of the line
 /// then, and also where it failed.
-pub fn tell<E: Sink>(alloc: Global, error: &ReportError, errs: &mut E) -> Stop
+pub(crate) fn tell_error<E: Sink>(alloc: Global, error: &ReportError, errs: &mut E) -> Stop
     ensures { Tells (sink_call E.held E.faults errs.old errs.new) (line_of error.now) (stop_of error.now) result }
 {
     match error_line(alloc, error) {

@@ -5,9 +5,10 @@ use Rattle.report_ends.specs.declared.error.ReportError.TheVariants as error
 use Rattle.program_ends.specs.Calls.{SourceCall, SinkCall, Unread, Untouched}
 use Rattle.program_ends.specs.Completeness.{IsClear}
 use Rattle.program_ends.specs.Ending.{TellsEnd}
+use Rattle.program_ends.specs.Lines.{tree_line}
 use Rattle.program_ends.specs.Meaning.{End, Finds, of_refusal}
 use Rattle.program_ends.specs.Meaning as ends
-use Rattle.program_ends.specs.Reads.{Stands}
+use Rattle.program_ends.specs.Reads.{Stands, RefusedFor}
 use Rattle.program_ends.specs.declared.stops.Stop.TheVariants as stop
 use Rattle.program_ends.proofs.Endings.{ends_usage, ends_told, memory_ends}
 use Rattle.program_ends.proofs.Meanings.{Meant, clear_reading}
@@ -27,7 +28,7 @@ use Rattle.renamer.proofs.Asking.{is_refused}
 module _ (source : SourceCall) (out errs : SinkCall) where
   -- the words are refused
   pub means_words : (words : Option Asked) (result : RenameStatus) → words ≡ None → Unread source → Untouched out → TellsEnd errs usage_line stop.Usage (end_of result) → MeansBy words source out errs result
-  means_words None result none unread untouched tells = ends_usage (IsAsked None) (IsAsked None) usage_line (Finds Stands) (AnswersTo None) (RefusesTo None) source out errs (end_of result) (λ asked. asked) unread untouched tells
+  means_words None result none unread untouched tells = ends_usage (IsAsked None) (IsAsked None) usage_line (Finds Stands) RefusedFor tree_line (AnswersTo None) (RefusesTo None) source out errs (end_of result) (λ asked. asked) unread untouched tells
   means_words (Some asked) result none unread untouched tells = absurd (cc)
 
   -- the answer is written
@@ -36,7 +37,7 @@ module _ (source : SourceCall) (out errs : SinkCall) where
 
   -- what the program has done at an end, by what the words ask for
   abbrev MeansAt : Option Asked → End → Type 0
-  MeansAt asked = Meant (IsAsked asked) (IsAsked asked) usage_line (Finds Stands) (AnswersTo asked) (RefusesTo asked) source out errs
+  MeansAt asked = Meant (IsAsked asked) (IsAsked asked) usage_line (Finds Stands) RefusedFor tree_line (AnswersTo asked) (RefusesTo asked) source out errs
 
   -- the request is refused
   means_refusal : (asked : Asked) (refusal : Refusal) (result : RenameStatus) → Ends asked source out (Err (request_error.Refused refusal)) → TellsRefusal errs (refusal_line refusal) (end_of result) → MeansBy (Some asked) source out errs result

@@ -14,3 +14,4 @@ pub use error::RenameError;
 pub use program::run_rename;
 pub use rename::rename_program;
 pub use status::RenameStatus;
+pub use stops::USAGE;

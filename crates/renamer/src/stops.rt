@@ -2,32 +2,24 @@
 ghost use Rattle.std.specs.Prelude.{◌≡◌, IfOk, string_bytes};
 ghost use Rattle.program_ends.specs.Calls.{sink_call};
 ghost use Rattle.program_ends.specs.Ending.{TellsEnd};
-ghost use Rattle.program_ends.specs.Lines.{line_of};
-ghost use Rattle.program_ends.specs.Telling.{stop_of};
 ghost use Rattle.renamer.specs.Answers.{refusal_line};
 ghost use Rattle.renamer.specs.Codes.{end_of};
 ghost use Rattle.renamer.specs.Telling.{TellsRefusal, TellsError, usage_line};
 
 use crate::refusal::{Refusal, RequestError};
 use crate::status::RenameStatus;
-use program_ends::{Stop, numbered_line, tell, tell_line, tell_stop};
-use report_ends::{ReportError, Sink};
+use program_ends::{Stop, numbered_line, refuse, tell, tell_line};
+use report_ends::Sink;
 use std::alloc::{AllocError, Global};
 
-const USAGE: &str = "usage: renamer SYMBOL NAME\n";
+/// The line on words that are refused.
+pub const USAGE: &str = "usage: renamer SYMBOL NAME\n";
 
 /// Answers words that aren't a symbol's number and a name.
 pub(crate) fn refuse_words<E: Sink>(errs: &mut E) -> RenameStatus
     ensures { TellsEnd (sink_call E.held E.faults errs.old errs.new) usage_line Stop.Usage (end_of result) }
 {
-    RenameStatus::from(tell_stop(USAGE, Stop::Usage, errs))
-}
-
-/// Tells what stopped a request, and answers its status, or that memory is wanting.
-fn tell_stopped<E: Sink>(alloc: Global, cause: &ReportError, errs: &mut E) -> RenameStatus
-    ensures { TellsEnd (sink_call E.held E.faults errs.old errs.new) (line_of cause.now) (stop_of cause.now) (end_of result) }
-{
-    RenameStatus::from(tell(alloc, cause, errs))
+    refuse(USAGE, errs)
 }
 
 fn refusal_line(alloc: Global, refusal: Refusal) -> Result<String, AllocError>
@@ -61,6 +53,6 @@ pub(crate) fn tell_error<E: Sink>(alloc: Global, error: &RequestError, errs: &mu
 {
     match error {
         RequestError::Refused(refusal) => tell_refusal(alloc, *refusal, errs),
-        RequestError::Stopped(cause) => tell_stopped(alloc, cause, errs),
+        RequestError::Stopped(cause) => tell(alloc, cause, errs),
     }
 }

@@ -1,5 +1,5 @@
 -- What the program has done at its end.
-use Rattle.std.proofs.Common.{◌≡◌, ◌⊎◌, inl, inr, ℕ, List, [], ◌∷◌, Option, Some, None, Result, Ok, Err, subst, sym, ◌∙◌, refl}
+use Rattle.std.proofs.Common.{◌≡◌, ℕ, List, [], ◌∷◌, true, Option, Some, None, Result, Ok, Err, subst, sym, ap, ◌∙◌, refl}
 use Rattle.semantic_tree.specs.Tree.{Tree}
 use Rattle.generated_tree.specs.Generated.{generated}
 use Rattle.semantic_diagnostics.specs.declared.diagnostic.Diagnostic.{Diagnostic}
@@ -10,17 +10,16 @@ use Rattle.program_ends.specs.Completeness.{IsNotRefused, IsDoneOrMemory}
 use Rattle.program_ends.specs.Ending.{TellsEnd}
 use Rattle.program_ends.specs.Lines.{tree_line, line_of}
 use Rattle.program_ends.specs.Reads.{Stands, RefusedFor}
-use Rattle.program_ends.specs.Meaning.{End, Finds, Answered, MeansOf}
+use Rattle.program_ends.specs.Meaning.{Finds, is_answer}
 use Rattle.program_ends.specs.Telling.{stop_of}
 use Rattle.program_ends.specs.declared.stops.Stop.TheVariants as stop
-use Rattle.program_ends.proofs.Endings.{ends_usage, ends_told, memory_ends}
+use Rattle.program_ends.proofs.Endings.{ends_usage, ends_answered, ends_told, answer_ends, memory_ends}
 use Rattle.program_ends.proofs.Meanings.{clear_reading, clear_making}
 use Rattle.report.specs.Codes.{end_of, status_for}
 use Rattle.report.specs.Meaning.{IsAbout, Answers, GivesAnswer, Ends, IsAsked, IsRead, IsAskedAbout, AnswersTo, RefusesNone, MeansBy, IsClearBy, IsClearFor}
 use Rattle.report.specs.Telling.{usage_line}
 use Rattle.report.specs.declared.request.Request.{Request}
 use Rattle.report.specs.declared.status.ReportStatus.{ReportStatus}
-use Rattle.report.specs.declared.status.ReportStatus.TheVariants as status
 
 -- ---- the answer
 
@@ -37,31 +36,24 @@ made_about make functions source made unread = subst (λ m. IsAbout m source (ge
 
 -- ---- the meaning of the status
 
-module _ (source : SourceCall) (out errs : SinkCall) where
-  -- what the program has done at an end, by what the words ask for
-  abbrev MeansAt : Option Request → End → Type 0
-  MeansAt asked end = MeansOf (IsAsked asked) (IsRead asked) usage_line (IsAskedAbout asked) RefusedFor tree_line (AnswersTo asked) RefusesNone source out errs end
+is_answer_for : (diagnostics : List Diagnostic) → is_answer (end_of (status_for diagnostics)) ≡ true
+is_answer_for [] = refl
+is_answer_for (first ∷ others) = refl
 
+is_answered : (request : Request) (source : SourceCall) (out : SinkCall) (result : ReportStatus) → Ends request source out (Ok result) → is_answer (end_of result) ≡ true
+is_answered request source out result whole = ap is_answer whole.answers.ends ∙ is_answer_for whole.answers.diagnostics
+
+module _ (source : SourceCall) (out errs : SinkCall) where
   -- the words are refused
   pub means_refused : (asked : Option Request) (result : ReportStatus) → asked ≡ None → Unread source → Untouched out → TellsEnd errs usage_line stop.Usage (end_of result) → MeansBy asked source out errs result
-  means_refused None result none unread untouched tells = ends_usage (IsAsked None) (IsRead None) usage_line (IsAskedAbout None) (AnswersTo None) RefusesNone source out errs (end_of result) (λ asked. asked) unread untouched tells
+  means_refused None result none unread untouched tells = ends_usage (IsAsked None) (IsRead None) usage_line (IsAskedAbout None) RefusedFor tree_line (AnswersTo None) RefusesNone source out errs (end_of result) (λ asked. asked) unread untouched tells
   means_refused (Some request) result none unread untouched tells = absurd (cc)
-
-  not_for : (diagnostics : List Diagnostic) (end : End) → end ≡ end_of (status_for diagnostics) → (end ≡ end_of status.Clean) ⊎ (end ≡ end_of status.Diagnosed)
-  not_for [] end is = inl is
-  not_for (first ∷ others) end is = inr is
-
-  answered : (request : Request) (end : End) → Answered (IsAbout request.make) (Answers request) source out end → (end ≡ end_of status.Clean) ⊎ (end ≡ end_of status.Diagnosed) → Untouched errs → MeansAt (Some request) end
-  answered request end whole (inl clean) untouched =
-      subst (MeansAt (Some request)) (sym clean) (tt, subst (Answered (IsAbout request.make) (Answers request) source out) clean whole, untouched)
-  answered request end whole (inr diagnosed) untouched =
-      subst (MeansAt (Some request)) (sym diagnosed) (tt, subst (Answered (IsAbout request.make) (Answers request) source out) diagnosed whole, untouched)
 
   -- the answer is written
   pub means_answered : (asked : Option Request) (request : Request) (result : ReportStatus) → asked ≡ Some request → Ends request source out (Ok result) → Untouched errs → MeansBy asked source out errs result
   means_answered asked request result is whole untouched =
       subst (λ a. MeansBy a source out errs result) (sym is)
-      (answered request (end_of result) whole (not_for whole.answers.diagnostics (end_of result) whole.answers.ends) untouched)
+      (ends_answered (IsAsked (Some request)) (IsRead (Some request)) usage_line (IsAskedAbout (Some request)) RefusedFor tree_line (AnswersTo (Some request)) RefusesNone source out errs (end_of result) tt whole (is_answered request source out result whole) untouched)
 
   -- why it isn't is told
   pub means_stopped : (asked : Option Request) (request : Request) (cause : ReportError) (result : ReportStatus) → asked ≡ Some request → Ends request source out (Err cause) → TellsEnd errs (line_of cause) (stop_of cause) (end_of result) → MeansBy asked source out errs result
@@ -71,12 +63,8 @@ module _ (source : SourceCall) (out errs : SinkCall) where
 
 -- ---- completeness
 
-done_for : (diagnostics : List Diagnostic) → IsDoneOrMemory (end_of (status_for diagnostics))
-done_for [] = tt
-done_for (first ∷ others) = tt
-
 pub answered_done : (request : Request) (source : SourceCall) (out : SinkCall) (result : ReportStatus) → Ends request source out (Ok result) → IsDoneOrMemory (end_of result)
-answered_done request source out result whole = subst IsDoneOrMemory (sym whole.answers.ends) (done_for whole.answers.diagnostics)
+answered_done request source out result whole = answer_ends (end_of result) (is_answered request source out result whole)
 
 made_not_read : (functions : ℕ) → Some functions ≡ None → ⊥
 made_not_read functions same = absurd (cc)

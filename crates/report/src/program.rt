@@ -6,19 +6,20 @@ ghost use Rattle.report_ends.specs.Streams.{Writes};
 ghost use Rattle.program_ends.specs.Answering.{WritesAll};
 ghost use Rattle.program_ends.specs.Calls.{source_call, sink_call};
 ghost use Rattle.program_ends.specs.Completeness.{IsNotRefused, IsDoneOrMemory, IsUsageOrMemory};
+ghost use Rattle.program_ends.specs.Ending.{TellsEnd};
 ghost use Rattle.program_ends.specs.Reads.{Stands};
 ghost use Rattle.report.specs.Codes.{status_for, end_of};
 ghost use Rattle.report.specs.Found.{found_in};
 ghost use Rattle.report.specs.Meaning.{GivesAnswer, Ends, Means, IsClearFor};
 ghost use Rattle.report.specs.Report.{answer_text};
 ghost use Rattle.report.specs.Requests.{request_of};
+ghost use Rattle.report.specs.Telling.{usage_line};
 
 use crate::request::{Request, read_words};
 use crate::status::ReportStatus;
-use crate::stops::{refuse_words, tell};
 use crate::write::{write_report, write_summary};
 use generated_tree::generated;
-use program_ends::read_program_from;
+use program_ends::{Stop, read_program_from, refuse, tell};
 use report_ends::{ReportError, Sink, Source};
 use semantic::{SemanticBuilder, SemanticBuilderReturn};
 use semantic_diagnostics::Diagnostics;
@@ -133,6 +134,16 @@ fn answer_request<S: Source, K: Sink>(
         None => answer_read(alloc, request, source, out),
         Some(functions) => answer_made(alloc, request, functions, out),
     }
+}
+
+/// The line on words that aren't known or can't be read.
+pub const USAGE: &str = "usage: report [--check] [--nodes] [--classes] [--stats] [--make N]\n";
+
+/// Answers words that aren't known or can't be read.
+pub fn refuse_words<E: Sink>(errs: &mut E) -> ReportStatus
+    ensures { TellsEnd (sink_call E.held E.faults errs.old errs.new) usage_line Stop.Usage (end_of result) }
+{
+    refuse(USAGE, errs)
 }
 
 /// Does all that the program does: it reads the whole input, which is a program's tree as JSON, and writes its report

@@ -1,6 +1,7 @@
 use Rattle.std.proofs.Common.{subst, sym, ◌∙◌}
 use Rattle.module_set.specs.Reading.{StandsForSet}
-use Rattle.module_linker.proofs.Inputs.{not_read, stopped_no_refusal, input_is, finds, refused, not_refused}
+use Rattle.program_ends.proofs.Inputs.{input_is}
+use Rattle.module_linker.proofs.Inputs.{not_read, stopped_no_refusal, finds, refused, not_refused}
 use Rattle.module_linker.proofs.program.read_modules_from.Goals as goal
 
 pub returns-in_err-input-clause-stopped : goal.returns-in_err-input-clause-stopped

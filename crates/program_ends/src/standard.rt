@@ -1,0 +1,85 @@
+//! Runs a program over the real ends.
+ghost use Rattle.std.specs.Prelude.{◌≡◌, IfOk, IfErr};
+ghost use Rattle.std.specs.IoError.{error_kind};
+ghost use Rattle.program_ends.specs.Running.{EndsRun};
+
+use crate::status::{Status, finish, refuse, tell};
+use report_ends::{Reading, ReportError, Writing};
+use std::alloc::{AllocError, Global};
+use std::env;
+use std::io::{self, BufWriter, ErrorKind, Stderr, Stdin, Stdout};
+
+/// How many bytes of the answer are handed on at once.
+const BUFFER: usize = 65_536;
+
+/// The words behind the program's name.
+fn told_words(rt: &HostRuntime) -> io::Result<Vec<String>> {
+    let mut words = Vec::new(rt.alloc());
+    for word in env::args(rt)?.skip(1) {
+        words.push(word).map_err(AllocError::from)?;
+    }
+    Ok(words)
+}
+
+/// The words behind the program's name, or none where they can't be had. The only error is want of memory.
+fn words_of(rt: &HostRuntime) -> io::Result<Option<Vec<String>>>
+    ensures { IfErr result (λ error. error_kind error ≡ ErrorKind.OutOfMemory) }
+{
+    match told_words(rt) {
+        Ok(words) => Ok(Some(words)),
+        Err(error) if error.kind() == ErrorKind::OutOfMemory => Err(error),
+        Err(_) => Ok(None),
+    }
+}
+
+/// Runs a program over standard input, output and error, with the words behind its name. Words that can't be had are
+/// refused with the line on that.
+fn run_with_words<S: Status, Run>(rt: &HostRuntime, usage: &str, run: Run) -> io::Result<S>
+where
+    Run: FnOnce(
+        Global,
+        &[String],
+        &mut Reading<Stdin>,
+        &mut Writing<BufWriter<Stdout>>,
+        &mut Writing<Stderr>,
+    ) -> S,
+    requires { Run.IsAlwaysCallable run }
+    ensures { IfOk result (EndsRun S.end_of (λ status. (alloc : _) × (words : _) × (source : _) × (out : _) × (errs : _) × (source_then : _) × (out_then : _) × (errs_then : _)
+        × Run.post run alloc words source out errs status source_then out_then errs_then)) }
+{
+    let alloc = rt.alloc();
+    let mut errs = Writing::new(rt.stderr());
+    let Some(words) = words_of(rt)? else {
+        return Ok(refuse(usage, &mut errs));
+    };
+    let mut source = Reading::new(rt.stdin());
+    let mut out = Writing::new(BufWriter::with_capacity(alloc, BUFFER, rt.stdout())?);
+    let status = run(alloc, &words, &mut source, &mut out, &mut errs);
+    let flushed = out.flush();
+    Ok(finish(alloc, status, flushed, &mut errs))
+}
+
+/// Runs a program over standard input, output and error, with the words behind its name. Words that can't be had are
+/// refused with the line on that, and want of memory is told.
+pub fn run_over_standard_ends<S: Status, Run>(rt: &HostRuntime, usage: &str, run: Run) -> S
+where
+    Run: FnOnce(
+        Global,
+        &[String],
+        &mut Reading<Stdin>,
+        &mut Writing<BufWriter<Stdout>>,
+        &mut Writing<Stderr>,
+    ) -> S,
+    requires { Run.IsAlwaysCallable run }
+    ensures { EndsRun S.end_of (λ status. (alloc : _) × (words : _) × (source : _) × (out : _) × (errs : _) × (source_then : _) × (out_then : _) × (errs_then : _)
+        × Run.post run alloc words source out errs status source_then out_then errs_then) result }
+{
+    match run_with_words(rt, usage, run) {
+        Ok(status) => status,
+        Err(_) => tell(
+            rt.alloc(),
+            &ReportError::Memory,
+            &mut Writing::new(rt.stderr()),
+        ),
+    }
+}

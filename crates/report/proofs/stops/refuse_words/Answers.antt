@@ -1,4 +1,0 @@
-use Rattle.report.proofs.stops.refuse_words.Goals as goal
-
-pub returns : goal.returns
-returns g c = (c.tell_stop.result, c.from.ensures, c.tell_stop.ensures)
