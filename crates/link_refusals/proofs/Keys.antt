@@ -1,33 +1,20 @@
 -- Names in a set.
 use Rattle.std.proofs.Common.{◌≡◌, List, [], ◌∷◌, ◌++◌, Bool, true, false, not, ℕ, map, refl, sym, ap, ◌∙◌}
 use Rattle.std.specs.List.{list_any}
-use Rattle.std.specs.Str.{bytes_eq, chars, encode_utf8_all}
+use Rattle.std.specs.Str.{bytes_eq}
 use Rattle.std.specs.Prelude.{if◌then◌else◌}
-use Rattle.std.proofs.lemmas.Slice.Eq.{bytes_eq-Decides}
-use Rattle.std.proofs.lemmas.Bool.Decides.{same_from_decides}
 use denote.Bor.{Bor}
 use Rattle.tree_json.specs.Views.{characters, IsSpelled}
 use Rattle.tree_json.specs.Written.{Each}
-use Rattle.tree_json.proofs.Spelled.{inserted, insert_characters}
+use Rattle.tree_json.proofs.Spelled.{any_spelled, inserted, insert_characters}
 
 -- names are equal by their bytes where they are by their characters
 abbrev pub same_bytes : Bor (List ℕ) → Bor (List ℕ) → Bool
 same_bytes x y = bytes_eq x.now y.now
 
-same_spelled : (x y : Bor (List ℕ)) → IsSpelled x → IsSpelled y → bytes_eq (characters x) (characters y) ≡ same_bytes x y
-same_spelled x y x_spelled y_spelled =
-    let there = bytes_eq-Decides (characters x) (characters y) in
-    same_from_decides {P = x.now ≡ y.now} (bytes_eq (characters x) (characters y)) (same_bytes x y)
-    ((λ e. sym x_spelled ∙ ap encode_utf8_all (there.0 e) ∙ y_spelled), (λ e. there.1 (ap chars e)))
-    (bytes_eq-Decides x.now y.now)
-
-any_same : (x : Bor (List ℕ)) (ks : List (Bor (List ℕ))) → IsSpelled x → Each IsSpelled ks → list_any (bytes_eq (characters x)) (map characters ks) ≡ list_any (same_bytes x) ks
-any_same x [] spelled all = refl
-any_same x (k ∷ ks) spelled all = rw (same_spelled x k spelled all.0, any_same x ks spelled all.1) refl
-
 -- whether a name is new
 pub fresh_told : (x : Bor (List ℕ)) (ks : List (Bor (List ℕ))) (fresh : Bool) → IsSpelled x → Each IsSpelled ks → fresh ≡ not (list_any (same_bytes x) ks) → fresh ≡ not (list_any (bytes_eq (characters x)) (map characters ks))
-fresh_told x ks fresh spelled all is = is ∙ ap not (sym (any_same x ks spelled all))
+fresh_told x ks fresh spelled all is = is ∙ ap not (sym (any_spelled x ks spelled all))
 
 not_there : (b : Bool) (xs ys : List (List ℕ)) → not b ≡ true → (if b then xs else ys) ≡ ys
 not_there true xs ys h = absurd cc

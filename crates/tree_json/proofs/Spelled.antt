@@ -32,7 +32,7 @@ pub position_spelled : (x : Bor (List ℕ)) (ks : List (Bor (List ℕ))) → IsS
 position_spelled x ks x_spelled spelled =
     rw (prefix_spelled x ks x_spelled spelled, length-map ks characters) refl
 
-any_spelled : (x : Bor (List ℕ)) (ks : List (Bor (List ℕ))) → IsSpelled x → Each IsSpelled ks → list_any (bytes_eq (characters x)) (map characters ks) ≡ list_any (text_eq x) ks
+pub any_spelled : (x : Bor (List ℕ)) (ks : List (Bor (List ℕ))) → IsSpelled x → Each IsSpelled ks → list_any (bytes_eq (characters x)) (map characters ks) ≡ list_any (text_eq x) ks
 any_spelled x [] x_spelled spelled = refl
 any_spelled x (k ∷ ks) x_spelled spelled =
     rw (eq_spelled x k x_spelled spelled.0, any_spelled x ks x_spelled spelled.1) refl
