@@ -66,6 +66,14 @@ impl<'a> UnresolvedReferences<'a> {
         }
     }
 
+    /// Makes room for so many more references. All stays, whatever the answer.
+    pub fn reserve(&mut self, references: usize) -> Result<(), AllocError>
+        ensures { self.new ≡ self.old }
+    {
+        self.entries.reserve(references)?;
+        Ok(())
+    }
+
     /// Takes all references out.
     pub fn take(&mut self) -> Vec<UnresolvedReference<'a>>
         ensures taken { result.items ≡ self.old }

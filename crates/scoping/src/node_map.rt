@@ -62,6 +62,14 @@ impl<T: Copy> NodeMap<T> {
         }
     }
 
+    /// Makes room for so many more entries, as long as their nodes rise. All stays, whatever the answer.
+    pub fn reserve(&mut self, entries: usize) -> Result<(), AllocError>
+        ensures { self.new ≡ self.old }
+    {
+        self.rising.reserve(entries)?;
+        Ok(())
+    }
+
     /// The value of the node, if any.
     pub fn get(&self, node: NodeId) -> Option<T>
         ensures { result ≡ lookup (nat_eq node) self.now }

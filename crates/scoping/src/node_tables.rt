@@ -37,6 +37,21 @@ impl NodeTables {
         }
     }
 
+    /// Makes room for so many more nodes that open a scope, declare a symbol, or are a reference. All stays, whatever the
+    /// answer.
+    pub fn reserve(
+        &mut self,
+        scopes: usize,
+        symbols: usize,
+        references: usize,
+    ) -> Result<(), AllocError>
+        ensures { self.new ≡ self.old }
+    {
+        self.scopes.reserve(scopes)?;
+        self.symbols.reserve(symbols)?;
+        self.references.reserve(references)
+    }
+
     /// The scope that the node opens, if any.
     pub fn scope_of(&self, node: NodeId) -> Option<ScopeId>
         ensures { result ≡ lookup (nat_eq node) self.now.scopes }

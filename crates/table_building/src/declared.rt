@@ -94,7 +94,9 @@ impl<'a> Declared<'a> {
     ) -> Result<(), AllocError>
         ensures { self.new ≡ self.old }
     {
-        self.scoping.reserve(symbols, references, scopes)
+        self.scoping.reserve(symbols, references, scopes)?;
+        self.tables.reserve(scopes, symbols, references)?;
+        self.pending.reserve(references)
     }
 
     /// The scopes, symbols, bindings and references so far.
