@@ -1,5 +1,8 @@
 -- Frames from the top down.
-use Rattle.std.proofs.Common.{◌≡◌, ℕ, zero, suc, ◌-◌, ◌<◌, ◌≤◌, ◌==◌, Bool, true, false, List, [], ◌∷◌, ◌++◌, length, take, drop, reverse, map, get_or, refl, sym, ap, ◌∙◌, arith}
+use Rattle.std.proofs.Common.{◌≡◌, ℕ, zero, suc, ◌+◌, ◌-◌, ◌<◌, ◌≤◌, ◌==◌, Bool, true, false, Option, Some, None, IfSome, List, [], ◌∷◌, ◌++◌, length, take, drop, reverse, map, option_map, get_or, slice_get, refl, sym, ap, ◌∙◌, arith}
+use Rattle.std.specs.Borrow.{Bor}
+use Rattle.std.specs.Option.{IsSome, option_copied}
+use Rattle.semantic_tree.specs.Nodes.{first_of}
 use Rattle.std.proofs.lemmas.List.{reverse-append}
 use Rattle.node_store.specs.Path.{from_node, IsOn}
 use Rattle.semantic_tree.specs.declared.node.Node.{Node}
@@ -36,6 +39,38 @@ pub popped : (frames : List AstKind) → map shown (reverse (take (length frames
 popped [] = refl
 popped (f ∷ fs) =
     sym (ap (drop 1) (sym (whole (f ∷ fs)) ∙ top (f ∷ fs) (length (f ∷ fs)) (length (f ∷ fs) - 1) f (omega arith) refl (omega arith)))
+
+there : (frames : List AstKind) (n : ℕ) (d : AstKind) → n < length frames → slice_get frames n ≡ Some (get_or frames n d)
+there [] n d h = absurd (omega arith)
+there (f ∷ fs) zero d h = refl
+there (f ∷ fs) (suc n) d h = there fs n d (omega arith)
+
+-- the last frame shows the first node of the path
+pub last_shown : (frames : List AstKind) → option_map shown (slice_get frames (length frames - 1)) ≡ first_of (map shown (reverse frames))
+last_shown [] = refl
+last_shown (f ∷ fs) =
+    ap (option_map shown) (there (f ∷ fs) (length (f ∷ fs) - 1) f (omega arith))
+    ∙ sym (ap first_of (sym (whole (f ∷ fs)) ∙ top (f ∷ fs) (length (f ∷ fs)) (length (f ∷ fs) - 1) f (omega arith) refl (omega arith)))
+
+-- the one before it shows the second node
+pub above_shown : (frames : List AstKind) (n : ℕ) → n + 2 ≡ length frames → option_map shown (slice_get frames n) ≡ first_of (drop 1 (map shown (reverse frames)))
+above_shown [] n e = absurd (omega arith)
+above_shown (f ∷ fs) n e =
+    ap (option_map shown) (there (f ∷ fs) n f (omega arith))
+    ∙ sym (ap first_of (sym (popped (f ∷ fs)) ∙ top (f ∷ fs) (length (f ∷ fs) - 1) n f (omega arith) (omega arith) (omega arith)))
+
+pub none_above : (frames : List AstKind) → length frames < 2 → first_of (drop 1 (map shown (reverse frames))) ≡ None
+none_above [] h = refl
+none_above (f ∷ []) h = refl
+none_above (f ∷ g ∷ fs) h = absurd (omega arith)
+
+-- what is asked for at a position that there is
+pub asked_at : (asked : Option (Bor AstKind)) (frames : List AstKind) (n : ℕ) → (n < length frames → IsSome asked) → IfSome asked (λ f. f.now ≡ get_or frames n f.now) → n < length frames
+    → option_copied asked ≡ slice_get frames n
+asked_at None frames n some found h = absurd (let no = some h in cc)
+asked_at (Some f) frames n some found h = ap (λ k. Some k) found ∙ sym (there frames n f.now h)
+
+pub ruleset tops = (last_shown, above_shown, none_above)
 
 found_at : (id : ℕ) (node : Node) (rest : List Node) (b : Bool) → (node.node_id == id) ≡ b → (IsOn id rest → 0 < length (from_node id rest)) → IsOn id (node ∷ rest) → 0 < length (from_node id (node ∷ rest))
 found_at id node rest true e later h = rw e (omega arith)

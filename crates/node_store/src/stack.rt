@@ -1,5 +1,6 @@
 //! The path to the current node, kept as a stack.
-ghost use Rattle.std.specs.Prelude.{◌≡◌, ◌<◌, [], ◌∷◌, Some, OnOk, OnErr, drop, length};
+ghost use Rattle.std.specs.Prelude.{◌≡◌, ◌<◌, [], ◌∷◌, Some, OnOk, OnErr, drop, length, option_map};
+ghost use Rattle.semantic_tree.specs.ChildIter.{shown};
 ghost use Rattle.semantic_tree.specs.Nodes.{first_of};
 ghost use Rattle.node_store.specs.Path.{current_id_in, parent_id_in, parent_in, from_asked, from_node, IsOn};
 ghost use Rattle.node_store.specs.PathLeft.{path_left};
@@ -72,6 +73,24 @@ impl<'a> AncestryStack<'a> {
         ensures { path_left result ≡ self.now }
     {
         AncestorKinds::of_frames(self.frames.as_slice())
+    }
+
+    /// What the current node shows, if there is one.
+    #[tactic(auto, using(crate::proofs::Frames::tops))]
+    #[inline(always)]
+    pub fn current(&self) -> Option<AstKind<'a>>
+        ensures { option_map shown result ≡ first_of self.now }
+    {
+        self.frames.last().copied()
+    }
+
+    /// What the parent of the current node shows, if it has one.
+    #[tactic(auto, using(crate::proofs::Frames::tops))]
+    pub fn parent(&self) -> Option<AstKind<'a>>
+        ensures { option_map shown result ≡ first_of (drop 1 self.now) }
+    {
+        let above = self.frames.len().checked_sub(2)?;
+        self.frames.get(above).copied()
     }
 
     /// The id of the current node, or 0 where there is none.

@@ -2,7 +2,6 @@ pub mod Going
 pub mod MovedNames
 pub mod EvenNodes
 pub mod Turning
-pub mod Parents
 pub mod Beginning
 pub mod Opening
 pub mod TurnEnds

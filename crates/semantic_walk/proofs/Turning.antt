@@ -1,33 +1,19 @@
 -- The way to the node that is visited, as nodes are entered and left.
-use Rattle.std.proofs.Common.{◌≡◌, ℕ, zero, suc, ◌-◌, ◌<◌, List, [], ◌∷◌, ◌++◌, Bool, Option, Some, None, MatchOption, length, map, reverse, drop, take, refl, sym, ap, ◌∙◌, arith, length-append, append_assoc}
-use Rattle.std.proofs.lemmas.List.{reverse-append, length-map, map-append}
+use Rattle.std.proofs.Common.{◌≡◌, ◌-◌, List, [], ◌∷◌, ◌++◌, slice_get, Bool, true, false, Option, Some, None, cond, length, map, filter, option_map, reverse, drop, take, refl, sym, ap, ◌∙◌, arith, length-append, append_assoc}
+use Rattle.std.proofs.lemmas.List.{reverse-append}
 use Rattle.std.proofs.Math.Seq.{take-append_seam}
+use Rattle.semantic_kinds.specs.declared.kind.AstType.TheVariants as kind
+use Rattle.semantic_tree.specs.BoundNames.{is_simple_parameter_list}
 use Rattle.semantic_tree.specs.ChildIter.{shown}
+use Rattle.semantic_tree.specs.Nodes.{first_of}
+use Rattle.semantic_tree.specs.Views.{is}
 use Rattle.semantic_tree.specs.declared.node.Node.{Node}
 use Rattle.semantic_tree.specs.declared.view.AstKind.{AstKind}
 use Rattle.node_rules.specs.Seen.{path_of}
-use Rattle.node_store.specs.Store.{Stands, IsKept, path_to}
-use Rattle.node_store.specs.declared.store.AstNodeStore.{AstNodeStore}
-use Rattle.node_store.proofs.Walking.{is_kept}
-use Rattle.semantic_walk.specs.Paths.{Way, parent_in, is_marked, turned}
-
--- a node is entered
+use Rattle.semantic_walk.specs.Paths.{parent_in, ends_with_list, lists_simple}
 
 with_first : (path : List Node) (node : Node) → reverse (node ∷ path) ≡ reverse path ++ node ∷ []
 with_first path node = reverse-append (node ∷ []) path
-
-pub way_on : (ms : List Bool) (path now : List Node) (node : Node) (m : Bool) → (length ms ≡ 0 → path ≡ []) → now ≡ node ∷ path → turned (length (ms ++ m ∷ [])) now ≡ turned (length ms) path ++ node ∷ []
-way_on [] path now node m empty more = ap reverse (more ∙ ap (λ (xs : List Node). node ∷ xs) (empty refl))
-way_on (k ∷ ms) path now node m empty more = ap reverse more ∙ with_first path node
-
-pub marks_on : (ms : List Bool) (path now : List Node) (node : Node) → (length ms ≡ 0 → path ≡ []) → now ≡ node ∷ path → ms ≡ map is_marked (turned (length ms) path)
-    → ms ++ is_marked node ∷ [] ≡ map is_marked (turned (length (ms ++ is_marked node ∷ [])) now)
-marks_on ms path now node empty more marked =
-    ap (λ (l : List Bool). l ++ is_marked node ∷ []) marked
-    ∙ sym (map-append is_marked (turned (length ms) path) (node ∷ []))
-    ∙ ap (map is_marked) (sym (way_on ms path now node (is_marked node) empty more))
-
--- and left
 
 without_last : {X : Type 0} (xs : List X) (x : X) → take (length (xs ++ x ∷ []) - 1) (xs ++ x ∷ []) ≡ xs
 without_last xs x =
@@ -35,56 +21,52 @@ without_last xs x =
     let short : length (xs ++ x ∷ []) - 1 ≡ length xs = omega arith in
     ap (λ n. take n (xs ++ x ∷ [])) short ∙ take-append_seam xs (x ∷ [])
 
--- the nodes on the path are as many as their marks
-on_path : (m : Bool) (ms : List Bool) (path : List Node) → m ∷ ms ≡ map is_marked (reverse path) → length path ≡ suc (length ms)
-on_path m ms path marked = sym (ap length marked ∙ length-map (reverse path) is_marked ∙ turned_length path)
+-- a node is entered
+
+lists-append : (xs ys : List Node) → lists_simple (xs ++ ys) ≡ lists_simple xs ++ lists_simple ys
+lists-append [] ys = refl
+lists-append (x ∷ xs) ys = by (is kind.FormalParameters x) (lists-append xs ys)
   where
-    turned_length : (xs : List Node) → length (reverse xs) ≡ length xs
-    turned_length [] = refl
-    turned_length (x ∷ xs) = let one = ap length (with_first xs x) in let two = length-append (reverse xs) (x ∷ []) in let rest = turned_length xs in omega arith
+    by : (b : Bool) → lists_simple (xs ++ ys) ≡ lists_simple xs ++ lists_simple ys
+        → map is_simple_parameter_list (cond b (x ∷ filter (is kind.FormalParameters) (xs ++ ys)) (filter (is kind.FormalParameters) (xs ++ ys))) ≡ map is_simple_parameter_list (cond b (x ∷ filter (is kind.FormalParameters) xs) (filter (is kind.FormalParameters) xs)) ++ lists_simple ys
+    by true rest = ap (λ bs. is_simple_parameter_list x ∷ bs) rest
+    by false rest = rest
 
-pub way_back : (ms : List Bool) (path now : List Node) → ms ≡ map is_marked (turned (length ms) path) → (1 < length path → now ≡ drop 1 path)
-    → turned (length (take (length ms - 1) ms)) now ≡ take (length (turned (length ms) path) - 1) (turned (length ms) path)
-way_back [] path now marked back = refl
-way_back (m ∷ []) [] now marked back = absurd (let counted = on_path m [] [] marked in omega arith)
-way_back (m ∷ []) (x ∷ []) now marked back = refl
-way_back (m ∷ []) (x ∷ y ∷ path) now marked back = absurd (let counted = on_path m [] (x ∷ y ∷ path) marked in omega arith)
-way_back (m ∷ k ∷ ms) [] now marked back = absurd (let counted = on_path m (k ∷ ms) [] marked in omega arith)
-way_back (m ∷ k ∷ ms) (x ∷ path) now marked back =
-    let counted = on_path m (k ∷ ms) (x ∷ path) marked in
-    let below : now ≡ path = back (omega arith) in
-    let one : length (m ∷ k ∷ ms) - 1 ≡ suc (length ms) = omega arith in
-    ap (λ n. turned (length (take n (m ∷ k ∷ ms))) now) one
-    ∙ ap reverse below ∙ sym (ap (λ (l : List Node). take (length l - 1) l) (with_first path x) ∙ without_last (reverse path) x)
+one_list : (x : Node) → is kind.FormalParameters x ≡ true → lists_simple (x ∷ []) ≡ is_simple_parameter_list x ∷ []
+one_list x h = rw h refl
 
-pub marks_back : (ms : List Bool) (path now : List Node) → ms ≡ map is_marked (turned (length ms) path) → (1 < length path → now ≡ drop 1 path)
-    → take (length ms - 1) ms ≡ map is_marked (turned (length (take (length ms - 1) ms)) now)
-marks_back ms path now marked back =
-    ap (λ (l : List Bool). take (length ms - 1) l) marked
-    ∙ ap (λ n. take (n - 1) (map is_marked (turned (length ms) path))) (ap length marked ∙ length-map (turned (length ms) path) is_marked)
-    ∙ sym (map_take (length (turned (length ms) path) - 1) (turned (length ms) path))
-    ∙ ap (map is_marked) (sym (way_back ms path now marked back))
-  where
-    map_take : (n : ℕ) (xs : List Node) → map is_marked (take n xs) ≡ take n (map is_marked xs)
-    map_take zero xs = refl
-    map_take (suc n) [] = refl
-    map_take (suc n) (x ∷ xs) = ap (λ (l : List Bool). is_marked x ∷ l) (map_take n xs)
+no_list : (x : Node) → is kind.FormalParameters x ≡ false → lists_simple (x ∷ []) ≡ []
+no_list x h = rw h refl
 
--- where there are marks
+pub list_on : (bs : List Bool) (path : List Node) (node : Node) → bs ≡ lists_simple (reverse path) → is kind.FormalParameters node ≡ true → bs ++ is_simple_parameter_list node ∷ [] ≡ lists_simple (reverse (node ∷ path))
+list_on bs path node h list =
+    ap (λ cs. cs ++ is_simple_parameter_list node ∷ []) h ∙ ap (λ cs. lists_simple (reverse path) ++ cs) (sym (one_list node list))
+    ∙ sym (lists-append (reverse path) (node ∷ [])) ∙ ap lists_simple (sym (with_first path node))
 
-pub some_on : (ms : List Bool) (path : List Node) → ms ≡ map is_marked (turned (length ms) path) → 0 < length ms → 0 < length path
-some_on [] path marked some = absurd (omega arith)
-some_on (m ∷ ms) path marked some = let counted = on_path m ms path marked in omega arith
+append-empty : (bs : List Bool) → bs ++ [] ≡ bs
+append-empty [] = refl
+append-empty (b ∷ bs) = ap (λ cs. b ∷ cs) (append-empty bs)
 
-pub way_is : (ms : List Bool) (path : List Node) → 0 < length ms → turned (length ms) path ≡ reverse path
-way_is [] path some = absurd (omega arith)
-way_is (m ∷ ms) path some = refl
+pub other_on : (bs : List Bool) (path : List Node) (node : Node) → bs ≡ lists_simple (reverse path) → is kind.FormalParameters node ≡ false → bs ≡ lists_simple (reverse (node ∷ path))
+other_on bs path node h other =
+    h ∙ sym (append-empty (lists_simple (reverse path))) ∙ ap (λ cs. lists_simple (reverse path) ++ cs) (sym (no_list node other))
+    ∙ sym (lists-append (reverse path) (node ∷ [])) ∙ ap lists_simple (sym (with_first path node))
 
-pub kept_there : (s : AstNodeStore) (ms : List Bool) → Stands s → ms ≡ map is_marked (turned (length ms) (path_to s)) → 0 < length ms → IsKept s.current_node_id s.kind
-kept_there s ms h marked some = is_kept s.current_node_id s.count s.kind h (some_on ms (path_to s) marked some)
+-- and left
 
-pub same_way : (v w : Way) → v.nodes ≡ w.nodes → v.entered ≡ w.entered → v ≡ w
-same_way v w nodes entered = λ i. record { nodes = nodes i; entered = entered i }
+last_list : (xs : List Node) (x : Node) → ends_with_list (xs ++ x ∷ []) ≡ is kind.FormalParameters x
+last_list [] x = refl
+last_list (a ∷ []) x = refl
+last_list (a ∷ b ∷ xs) x = last_list (b ∷ xs) x
+
+abbrev pub is_list : Option Node → Bool
+is_list None = false
+is_list (Some x) = is kind.FormalParameters x
+
+-- the last node is the first of the stack
+pub ends_by : (path : List Node) → ends_with_list (reverse path) ≡ is_list (first_of path)
+ends_by [] = refl
+ends_by (node ∷ path) = ap ends_with_list (with_first path node) ∙ last_list (reverse path) node
 
 -- the parent stands second
 
@@ -94,11 +76,63 @@ second_last (a ∷ []) y x = refl
 second_last (a ∷ b ∷ []) y x = refl
 second_last (a ∷ b ∷ d ∷ xs) y x = second_last (b ∷ d ∷ xs) y x
 
-pub second : (x y : Node) (path : List Node) → parent_in (reverse (x ∷ y ∷ path)) ≡ y ∷ []
-second x y path =
-    ap parent_in (with_first (y ∷ path) x ∙ ap (λ (l : List Node). l ++ x ∷ []) (with_first path y) ∙ append_assoc (reverse path) (y ∷ []) (x ∷ []))
-    ∙ second_last (reverse path) y x
+two_first : (x y : Node) (path : List Node) → reverse (x ∷ y ∷ path) ≡ reverse path ++ y ∷ x ∷ []
+two_first x y path = with_first (y ∷ path) x ∙ ap (λ (l : List Node). l ++ x ∷ []) (with_first path y) ∙ append_assoc (reverse path) (y ∷ []) (x ∷ [])
 
-pub parent_is : (first : AstKind) (next : Option AstKind) (path later last : List Node) → path ≡ shown first ∷ later → MatchOption next ((later ≡ []) × (last ≡ [])) (λ k. later ≡ shown k ∷ last) → path_of next ≡ parent_in (reverse path)
-parent_is first None path later last at ends = sym (ap (λ (l : List Node). parent_in (reverse l)) (at ∙ ap (λ (l : List Node). shown first ∷ l) ends.0))
-parent_is first (Some k) path later last at goes = sym (ap (λ (l : List Node). parent_in (reverse l)) (at ∙ ap (λ (l : List Node). shown first ∷ l) goes) ∙ second (shown first) (shown k) last)
+second : (x y : Node) (path : List Node) → parent_in (reverse (x ∷ y ∷ path)) ≡ y ∷ []
+second x y path = ap parent_in (two_first x y path) ∙ second_last (reverse path) y x
+
+pub parent_is : (parent : Option AstKind) (path : List Node) → option_map shown parent ≡ first_of (drop 1 path) → path_of parent ≡ parent_in (reverse path)
+parent_is None [] h = refl
+parent_is None (x ∷ []) h = refl
+parent_is None (x ∷ y ∷ path) h = absurd cc
+parent_is (Some k) [] h = absurd cc
+parent_is (Some k) (x ∷ []) h = absurd cc
+parent_is (Some k) (x ∷ y ∷ path) h = ap (λ n. n ∷ []) (node_is h) ∙ sym (second x y path)
+  where
+    node_is : Some (shown k) ≡ Some y → shown k ≡ y
+    node_is e = cc
+
+-- where the last node is none, the last list is the parent
+
+last_of : (bs : List Bool) (b : Bool) → slice_get (bs ++ b ∷ []) (length (bs ++ b ∷ []) - 1) ≡ Some b
+last_of bs b = ap (slice_get (bs ++ b ∷ [])) (let counted = length-append bs (b ∷ []) in omega arith) ∙ at_seam bs
+  where
+    at_seam : (cs : List Bool) → slice_get (cs ++ b ∷ []) (length cs) ≡ Some b
+    at_seam [] = refl
+    at_seam (c ∷ cs) = at_seam cs
+
+same_bool : (b c : Bool) → Some b ≡ Some c → b ≡ c
+same_bool b c h = cc
+
+same_node : (x y : Node) → x ∷ [] ≡ y ∷ [] → x ≡ y
+same_node x y h = cc
+
+pub in_simple : (bs : List Bool) (path : List Node) (list : Node) (b : Bool) → bs ≡ lists_simple (reverse path) → list ∷ [] ≡ parent_in (reverse path) → is kind.FormalParameters list ≡ true
+    → ends_with_list (reverse path) ≡ false → slice_get bs (length bs - 1) ≡ Some b → b ≡ is_simple_parameter_list list
+in_simple bs [] list b h parent k other last = absurd cc
+in_simple bs (x ∷ []) list b h parent k other last = absurd cc
+in_simple bs (x ∷ y ∷ path) list b h parent k other last =
+    let list_is : list ≡ y = same_node list y (parent ∙ second x y path) in
+    let no : is kind.FormalParameters x ≡ false = sym (ends_by (x ∷ y ∷ path)) ∙ other in
+    let yes : is kind.FormalParameters y ≡ true = sym (ap (is kind.FormalParameters) list_is) ∙ k in
+    let whole : bs ≡ lists_simple (reverse path) ++ is_simple_parameter_list y ∷ [] =
+    h ∙ sym (other_on (lists_simple (reverse (y ∷ path))) (y ∷ path) x refl no) ∙ sym (list_on (lists_simple (reverse path)) path y refl yes) in
+    same_bool b (is_simple_parameter_list y) (sym last ∙ ap (λ (cs : List Bool). slice_get cs (length cs - 1)) whole ∙ last_of (lists_simple (reverse path)) (is_simple_parameter_list y))
+    ∙ ap is_simple_parameter_list (sym list_is)
+
+-- leaving
+
+pub list_back : (bs : List Bool) (path : List Node) → bs ≡ lists_simple (reverse path) → ends_with_list (reverse path) ≡ true → take (length bs - 1) bs ≡ lists_simple (reverse (drop 1 path))
+list_back bs [] h k = absurd cc
+list_back bs (x ∷ path) h k =
+    let whole : bs ≡ lists_simple (reverse path) ++ is_simple_parameter_list x ∷ [] = h ∙ sym (list_on (lists_simple (reverse path)) path x refl (sym (ends_by (x ∷ path)) ∙ k)) in
+    ap (λ (cs : List Bool). take (length cs - 1) cs) whole ∙ without_last (lists_simple (reverse path)) (is_simple_parameter_list x)
+
+pub other_back : (bs : List Bool) (path : List Node) → bs ≡ lists_simple (reverse path) → ends_with_list (reverse path) ≡ false → bs ≡ lists_simple (reverse (drop 1 path))
+other_back bs [] h k = h
+other_back bs (x ∷ path) h k = h ∙ sym (other_on (lists_simple (reverse path)) path x refl (sym (ends_by (x ∷ path)) ∙ k))
+
+pub forgotten : (bs : List Bool) (path : List Node) (b : Bool) → bs ≡ lists_simple (reverse path) → b ≡ ends_with_list (reverse path) → cond b (take (length bs - 1) bs) bs ≡ lists_simple (reverse (drop 1 path))
+forgotten bs path true h e = list_back bs path h (sym e)
+forgotten bs path false h e = other_back bs path h (sym e)

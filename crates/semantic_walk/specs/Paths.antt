@@ -1,8 +1,8 @@
 -- The way from the root to a node.
-use Rattle.std.specs.Prelude.{◌≡◌, ℕ, zero, suc, List, [], ◌∷◌, Bool, ◌&&◌, Option, Some, None, length, map, reverse}
+use Rattle.std.specs.Prelude.{◌≡◌, List, [], ◌∷◌, Bool, false, Option, filter, map, reverse}
 use Rattle.semantic_kinds.specs.declared.kind.AstType.TheVariants as kind
 use Rattle.node_store.specs.Entered.{Entered}
-use Rattle.node_store.specs.Store.{Stands, path_to, entered_in}
+use Rattle.node_store.specs.Store.{Stands, entered_in}
 use Rattle.semantic_tree.specs.declared.node.Node.{Node}
 use Rattle.semantic_tree.specs.Views.{is}
 use Rattle.semantic_tree.specs.BoundNames.{is_simple_parameter_list}
@@ -13,21 +13,16 @@ pub record Way : Type 0 where
   pub nodes : List Node
   pub entered : Option Entered
 
--- of so many nodes, inner first, root first
-abbrev pub turned : ℕ → List Node → List Node
-turned zero path = []
-turned (suc n) path = reverse path
-
 abbrev pub way_of : Inside → Way
-way_of p = record { nodes = turned (length p.marks.items) (path_to p.store); entered = entered_in p.store }
+way_of p = record { nodes = reverse p.stack; entered = entered_in p.store }
 
--- a list of parameters is marked if it is simple
-abbrev pub is_marked : Node → Bool
-is_marked node = is kind.FormalParameters node && is_simple_parameter_list node
+-- of each list of parameters among the nodes, whether it is simple
+abbrev pub lists_simple : List Node → List Bool
+lists_simple nodes = map is_simple_parameter_list (filter (is kind.FormalParameters) nodes)
 
--- the marks are those of the nodes, and the store stands at the last of them
+-- the answers are those of the lists on the way, and the store stands at its last node
 pub record IsWay (p : Inside) : Type 0 where
-  pub marked : p.marks.items ≡ map is_marked (way_of p).nodes
+  pub simple : p.simple.items ≡ lists_simple (way_of p).nodes
   pub stands : Stands p.store
 
 -- the parent of the last node of a path, alone
@@ -37,7 +32,8 @@ parent_in (x ∷ []) = []
 parent_in (x ∷ y ∷ []) = x ∷ []
 parent_in (x ∷ y ∷ z ∷ more) = parent_in (y ∷ z ∷ more)
 
--- the mark of the first of the nodes, if there is one
-abbrev pub first_mark : List Node → Option Bool
-first_mark [] = None
-first_mark (node ∷ more) = Some (is_marked node)
+-- whether the last node is a list of parameters
+abbrev pub ends_with_list : List Node → Bool
+ends_with_list [] = false
+ends_with_list (x ∷ []) = is kind.FormalParameters x
+ends_with_list (x ∷ y ∷ more) = ends_with_list (y ∷ more)

@@ -1,26 +1,31 @@
 //! The way from the root to the node that a walk visits.
 
-ghost use Rattle.std.specs.Prelude.{◌≡◌, ◌++◌, ◌∷◌, ◌-◌, ◌<◌, ◌≤◌, [], is_some, length, reverse, take, option_map, OnOk};
+ghost use Rattle.std.specs.Prelude.{◌≡◌, ◌++◌, ◌∷◌, ◌-◌, [], cond, is_some, length, reverse, take, option_map, OnOk, OnErr};
+ghost use Rattle.semantic_kinds.specs.declared.kind.AstType.TheVariants as kind_of;
+ghost use Rattle.semantic_tree.specs.Views.{is};
 ghost use Rattle.node_rules.specs.Seen.{path_of};
 ghost use Rattle.node_store.specs.Entered.{entering, leaving};
 ghost use Rattle.node_store.specs.PathOf.{path_of as outward_path, IsInStore};
 ghost use Rattle.semantic_tree.specs.BoundNames.{is_simple_parameter_list};
 ghost use Rattle.semantic_walk.specs.Listed.{kept_from, list_kept};
-ghost use Rattle.semantic_walk.specs.Paths.{parent_in, is_marked, first_mark};
+ghost use Rattle.node_store.specs.Store.{Stands, entered_in};
+ghost use Rattle.semantic_walk.specs.Paths.{parent_in, ends_with_list, lists_simple};
 
-use node_store::{Ancestry, AstNodeStore, AstNodeStoreKind, AstNodes};
+use node_store::{Ancestry, AncestryStack, AstNodeStore, AstNodeStoreKind, AstNodes};
 use semantic_syntax::ScopeId;
 use semantic_tree::{AstKind, AstType};
 use std::alloc::{AllocError, Global};
 use std::marker::Model;
 
-/// The nodes from the root to the one that is visited, in a store that keeps all nodes, or these alone. A list of
-/// parameters on the way is marked if it is simple: each of its parameters asks for that, so it is found once for the
-/// list.
+/// The nodes from the root to the one that is visited, and, if they are kept, all that were entered. Each parameter asks
+/// whether its list is simple, so that is found once for a list, when the walk comes to it.
 #[derive(Drop)]
 pub struct Path<'a> {
+    stack: AncestryStack<'a>,
+    /// Of each list of parameters on the stack, whether it is simple.
+    simple: Vec<bool>,
+    /// All nodes that were entered, if they are kept.
     store: AstNodeStore<'a>,
-    marks: Vec<bool>,
 }
 
 impl<'a> Model for Path<'a> {
@@ -38,11 +43,75 @@ impl<'a> Model for Path<'a> {
     ghost invariant = { IsWay };
 }
 
-/// Whether the node is a list of parameters that is simple (ECMAScript 15.1.3, IsSimpleParameterList).
-fn is_marked(kind: AstKind<'_>) -> bool
-    ensures { result ≡ is_marked kind.entry.node.now }
+/// Whether the node is a list of parameters.
+#[inline(always)]
+fn is_list(kind: AstKind<'_>) -> bool
+    ensures { result ≡ is kind_of.FormalParameters kind.entry.node.now }
 {
-    kind.ty() == AstType::FormalParameters && kind.is_simple_parameter_list()
+    kind.ty() == AstType::FormalParameters
+}
+
+/// Notes of a node whether it is a simple list of parameters, if it is a list.
+#[inline(always)]
+fn note_list(simple: &mut Vec<bool>, kind: AstKind<'_>) -> Result<(), AllocError>
+    ensures ok { OnOk result (simple.new.items ≡ simple.old.items ++ lists_simple (kind.entry.node.now ∷ [])) }
+    ensures err { OnErr result (simple.new.items ≡ simple.old.items) }
+{
+    if is_list(kind) {
+        simple.push(kind.is_simple_parameter_list())?;
+    }
+    Ok(())
+}
+
+/// Forgets the last list, if the walk leaves one.
+#[inline(always)]
+fn forget_list(simple: &mut Vec<bool>, leaves_list: bool)
+    ensures { simple.new.items ≡ cond leaves_list (take (length simple.old.items - 1) simple.old.items) simple.old.items }
+{
+    if leaves_list {
+        simple.pop();
+    }
+}
+
+/// Whether the store keeps all nodes that are entered.
+#[inline(always)]
+fn keeps(store: &AstNodeStore<'_>) -> bool
+    ensures { result ≡ is_some (entered_in store.now) }
+{
+    match &store.kind {
+        AstNodeStoreKind::Full(_) => true,
+        AstNodeStoreKind::Ancestry(_) => false,
+    }
+}
+
+/// Enters a node in the store, if that keeps the nodes that are entered.
+#[inline(always)]
+fn keep<'a>(
+    store: &mut AstNodeStore<'a>,
+    kind: AstKind<'a>,
+    scope: ScopeId,
+) -> Result<(), AllocError>
+    requires { Stands store.old }
+    ensures entered { OnOk result (entered_in store.new ≡ option_map (λ e. entering e kind.entry.node.now scope) (entered_in store.old)) }
+    ensures stands { Stands store.new }
+{
+    if keeps(store) {
+        store.enter(kind, scope)
+    } else {
+        Ok(())
+    }
+}
+
+/// Leaves a node in the store, if that keeps the nodes that are entered.
+#[inline(always)]
+fn leave_kept(store: &mut AstNodeStore<'_>)
+    requires { Stands store.old }
+    ensures left { entered_in store.new ≡ option_map leaving (entered_in store.old) }
+    ensures stands { Stands store.new }
+{
+    if keeps(store) {
+        store.leave();
+    }
 }
 
 impl<'a> Path<'a> {
@@ -53,8 +122,9 @@ impl<'a> Path<'a> {
         let mut store = AstNodeStore::new(alloc);
         store.set_build_nodes(keeps);
         Path {
+            stack: AncestryStack::new(alloc),
+            simple: Vec::new(alloc),
             store,
-            marks: Vec::new(alloc),
         }
     }
 
@@ -65,19 +135,19 @@ impl<'a> Path<'a> {
         self.store.reserve(count as usize)
     }
 
-    /// Comes to a node, which stands in the scope. A second root is told as want of memory; a program has one.
+    /// Comes to a node, which stands in the scope.
     pub fn push(&mut self, kind: AstKind<'a>, scope: ScopeId) -> Result<(), AllocError>
         ensures { OnOk result (self.new ≡ record {
           nodes = self.old.nodes ++ kind.entry.node.now ∷ [];
           entered = option_map (λ e. entering e kind.entry.node.now scope) self.old.entered;
         }) }
     {
-        if self.marks.is_empty() && self.store.node_count() > 0 {
-            return Err(AllocError);
+        keep(&mut self.store, kind, scope)?;
+        self.stack.push(kind)?;
+        if let Err(error) = note_list(&mut self.simple, kind) {
+            self.stack.pop();
+            return Err(error);
         }
-        self.marks.reserve(1)?;
-        self.store.enter(kind, scope)?;
-        self.marks.push(is_marked(kind))?;
         Ok(())
     }
 
@@ -85,20 +155,28 @@ impl<'a> Path<'a> {
     pub fn pop(&mut self)
         ensures { self.new ≡ record { nodes = take (length self.old.nodes - 1) self.old.nodes; entered = option_map leaving self.old.entered } }
     {
-        self.store.leave();
-        let _mark = self.marks.pop();
+        let leaves_list = self.is_at_list();
+        forget_list(&mut self.simple, leaves_list);
+        self.stack.pop();
+        leave_kept(&mut self.store);
+    }
+
+    /// Whether the last node is a list of parameters.
+    #[inline(always)]
+    fn is_at_list(&self) -> bool
+        ensures { result ≡ ends_with_list self.now.nodes }
+    {
+        match self.stack.current() {
+            Some(kind) => is_list(kind),
+            None => false,
+        }
     }
 
     /// The parent of the last node.
     pub fn parent(&self) -> Option<AstKind<'a>>
         ensures { path_of result ≡ parent_in self.now.nodes }
     {
-        if self.marks.is_empty() {
-            return None;
-        }
-        let mut outward = self.store.outward();
-        outward.next()?;
-        outward.next()
+        self.stack.parent()
     }
 
     /// Whether all nodes that are entered are kept, and not those on the way alone.
@@ -106,39 +184,25 @@ impl<'a> Path<'a> {
     pub fn keeps_nodes(&self) -> bool
         ensures { result ≡ is_some self.now.entered }
     {
-        match &self.store.kind {
-            AstNodeStoreKind::Full(_) => true,
-            AstNodeStoreKind::Ancestry(_) => false,
-        }
-    }
-
-    /// The mark of that parent.
-    #[tactic(auto, using(crate::proofs::Parents::parents))]
-    fn parent_mark(&self) -> Option<bool>
-        ensures { result ≡ first_mark (parent_in self.now.nodes) }
-    {
-        let above = self.marks.len().checked_sub(2)?;
-        let mark = self.marks.get(above)?;
-        Some(*mark)
+        keeps(&self.store)
     }
 
     /// Whether that parent, the list, is simple.
     pub fn is_in_simple(&self, list: AstKind<'a>) -> bool
         ensures { list.entry.node.now ∷ [] ≡ parent_in self.now.nodes → result ≡ is_simple_parameter_list list.entry.node.now }
     {
-        match self.parent_mark() {
-            Some(mark) if list.ty() == AstType::FormalParameters => mark,
+        match self.simple.last() {
+            Some(is_simple) if is_list(list) && !self.is_at_list() => *is_simple,
             _ => list.is_simple_parameter_list(),
         }
     }
 
     /// The path from the last node outward.
     pub fn ancestry(&self) -> Ancestry<'a, '_>
-        requires { 0 < length self.now.nodes }
         ensures path { outward_path result ≡ reverse self.now.nodes }
         ensures store { IsInStore result }
     {
-        self.store.ancestry()
+        Ancestry::Stack(&self.stack)
     }
 
     /// The nodes that were entered, if all are kept, and else none.
