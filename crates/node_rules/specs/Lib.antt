@@ -1,1 +1,2 @@
+pub mod BoundIdentifiers
 pub mod Seen

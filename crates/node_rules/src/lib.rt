@@ -2,6 +2,7 @@
 #![tactic(auto)]
 
 pub mod ambient;
+pub mod bound_identifiers;
 pub mod cursor;
 pub mod declaring;
 pub mod direct_eval;
