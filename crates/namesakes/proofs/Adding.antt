@@ -1,24 +1,20 @@
 -- Names that are collected.
-use Rattle.std.proofs.Common.{◌≡◌, ℕ, ◌+◌, ◌==◌, ◌<◌, ◌≤◌, Bool, true, false, not, ◌&&◌, ◌||◌, cond, List, [], ◌∷◌, ◌++◌, Some, MatchBool, All, length, map, drop, get_or, refl, ap, sym, ◌∙◌, arith, length-append}
+use Rattle.std.proofs.Common.{◌≡◌, ℕ, ◌+◌, ◌==◌, ◌<◌, ◌≤◌, Bool, true, false, not, ◌&&◌, ◌||◌, List, [], ◌∷◌, ◌++◌, Some, MatchBool, All, length, map, drop, get_or, refl, ap, sym, ◌∙◌, arith, length-append}
 use Rattle.std.specs.List.{list_any}
 use Rattle.std.specs.List.Sorted.{IsPermutation}
 use Rattle.std.specs.Str.{bytes_eq}
 use Rattle.std.proofs.lemmas.Bool.Decides.{Decides-eqb, same_from_decides}
 use Rattle.std.proofs.lemmas.Slice.Eq.{bytes_eq-Decides}
-use Rattle.std.proofs.lemmas.List.{map-append}
 use Rattle.std.proofs.lemmas.List.Elements.{All-cons, All-head, All-tail}
 use Rattle.std.proofs.lemmas.List.Sorted.{list_any-IsPermutation, All-permutation}
 use Rattle.std.proofs.Math.ListN.{get_or-append}
-use Rattle.semantic_kinds.specs.declared.kind.AstType.{AstType}
 use Rattle.semantic_kinds.specs.declared.role.Role.{Role}
 use Rattle.semantic_syntax.specs.Tables.{Name}
 use Rattle.scoping.specs.Names.{name_at, IsUnknown, IsNumberOf, IsInterned}
 use Rattle.semantic_tree.specs.Children.{forest_of}
 use Rattle.semantic_tree.specs.declared.node.Node.{Node}
 use Rattle.semantic_tree.proofs.Fits.{drop_here}
-use Rattle.semantic_tree.specs.Views.{is_role_of}
-use Rattle.semantic_model.specs.Names.{binding_roles, bound_below, bound_names}
-use Rattle.walk_model.specs.WrittenNames.{Openers, Written, is_written, openers_at, names_in, written_below, written_in}
+use Rattle.walk_model.specs.WrittenNames.{Openers, Written, is_written, openers_at, written_below, written_in}
 use Rattle.namesakes.specs.WrittenNames.{Adds, written_of}
 use Rattle.std.proofs.Math.ListN.{drop_of_length-le}
 
@@ -58,18 +54,6 @@ rests-step now then_ mine left start all h k = record {
 
 pub rests-end : (now start all : List Written) → Rests now [] start all → Adds start now all
 rests-end now start all h n x = sym (or-none (is_written now n x)) ∙ h.same n x
-
--- a child's names come before those of the children behind it
-pub names-turn : (opener : ℕ) (parent : AstType) (items : List (Role × Node)) (i : ℕ) (child : Role × Node) → i < length items → child ≡ get_or items i child
-    → names_in opener (bound_below parent (forest_of (drop i items)))
-    ≡ names_in opener (cond (is_role_of child.0 (binding_roles parent)) (bound_names child.1) []) ++ names_in opener (bound_below parent (forest_of (drop (i + 1) items)))
-names-turn opener parent items i child h e =
-    let here : drop i items ≡ child ∷ drop (i + 1) items = drop_here items i child h e in
-    ap (λ (xs : List (Role × Node)). names_in opener (bound_below parent (forest_of xs))) here
-    ∙ map-append (λ (node : Node). record { opener = opener; name = node.text }) (cond (is_role_of child.0 (binding_roles parent)) (bound_names child.1) []) (bound_below parent (forest_of (drop (i + 1) items)))
-
-pub names-end : (opener : ℕ) (parent : AstType) (items : List (Role × Node)) (i : ℕ) → length items ≤ i → names_in opener (bound_below parent (forest_of (drop i items))) ≡ []
-names-end opener parent items i h = ap (λ (xs : List (Role × Node)). names_in opener (bound_below parent (forest_of xs))) (drop_of_length-le items h)
 
 pub written-turn : (parent : Node) (o : Openers) (items : List (Role × Node)) (i : ℕ) (child : Role × Node) → i < length items → child ≡ get_or items i child
     → written_below parent o (forest_of (drop i items)) ≡ written_in child.1 (Some parent) (openers_at parent child.0 o) ++ written_below parent o (forest_of (drop (i + 1) items))

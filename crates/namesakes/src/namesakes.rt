@@ -12,7 +12,7 @@ ghost use Rattle.semantic_tree.specs.Views.{is, child_of, holds};
 ghost use Rattle.walk_model.specs.WrittenNames.{is_written, openers_at, is_known_inside, opener_of_names, is_lexical, is_sloppy, counts_as, names_in, written_by, written_in, names_written};
 ghost use Rattle.namesakes.specs.WrittenNames.{Adds, openers_of};
 
-use node_rules::declaring::binds_under;
+use node_rules::bound_identifiers::bound_identifiers;
 use node_rules::inside::{is_inside, is_parameter_decorator};
 use node_rules::rows::{is_statement, is_var_declaration};
 use scoping::name_table::NameTable;
@@ -26,6 +26,7 @@ use std::marker::Model;
 /// name's number.
 #[derive(Drop)]
 pub struct Namesakes {
+    alloc: Global,
     names: NameTable,
     written: HashSet<(usize, usize)>,
 }
@@ -156,6 +157,7 @@ impl Namesakes {
         ensures { result ≡ [] }
     {
         Namesakes {
+            alloc,
             names: NameTable::new(alloc),
             written: HashSet::new(alloc),
         }
@@ -181,17 +183,12 @@ impl Namesakes {
     }
 
     /// The names that a node binds are declared in the scope that the opener opens.
-    #[tactic(auto, using(semantic_tree::specs::Falls::below))]
     fn note(&mut self, kind: AstKind<'_>, opener: NodeId) -> Result<(), AllocError>
         ensures { OnOk result (Adds self.old self.new (names_in opener (bound_names kind.entry.node.now))) }
     {
-        if kind.ty() == AstType::BindingIdentifier {
-            return self.add(opener, kind.text());
-        }
-        for (role, child) in kind.node().children.as_slice() {
-            if binds_under(kind.ty(), *role) {
-                self.note(AstKind::new(child), opener)?;
-            }
+        let names = bound_identifiers(self.alloc, kind)?;
+        for name in names.iter() {
+            self.add(opener, name.text())?;
         }
         Ok(())
     }
