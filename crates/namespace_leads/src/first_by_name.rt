@@ -9,8 +9,9 @@ ghost use Rattle.semantic_model.specs.Namespace.{exported, statements};
 ghost use Rattle.namespace_leads.specs.FirstNames.{with_first, with_names, with_statements};
 
 use indexmap::IndexMap;
-use node_rules::declaring::{binds_under, exported};
-use semantic_tree::{AstKind, AstType, Role};
+use node_rules::bound_identifiers::bound_identifiers;
+use node_rules::declaring::exported;
+use semantic_tree::{AstKind, Role};
 use std::alloc::{AllocError, Global};
 use std::marker::Model;
 
@@ -75,17 +76,17 @@ impl<'a> FirstByName<'a> {
     }
 
     /// Adds a statement that declares the names which the node binds.
-    #[tactic(auto, using(semantic_tree::specs::Falls::below, crate::proofs::EachName::naming))]
-    fn put_names(&mut self, kind: AstKind<'a>, statement: AstKind<'a>) -> Result<(), AllocError>
+    fn put_names(
+        &mut self,
+        alloc: Global,
+        kind: AstKind<'a>,
+        statement: AstKind<'a>,
+    ) -> Result<(), AllocError>
         ensures { OnOk result (self.new ≡ with_names self.old statement.entry.node.now (bound_names kind.entry.node.now)) }
     {
-        if kind.ty() == AstType::BindingIdentifier {
-            return self.put(kind.text().as_str(), statement);
-        }
-        for (role, child) in kind.node().children.as_slice() {
-            if binds_under(kind.ty(), *role) {
-                self.put_names(AstKind::new(child), statement)?;
-            }
+        let names = bound_identifiers(alloc, kind)?;
+        for name in names.iter() {
+            self.put(name.text().as_str(), statement)?;
         }
         Ok(())
     }
@@ -96,7 +97,7 @@ impl<'a> FirstByName<'a> {
     {
         let mut made = FirstByName::new(alloc);
         for statement in block.children(Role::Body) {
-            made.put_names(exported(statement), statement)?;
+            made.put_names(alloc, exported(statement), statement)?;
         }
         Ok(made)
     }
