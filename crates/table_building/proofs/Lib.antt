@@ -6,5 +6,5 @@ pub mod Growing
 pub mod Waiting
 pub mod Settling
 pub mod Outside
-pub mod EachName
+pub mod EachPart
 pub mod Rooms

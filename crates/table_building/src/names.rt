@@ -17,7 +17,7 @@ ghost use Rattle.table_building.specs.Each as each;
 use crate::declaration::Declaration;
 use crate::declared::Declared;
 use crate::route::Route;
-use node_rules::declaring::binds_under;
+use node_rules::bound_identifiers::bound_identifiers;
 use node_rules::rows::{Row, catch_pattern_row, caught_row, member_row};
 use semantic_syntax::ScopeId;
 use semantic_tree::{AstKind, AstType, Role};
@@ -26,7 +26,6 @@ use std::alloc::AllocError;
 #[tactic(auto, using(crate::proofs::Growing::growing))]
 impl<'a> Declared<'a> {
     /// The node declares the names that a part of it binds in the scope.
-    #[tactic(auto, using(semantic_tree::specs::Falls::below, crate::proofs::Growing::growing, crate::proofs::EachName::naming))]
     pub fn declare_names(
         &mut self,
         node: AstKind<'a>,
@@ -40,13 +39,9 @@ impl<'a> Declared<'a> {
         ensures made { OnOk result (self.new ≡ each.declare_each self.old scope (map (named_by node.entry.node.now row is_pure) (bound_names part.entry.node.now))) }
         ensures goes { Goes self.old self.new }
     {
-        if part.ty() == AstType::BindingIdentifier {
-            return self.declare_name(node, part, scope, row, is_pure);
-        }
-        for (role, child) in part.node().children.as_slice() {
-            if binds_under(part.ty(), *role) {
-                self.declare_names(node, AstKind::new(child), scope, row, is_pure)?;
-            }
+        let names = bound_identifiers(self.alloc, part)?;
+        for name in names.iter() {
+            self.declare_name(node, name, scope, row, is_pure)?;
         }
         Ok(())
     }
@@ -71,7 +66,6 @@ impl<'a> Declared<'a> {
     }
 
     /// The node declares the names that a part of it binds as `var` variables (ECMAScript 8.2.6, VarDeclaredNames).
-    #[tactic(auto, using(semantic_tree::specs::Falls::below, crate::proofs::Growing::growing, crate::proofs::EachName::naming))]
     pub fn hoist_names(
         &mut self,
         node: AstKind<'a>,
@@ -85,13 +79,9 @@ impl<'a> Declared<'a> {
         ensures made { OnOk result (self.new ≡ each.hoist_each self.old route.now.passed.items route.now.target (map (named_by node.entry.node.now row is_pure) (bound_names part.entry.node.now))) }
         ensures goes { Goes self.old self.new }
     {
-        if part.ty() == AstType::BindingIdentifier {
-            return self.hoist_name(node, part, route, row, is_pure);
-        }
-        for (role, child) in part.node().children.as_slice() {
-            if binds_under(part.ty(), *role) {
-                self.hoist_names(node, AstKind::new(child), route, row, is_pure)?;
-            }
+        let names = bound_identifiers(self.alloc, part)?;
+        for name in names.iter() {
+            self.hoist_name(node, name, route, row, is_pure)?;
         }
         Ok(())
     }

@@ -5,7 +5,7 @@ use Rattle.table_building.specs.Named.{named_by}
 use Rattle.semantic_model.specs.Names.{bound_names}
 use Rattle.table_building.specs.Each.{declare_each}
 use Rattle.table_building.proofs.Growing.{goes-trans}
-use Rattle.table_building.proofs.EachName.{parts_turn}
+use Rattle.table_building.proofs.EachPart.{parts_turn}
 use Rattle.table_building.proofs.Rooms.{named_adds, parts_room}
 use Rattle.table_building.proofs.declared.Declared.declare_under.Goals as goal
 
