@@ -33,7 +33,7 @@ ghost use Rattle.table_building.specs.Growth.{Goes};
 use crate::walk::Walk;
 use namespace_states::ModuleInstanceState;
 use namespace_states::namespace_row::namespace_row;
-use node_rules::declaring::binds_under;
+use node_rules::bound_identifiers::bound_identifiers;
 use node_rules::rows::{self, Row};
 use semantic_syntax::ScopeFlags;
 use semantic_tree::{AstKind, AstType, Mark, Role};
@@ -219,32 +219,26 @@ impl<'a> Walk<'a> {
         let row = rows::function_row(function, self.parent(), self.source_type, flags);
         let is_pure = function.has_mark(Mark::Pure);
         if rows::may_move(function, self.source_type, flags) {
-            self.bind_block_function(function, function, row, is_pure)
+            self.bind_block_function(function, row, is_pure)
         } else {
             self.bind_names(function, row, is_pure)
         }
     }
 
-    /// A plain function in a block of sloppy JavaScript: the names that a part of it binds (ECMAScript, Annex B.3.2).
-    #[tactic(auto, using(semantic_tree::specs::Falls::below, crate::proofs::Going::going, crate::proofs::MovedNames::moved_names))]
+    /// A plain function in a block of sloppy JavaScript: its names (ECMAScript, Annex B.3.2).
     fn bind_block_function(
         &mut self,
         function: AstKind<'a>,
-        part: AstKind<'a>,
         row: Row,
         is_pure: bool,
     ) -> Result<(), AllocError>
-        requires { length self.old.made.tables.symbols + length (bound_names part.node.now) ≤ u32.MAX }
-        ensures made { OnOk result (self.new ≡ moving self.old (map (named_by function.entry.node.now row is_pure) (bound_names part.entry.node.now))) }
+        requires { length self.old.made.tables.symbols + length (bound_names function.node.now) ≤ u32.MAX }
+        ensures made { OnOk result (self.new ≡ moving self.old (map (named_by function.entry.node.now row is_pure) (bound_names function.entry.node.now))) }
         ensures goes { OnOk result (Goes self.old.made self.new.made) }
     {
-        if part.ty() == AstType::BindingIdentifier {
-            return self.bind_block_name(function, part, row, is_pure);
-        }
-        for (role, child) in part.node().children.as_slice() {
-            if binds_under(part.ty(), *role) {
-                self.bind_block_function(function, AstKind::new(child), row, is_pure)?;
-            }
+        let names = bound_identifiers(self.alloc, function)?;
+        for name in names.iter() {
+            self.bind_block_name(function, name, row, is_pure)?;
         }
         Ok(())
     }
