@@ -11,7 +11,7 @@ ghost use Rattle.module_entries.specs.Views.{export_of};
 
 use crate::entries::ModuleEntries;
 use crate::export::ExportEntry;
-use node_rules::declaring::binds_under;
+use node_rules::bound_identifiers::bound_identifiers;
 use semantic_tree::{AstKind, AstType, Node, Role};
 use std::alloc::AllocError;
 
@@ -38,17 +38,12 @@ impl<'a> ModuleEntries<'a> {
     }
 
     /// Adds the exports of the names that a node binds.
-    #[tactic(auto, using(semantic_tree::specs::Falls::below))]
-    fn gather_bound(&mut self, statement: &'a Node, node: &'a Node) -> Result<(), AllocError>
-        ensures { OnOk result (seen self.new ≡ with_exports (seen self.old) (map (export_of statement.now) (bound_names node.now))) }
+    fn gather_bound(&mut self, statement: &'a Node, node: AstKind<'a>) -> Result<(), AllocError>
+        ensures { OnOk result (seen self.new ≡ with_exports (seen self.old) (map (export_of statement.now) (bound_names node.entry.node.now))) }
     {
-        if node.kind == AstType::BindingIdentifier {
-            return self.add_export(statement, node);
-        }
-        for (role, child) in node.children.as_slice() {
-            if binds_under(node.kind, *role) {
-                self.gather_bound(statement, child)?;
-            }
+        let names = bound_identifiers(*self.exports.allocator(), node)?;
+        for name in names.iter() {
+            self.add_export(statement, name.node())?;
         }
         Ok(())
     }
@@ -58,7 +53,7 @@ impl<'a> ModuleEntries<'a> {
         ensures { OnOk result (seen self.new ≡ with_exports (seen self.old) (map (export_of statement.now) (declared_names statement.now))) }
     {
         for declaration in AstKind::new(statement).children(Role::Declaration) {
-            self.gather_bound(statement, declaration.node())?;
+            self.gather_bound(statement, declaration)?;
         }
         Ok(())
     }
