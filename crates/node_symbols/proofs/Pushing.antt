@@ -1,13 +1,11 @@
 -- Names that are pushed one after the other.
 use Rattle.std.proofs.Common.{◌≡◌, ℕ, ◌+◌, ◌<◌, List, [], ◌∷◌, ◌++◌, true, false, cond, length, drop, get_or, map, sym, ap, ◌∙◌}
-use Rattle.std.proofs.lemmas.List.{append_assoc, map-append}
-use Rattle.semantic_kinds.specs.declared.kind.AstType.{AstType}
+use Rattle.std.proofs.lemmas.List.{append_assoc}
 use Rattle.semantic_kinds.specs.declared.role.Role.{Role}
 use Rattle.semantic_tree.specs.Children.{forest_of}
 use Rattle.semantic_tree.specs.declared.node.Node.{Node}
 use Rattle.semantic_tree.proofs.Fits.{drop_here}
-use Rattle.semantic_tree.specs.Views.{is_role_of}
-use Rattle.semantic_model.specs.Names.{binding_roles, bound_below, bound_names}
+use Rattle.semantic_model.specs.Names.{bound_names}
 use Rattle.node_symbols.specs.declared.exports.Export.{Export}
 use Rattle.node_symbols.specs.Given.{gives, names_given, given_below, given_from}
 
@@ -17,21 +15,6 @@ turns now next here before left all pushed cut h = ap (λ xs. xs ++ left) pushed
 
 abbrev pub ids : List Node → List ℕ
 ids nodes = map (λ x. x.node_id) nodes
-
--- a child that binds
-pub bound_turn : (kind : AstType) (items : List (Role × Node)) (i : ℕ) (child : Role × Node) → i < length items → child ≡ get_or items i child → is_role_of child.0 (binding_roles kind) ≡ true
-    → ids (bound_below kind (forest_of (drop i items))) ≡ ids (bound_names child.1) ++ ids (bound_below kind (forest_of (drop (i + 1) items)))
-bound_turn kind items i child h e binds =
-    ap (λ xs. ids (bound_below kind (forest_of xs))) (drop_here items i child h e)
-    ∙ ap (λ b. ids (cond b (bound_names child.1) [] ++ bound_below kind (forest_of (drop (i + 1) items)))) binds
-    ∙ map-append (λ (x : Node). x.node_id) (bound_names child.1) (bound_below kind (forest_of (drop (i + 1) items)))
-
--- and one that doesn't
-pub unbound_turn : (kind : AstType) (items : List (Role × Node)) (i : ℕ) (child : Role × Node) → i < length items → child ≡ get_or items i child → is_role_of child.0 (binding_roles kind) ≡ false
-    → ids (bound_below kind (forest_of (drop i items))) ≡ ids (bound_below kind (forest_of (drop (i + 1) items)))
-unbound_turn kind items i child h e binds =
-    ap (λ xs. ids (bound_below kind (forest_of xs))) (drop_here items i child h e)
-    ∙ ap (λ b. ids (cond b (bound_names child.1) [] ++ bound_below kind (forest_of (drop (i + 1) items)))) binds
 
 pub given_turn : (e : Export) (items : List (Role × Node)) (i : ℕ) (child : Role × Node) → i < length items → child ≡ get_or items i child
     → given_below e (forest_of (drop i items)) ≡ given_from e child.1 ++ given_below e (forest_of (drop (i + 1) items))

@@ -7,7 +7,7 @@ ghost use Rattle.semantic_model.specs.Step.{steps};
 ghost use Rattle.program_names.specs.Exported.{is_default_declaration, exported_names, default_exported_names};
 ghost use Rattle.node_symbols.specs.Given.{exporting, gives, given_names, given_from};
 
-use node_rules::declaring::binds_under;
+use node_rules::bound_identifiers::bound_identifiers;
 use node_rules::rows::is_statement;
 use semantic_syntax::NodeId;
 use semantic_tree::{AstKind, AstType, Node, Program, Role};
@@ -56,18 +56,12 @@ fn is_default_declaration(declaration: AstKind<'_>) -> bool
 }
 
 /// Adds the names that a node binds. For want of memory some may be added.
-#[tactic(auto, using(semantic_tree::specs::Falls::below))]
-fn push_names(names: &mut Vec<NodeId>, node: &Node) -> Result<(), AllocError>
-    ensures { OnOk result (names.new.items ≡ names.old.items ++ map (λ x. x.node_id) (bound_names node.now)) }
+fn push_names(names: &mut Vec<NodeId>, node: AstKind<'_>) -> Result<(), AllocError>
+    ensures { OnOk result (names.new.items ≡ names.old.items ++ map (λ x. x.node_id) (bound_names node.entry.node.now)) }
 {
-    if node.kind == AstType::BindingIdentifier {
-        names.push(node.node_id)?;
-        return Ok(());
-    }
-    for (role, child) in node.children.as_slice() {
-        if binds_under(node.kind, *role) {
-            push_names(names, child)?;
-        }
+    let bound = bound_identifiers(*names.allocator(), node)?;
+    for name in bound.iter() {
+        names.push(name.node_id())?;
     }
     Ok(())
 }
@@ -81,7 +75,7 @@ fn push_given(names: &mut Vec<NodeId>, export: Export, node: AstKind<'_>) -> Res
     }
     for declaration in node.children(Role::Declaration) {
         if export.gives(declaration) {
-            push_names(names, declaration.node())?;
+            push_names(names, declaration)?;
         }
     }
     Ok(())
