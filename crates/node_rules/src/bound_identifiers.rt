@@ -3,14 +3,32 @@
 ghost use Rattle.std.specs.Prelude.{◌≡◌, [], ◌∷◌, ◌++◌, IfOk, OnOk};
 ghost use Rattle.std.specs.Iterator.{YieldsFirstBy, item_count};
 ghost use Rattle.semantic_tree.specs.ChildIter.{shown};
-ghost use Rattle.semantic_model.specs.Names.{bound_names};
+ghost use Rattle.semantic_tree.specs.Views.{is_role_of};
+ghost use Rattle.semantic_model.specs.Names.{binding_roles, bound_names};
 ghost use Rattle.node_rules.specs.BoundIdentifiers.{names_left};
 
-use crate::declaring::binds_under;
-use semantic_tree::{AstKind, AstType};
+use semantic_tree::{AstKind, AstType, Role};
 use std::alloc::{AllocError, Global};
 use std::marker::Model;
 use std::slice::Iter;
+
+/// Whether what a child in the role binds, its parent of the kind binds too (ECMAScript 8.2.1, BoundNames).
+fn binds_under(parent: AstType, role: Role) -> bool
+    ensures { result ≡ is_role_of role (binding_roles parent) }
+{
+    match parent {
+        AstType::VariableDeclaration => role == Role::Declarators,
+        AstType::FormalParameters => role == Role::Items || role == Role::Rest,
+        AstType::FormalParameter | AstType::CatchParameter => role == Role::Pattern,
+        AstType::FormalParameterRest => role == Role::Rest,
+        AstType::BindingRestElement => role == Role::Argument,
+        AstType::ObjectPattern => role == Role::Properties || role == Role::Rest,
+        AstType::BindingProperty => role == Role::Value,
+        AstType::ArrayPattern => role == Role::Elements || role == Role::Rest,
+        AstType::AssignmentPattern => role == Role::Left,
+        _ => role == Role::Id,
+    }
+}
 
 /// The binding identifiers of a node, in preorder. Most nodes bind one, which takes no memory. Contracts see their
 /// nodes.
