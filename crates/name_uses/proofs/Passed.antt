@@ -1,5 +1,5 @@
 -- What the pass over a tree gathers is what the definitions take from the steps of the walk.
-use Rattle.std.proofs.Common.{◌≡◌, ℕ, ◌+◌, List, [], ◌∷◌, ◌++◌, Bool, true, false, ◌&&◌, not, cond, Option, None, Some, map, refl, sym, ap, ◌∙◌, append_assoc, append-nil, option_and_then}
+use Rattle.std.proofs.Common.{◌≡◌, ℕ, List, [], ◌∷◌, ◌++◌, Bool, true, false, ◌&&◌, not, cond, Option, None, Some, map, refl, sym, ap, ◌∙◌, append_assoc, append-nil, option_and_then}
 use Rattle.std.specs.List.{cons_option}
 use Rattle.semantic_kinds.specs.declared.role.Role.{Role}
 use Rattle.semantic_kinds.specs.declared.kind.AstType.TheVariants as kind
@@ -7,12 +7,13 @@ use Rattle.semantic_tree.specs.Forest.{Forest, nothing, tree}
 use Rattle.semantic_tree.specs.Tree.{Tree}
 use Rattle.semantic_tree.specs.declared.node.Node.{Node}
 use Rattle.semantic_tree.specs.Views.{is, has_role}
-use Rattle.semantic_model.specs.Inside.{opens, is_inside, any_inside, header_roles, is_in_header, scopes_in}
+use Rattle.semantic_model.specs.Inside.{opens, is_inside, any_inside, header_roles, is_in_header}
 use Rattle.semantic_model.specs.Place.{Place, OpenScope}
 use Rattle.semantic_model.specs.Reference.{reference_at, references}
 use Rattle.semantic_model.specs.ScopeKind.{opened_scope}
 use Rattle.semantic_model.specs.Cursor.{on_entering}
-use Rattle.semantic_model.specs.Step.{Step, entering, opening, leaving, header_ending, closing, scope_at, next_at, opening_at, ending_after, opening_last, child_place, cursor_past, steps_below, root_place, steps}
+use Rattle.semantic_model.specs.Step.{Step, entering, opening, leaving, header_ending, closing, opening_at, ending_after, opening_last, steps_below, root_place, steps}
+use Rattle.semantic_model.proofs.steps.Turn.{Turn, turn_at}
 use Rattle.program_names.specs.Analysis.{Analysis, symbol_at}
 use Rattle.name_uses.specs.Uses.{own_name, or_further, owner_on, owner_of, owners}
 use Rattle.name_uses.specs.Undeclared.{reference_names, reference_spans}
@@ -88,19 +89,15 @@ module _ (a : Analysis) where
   below nothing p own n cursor g = last_quietly p own n g
   below (tree r k span text marks children id after) p own n cursor g =
       let here : Node = record { kind = k; span = span; text = text; marks = marks; children = children; node_id = id } in
-      let scope : Option OpenScope = scope_at p r own n in
-      let next : ℕ = next_at p r own n in
-      let child : Place = child_place p scope cursor r here in
+      let parts : Turn = turn_at p own n cursor r here after in
       let owner : Option ℕ = owner_of a (p.node ∷ p.path) in
-      let inner : List Step = steps_below child None next (on_entering k child.cursor) children in
-      let later : List Step = steps_below p scope (next + cond (opens k) 1 0 + scopes_in children) (cursor_past p r cursor child) after in
       let deeper : Gathered = gathered_below (symbol_at a) (owner_inside (symbol_at a) owner here) children (gathered_at owner here g) in
-      turn g (opening_at p r own n) (entering child ∷ (inner ++ leaving child ∷ [])) (ending_after p r scope after) later (opens_quietly p r own n) (ends_quietly p r scope after)
-      ∙ ap (λ x. gathered_all a x later)
-      (all_append (gathered_at owner here g) inner (leaving child ∷ [])
-      ∙ below children child None next (on_entering k child.cursor) (gathered_at owner here g)
+      turn g parts.before parts.whole parts.behind parts.others (opens_quietly p r own n) (ends_quietly p r parts.scope after)
+      ∙ ap (λ x. gathered_all a x parts.others)
+      (all_append (gathered_at owner here g) parts.below (leaving parts.child ∷ [])
+      ∙ below children parts.child None parts.next parts.inner (gathered_at owner here g)
       ∙ ap (λ o. gathered_below (symbol_at a) o children (gathered_at owner here g)) (owner_below here (p.node ∷ p.path)))
-      ∙ below after p scope (next + cond (opens k) 1 0 + scopes_in children) (cursor_past p r cursor child) deeper
+      ∙ below after p parts.scope parts.rest parts.past deeper
 
   -- the steps of a program
   whole : (p : Tree) (g : Gathered) → gathered_all a g (steps p) ≡ gathered_from (symbol_at a) None p.root g
