@@ -1,5 +1,5 @@
 -- Nodes where nothing happens, by their kinds.
-use Rattle.std.specs.Prelude.{Bool, true, false, ◌&&◌, not}
+use Rattle.std.specs.Prelude.{Bool, true, false, ◌&&◌, ◌||◌, not}
 use Rattle.semantic_kinds.specs.Roles.{same_role}
 use Rattle.semantic_kinds.specs.declared.kind.AstType.{AstType}
 use Rattle.semantic_kinds.specs.declared.kind.AstType.TheVariants as kind
@@ -9,6 +9,7 @@ use Rattle.semantic_kinds.specs.declared.role.Role.TheVariants as role
 use Rattle.semantic_tree.specs.Forest.{Forest, nothing, tree}
 use Rattle.semantic_tree.specs.declared.node.Node.{Node}
 use Rattle.semantic_tree.specs.Views.{has}
+use Rattle.semantic_model.specs.Inside.{opens}
 
 -- whether something may be made or noted on entering a node of the kind
 abbrev pub acts_on_entering : AstType → Bool
@@ -38,54 +39,33 @@ acts_on_entering kind.TSNamespaceDeclaration = true
 acts_on_entering kind.TSImportEqualsDeclaration = true
 acts_on_entering _ = false
 
+-- whether the cursor may turn round a child of a node of the kind, or the child stands elsewhere, though the node opens no scope
+abbrev pub turns_between : AstType → Bool
+turns_between kind.MethodDefinition = true
+turns_between kind.PropertyDefinition = true
+turns_between kind.ExportNamedDeclaration = true
+turns_between kind.ExportDefaultDeclaration = true
+turns_between kind.ComputedMemberExpression = true
+turns_between kind.UnaryExpression = true
+turns_between kind.UpdateExpression = true
+turns_between kind.ConditionalExpression = true
+turns_between kind.AssignmentExpression = true
+turns_between kind.AssignmentTargetPropertyIdentifier = true
+turns_between kind.ArrayAssignmentTarget = true
+turns_between kind.TSTypeReference = true
+turns_between kind.TSQualifiedName = true
+turns_between kind.TSPropertySignature = true
+turns_between kind.TSInterfaceHeritage = true
+turns_between kind.TSClassImplements = true
+turns_between kind.TSImportEqualsDeclaration = true
+turns_between kind.TSExportAssignment = true
+turns_between kind.FormalParameter = true
+turns_between kind.FormalParameterRest = true
+turns_between _ = false
+
 -- whether something may happen round a child of a node of the kind: a scope or a header, the cursor turns, or the child stands elsewhere
 abbrev pub acts_between : AstType → Bool
-acts_between kind.Program = true
-acts_between kind.Class = true
-acts_between kind.Function = true
-acts_between kind.ArrowFunctionExpression = true
-acts_between kind.BlockStatement = true
-acts_between kind.ForStatement = true
-acts_between kind.ForInStatement = true
-acts_between kind.ForOfStatement = true
-acts_between kind.SwitchStatement = true
-acts_between kind.WithStatement = true
-acts_between kind.CatchClause = true
-acts_between kind.StaticBlock = true
-acts_between kind.TSNamespaceDeclaration = true
-acts_between kind.TSExternalModuleDeclaration = true
-acts_between kind.TSGlobalDeclaration = true
-acts_between kind.TSTypeAliasDeclaration = true
-acts_between kind.TSInterfaceDeclaration = true
-acts_between kind.TSMethodSignature = true
-acts_between kind.TSMappedType = true
-acts_between kind.TSEnumBody = true
-acts_between kind.TSFunctionType = true
-acts_between kind.TSConstructorType = true
-acts_between kind.TSCallSignatureDeclaration = true
-acts_between kind.TSConstructSignatureDeclaration = true
-acts_between kind.TSConditionalType = true
-acts_between kind.MethodDefinition = true
-acts_between kind.PropertyDefinition = true
-acts_between kind.ExportNamedDeclaration = true
-acts_between kind.ExportDefaultDeclaration = true
-acts_between kind.ComputedMemberExpression = true
-acts_between kind.UnaryExpression = true
-acts_between kind.UpdateExpression = true
-acts_between kind.ConditionalExpression = true
-acts_between kind.AssignmentExpression = true
-acts_between kind.AssignmentTargetPropertyIdentifier = true
-acts_between kind.ArrayAssignmentTarget = true
-acts_between kind.TSTypeReference = true
-acts_between kind.TSQualifiedName = true
-acts_between kind.TSPropertySignature = true
-acts_between kind.TSInterfaceHeritage = true
-acts_between kind.TSClassImplements = true
-acts_between kind.TSImportEqualsDeclaration = true
-acts_between kind.TSExportAssignment = true
-acts_between kind.FormalParameter = true
-acts_between kind.FormalParameterRest = true
-acts_between _ = false
+acts_between k = opens k || turns_between k
 
 -- whether nothing happens at a node of the kind itself: it has no scope, nothing is made or noted on entering and leaving it, and the cursor is the same behind it
 abbrev pub is_quiet : AstType → Bool

@@ -1,8 +1,9 @@
 //! Nodes where nothing happens, by their kinds: most nodes only carry what is below them.
 
 ghost use Rattle.std.specs.Prelude.{◌≡◌};
-ghost use Rattle.semantic_walk.specs.EvenKinds.{acts_on_entering, acts_between, is_quiet, is_leaf, stands_alike};
+ghost use Rattle.semantic_walk.specs.EvenKinds.{acts_on_entering, turns_between, acts_between, is_quiet, is_leaf, stands_alike};
 
+use node_rules::inside::opens;
 use semantic_tree::{AstKind, AstType, Mark, Role};
 
 /// Whether something may be made or noted on entering a node of the kind: it refers to a name, may call `eval`, declares
@@ -40,62 +41,46 @@ pub(crate) fn acts_on_entering(kind: AstType) -> bool
     )
 }
 
+/// Whether the cursor may turn round a child of a node of the kind, or the child stands elsewhere, though the node opens no
+/// scope.
+#[inline(always)]
+fn turns_between(kind: AstType) -> bool
+    ensures { result ≡ turns_between kind }
+{
+    matches!(
+        kind,
+        // The cursor turns.
+        AstType::MethodDefinition
+            | AstType::PropertyDefinition
+            | AstType::ExportNamedDeclaration
+            | AstType::ExportDefaultDeclaration
+            | AstType::ComputedMemberExpression
+            | AstType::UnaryExpression
+            | AstType::UpdateExpression
+            | AstType::ConditionalExpression
+            | AstType::AssignmentExpression
+            | AstType::AssignmentTargetPropertyIdentifier
+            | AstType::ArrayAssignmentTarget
+            | AstType::TSTypeReference
+            | AstType::TSQualifiedName
+            | AstType::TSPropertySignature
+            | AstType::TSInterfaceHeritage
+            | AstType::TSClassImplements
+            | AstType::TSImportEqualsDeclaration
+            | AstType::TSExportAssignment
+            // Decorators stand outside.
+            | AstType::FormalParameter
+            | AstType::FormalParameterRest
+    )
+}
+
 /// Whether something may happen round a child of a node of the kind: a scope opens or closes, a header ends, the cursor
 /// turns, or the child stands elsewhere.
 #[inline(always)]
 pub(crate) fn acts_between(kind: AstType) -> bool
     ensures { result ≡ acts_between kind }
 {
-    match kind {
-        // A scope opens.
-        AstType::Program
-        | AstType::Class
-        | AstType::Function
-        | AstType::ArrowFunctionExpression
-        | AstType::BlockStatement
-        | AstType::ForStatement
-        | AstType::ForInStatement
-        | AstType::ForOfStatement
-        | AstType::SwitchStatement
-        | AstType::WithStatement
-        | AstType::CatchClause
-        | AstType::StaticBlock
-        | AstType::TSNamespaceDeclaration
-        | AstType::TSExternalModuleDeclaration
-        | AstType::TSGlobalDeclaration
-        | AstType::TSTypeAliasDeclaration
-        | AstType::TSInterfaceDeclaration
-        | AstType::TSMethodSignature
-        | AstType::TSMappedType
-        | AstType::TSEnumBody
-        | AstType::TSFunctionType
-        | AstType::TSConstructorType
-        | AstType::TSCallSignatureDeclaration
-        | AstType::TSConstructSignatureDeclaration
-        | AstType::TSConditionalType => true,
-        // The cursor turns.
-        AstType::MethodDefinition
-        | AstType::PropertyDefinition
-        | AstType::ExportNamedDeclaration
-        | AstType::ExportDefaultDeclaration
-        | AstType::ComputedMemberExpression
-        | AstType::UnaryExpression
-        | AstType::UpdateExpression
-        | AstType::ConditionalExpression
-        | AstType::AssignmentExpression
-        | AstType::AssignmentTargetPropertyIdentifier
-        | AstType::ArrayAssignmentTarget
-        | AstType::TSTypeReference
-        | AstType::TSQualifiedName
-        | AstType::TSPropertySignature
-        | AstType::TSInterfaceHeritage
-        | AstType::TSClassImplements
-        | AstType::TSImportEqualsDeclaration
-        | AstType::TSExportAssignment => true,
-        // Decorators stand outside.
-        AstType::FormalParameter | AstType::FormalParameterRest => true,
-        _ => false,
-    }
+    opens(kind) || turns_between(kind)
 }
 
 /// Whether nothing happens at a node of the kind itself: it has no scope, nothing is made or noted on entering and
