@@ -12,17 +12,18 @@ use Rattle.semantic_syntax.specs.Told.{source_of}
 use Rattle.scoping.specs.Writing.{with_symbol, with_uses, with_home}
 use Rattle.scoping.specs.Writing as writing
 use Rattle.semantic_tree.specs.Views.{is}
+use Rattle.semantic_model.specs.Naming.{Naming}
 use Rattle.semantic_model.specs.Place.{Place, OpenScope, at, innermost}
 use Rattle.semantic_model.specs.Cursor.{way_of}
 use Rattle.semantic_model.specs.Declaration.{How, plain, hoisted, moved, caught, Declaration, stands_in}
 use Rattle.semantic_model.specs.Binder.{declared_on_entering, declared_on_opening}
 use Rattle.semantic_model.specs.Event.{takes_over, is_catch_body, taken_over, placed, declares_all}
+use Rattle.semantic_model.specs.Fold.{new_symbol, redeclared, united}
 use Rattle.semantic_model.specs.Hoist.{PassedSymbol}
 use Rattle.semantic_syntax.specs.Outcome.{Pending, Outcome, means, is_free, waits, header_outcome}
 use Rattle.semantic_model.specs.Step.{Step, entering, opening, header_ending, closing, leaving}
 use Rattle.semantic_model.specs.TablesOf.{is_direct_eval}
 use Rattle.walk_model.specs.WalkState.{WalkState}
-use Rattle.walk_model.specs.Naming.{Naming, naming_of}
 use Rattle.walk_model.specs.Declares as writes
 use Rattle.walk_model.specs.Hoists as reaches
 use Rattle.walk_model.specs.Opens.{with_eval, open_scope, note_reference, close_scope, add_eval, refer, number_of}
@@ -87,12 +88,12 @@ note_symbol_adds w y d = by d.is_pure
     by false = adds_none w.tables
 
 make_adds : (w : WalkState) (s : ℕ) (d : Naming) → Adds 0 1 0 w.tables (writes.make w s d).tables
-make_adds w s d = record { of_scopes = omega arith; of_symbols = omega (arith, length-append w.tables.symbols (writes.new_symbol s d ∷ [])); of_references = omega arith }
+make_adds w s d = record { of_scopes = omega arith; of_symbols = omega (arith, length-append w.tables.symbols (new_symbol s d ∷ [])); of_references = omega arith }
 
 unite_adds : (w : WalkState) (y : ℕ) (d : Naming) → AddsNone w.tables (writes.unite w y d).tables
 unite_adds w y d =
     let more : WalkState = writes.redeclare (writes.against w d y) y d in
-    changes_then w.tables y (writes.redeclared d (symbol_of w.tables y)) (writes.unite w y d).tables (changes_symbol more.tables y (writes.with_flags d.flags (symbol_of more.tables y)))
+    changes_then w.tables y (redeclared d (symbol_of w.tables y)) (writes.unite w y d).tables (changes_symbol more.tables y (united d.flags (symbol_of more.tables y)))
 
 found_adds : (w : WalkState) (s : ℕ) (d : Naming) (o : Option ℕ) → Adds 0 1 0 w.tables (writes.symbol_by w s d o).tables
 found_adds w s d None = make_adds w s d
@@ -139,7 +140,7 @@ hoisted_adds : (w : WalkState) (target : ℕ) (d : Naming) (o : Option PassedSym
 hoisted_adds w target d None = found_adds w target d (writes.found w target d.name)
 hoisted_adds w target d (Some h) =
     none_is_few 1 w.tables (reaches.hoisted_by w target d (Some h)).tables
-    (changes_then w.tables h.symbol (writes.redeclared d (symbol_of w.tables h.symbol)) (reaches.hoisted_by w target d (Some h)).tables
+    (changes_then w.tables h.symbol (redeclared d (symbol_of w.tables h.symbol)) (reaches.hoisted_by w target d (Some h)).tables
     (move_adds (writes.redeclare w h.symbol d) h.scope target h.symbol d.name))
 
 pub hoist_adds : (w : WalkState) (passed : List ℕ) (target : ℕ) (d : Naming) → Adds 0 1 0 w.tables (reaches.hoist w passed target d).tables
@@ -177,10 +178,10 @@ moved_adds w block target d =
     then_none 0 1 0 w.tables had.tables (reaches.declare_and_move w block target d).tables (declare_adds w block d) (out_adds had block target y d.name)
 
 by_adds : (how : How) (w : WalkState) (d : Declaration) → Adds 0 1 0 w.tables (declare_by how w d).tables
-by_adds plain w d = declare_adds w d.target.number (naming_of d)
-by_adds hoisted w d = hoist_adds w (numbers d.passed) d.target.number (naming_of d)
-by_adds moved w d = moved_adds w (stands_in d) d.target.number (naming_of d)
-by_adds caught w d = anew_adds w d.target.number (naming_of d)
+by_adds plain w d = declare_adds w d.target.number d.naming
+by_adds hoisted w d = hoist_adds w (numbers d.passed) d.target.number d.naming
+by_adds moved w d = moved_adds w (stands_in d) d.target.number d.naming
+by_adds caught w d = anew_adds w d.target.number d.naming
 
 -- declarations make a symbol each at most
 pub declares_add : (ds new : List Declaration) (w : WalkState) → Adds 0 (length new) 0 w.tables (act_all w (declares_all ds new)).tables

@@ -35,7 +35,7 @@ note_symbol_length : (st : State) (d : Declaration) (s : ℕ) → length (note_s
 note_symbol_length st d s = length-append st.made (record { declaration = d; symbol = s } ∷ [])
 
 made_covers : (st : State) (c : ℕ) (d : Declaration) → Covers st (make st c d)
-made_covers st c d = omega (arith, note_symbol_length st d (length st.symbols), length-append st.symbols (new_symbol c d ∷ []))
+made_covers st c d = omega (arith, note_symbol_length st d (length st.symbols), length-append st.symbols (new_symbol c d.naming ∷ []))
 
 -- where no symbol is made
 kept_covers : (old new : State) → length new.symbols ≡ length old.symbols → length old.made ≤ length new.made → Covers old new
@@ -43,7 +43,7 @@ kept_covers old new h k = omega (arith, h, k)
 
 declared_covers : (st : State) (c : ℕ) (d : Declaration) (s : Option ℕ) → Covers st (declare_in st c d s)
 declared_covers st c d None = made_covers st c d
-declared_covers st c d (Some s) = omega (arith, update_length (λ y. united d.flags (redeclared d y)) st.symbols s, note_symbol_length (record (against st d s) { symbols = update (λ y. united d.flags (redeclared d y)) st.symbols s }) d s)
+declared_covers st c d (Some s) = omega (arith, update_length (λ y. united d.naming.flags (redeclared d.naming y)) st.symbols s, note_symbol_length (record (against st d s) { symbols = update (λ y. united d.naming.flags (redeclared d.naming y)) st.symbols s }) d s)
 
 against_same : (st : State) (d : Declaration) (ss : List ℕ) → ((against_all st d ss).symbols ≡ st.symbols) × ((against_all st d ss).made ≡ st.made)
 against_same st d [] = (refl, refl)
@@ -54,29 +54,29 @@ moved_covers st c t x s (Some r) = omega arith
 moved_covers st c t x s None = omega (arith, update_length (in_scope t) st.symbols s)
 
 hoisted_covers : (st : State) (d : Declaration) (o : Option PassedSymbol) → Covers st (hoist_by st d o)
-hoisted_covers st d None = declared_covers st d.target.number d (found st d.target.number d.name)
+hoisted_covers st d None = declared_covers st d.target.number d (found st d.target.number d.naming.name)
 hoisted_covers st d (Some h) =
-    let st1 : State = note_symbol (record st { symbols = update (redeclared d) st.symbols h.symbol }) d h.symbol in
-    covers st st1 (move_symbol st1 h.scope d.target.number d.name h.symbol (get st1.bindings d.target.number d.name))
-    (omega (arith, update_length (redeclared d) st.symbols h.symbol, note_symbol_length (record st { symbols = update (redeclared d) st.symbols h.symbol }) d h.symbol))
-    (moved_covers st1 h.scope d.target.number d.name h.symbol (get st1.bindings d.target.number d.name))
+    let st1 : State = note_symbol (record st { symbols = update (redeclared d.naming) st.symbols h.symbol }) d h.symbol in
+    covers st st1 (move_symbol st1 h.scope d.target.number d.naming.name h.symbol (get st1.bindings d.target.number d.naming.name))
+    (omega (arith, update_length (redeclared d.naming) st.symbols h.symbol, note_symbol_length (record st { symbols = update (redeclared d.naming) st.symbols h.symbol }) d h.symbol))
+    (moved_covers st1 h.scope d.target.number d.naming.name h.symbol (get st1.bindings d.target.number d.naming.name))
 
 out_covers : (st : State) (c t : ℕ) (x : Name) (s : ℕ) (o : Option ℕ) → Covers st (move_out st c t x s o)
 out_covers st c t x s (Some r) = omega arith
 out_covers st c t x s None = omega (arith, update_length (in_scope t) st.symbols s)
 
 by_covers : (how : How) (st : State) (d : Declaration) → Covers st (declare_by how st d)
-by_covers plain st d = declared_covers st d.target.number d (found st d.target.number d.name)
+by_covers plain st d = declared_covers st d.target.number d (found st d.target.number d.naming.name)
 by_covers hoisted st d =
-    let noted : State = against_all st d (asked_symbols st d.passed d.name) in
-    let same = against_same st d (asked_symbols st d.passed d.name) in
-    let later = hoisted_covers noted d (passed_symbol st d.passed d.name) in
+    let noted : State = against_all st d (asked_symbols st d.passed d.naming.name) in
+    let same = against_same st d (asked_symbols st d.passed d.naming.name) in
+    let later = hoisted_covers noted d (passed_symbol st d.passed d.naming.name) in
     omega (arith, later, ap length same.0, ap length same.1)
 by_covers moved st d =
     let c : ℕ = stands_in d in
-    let s : Option ℕ = found st c d.name in
+    let s : Option ℕ = found st c d.naming.name in
     covers st (declare_in st c d s) (move_function st d) (declared_covers st c d s)
-    (out_covers (declare_in st c d s) c d.target.number d.name (chosen st s) (get st.bindings d.target.number d.name))
+    (out_covers (declare_in st c d s) c d.target.number d.naming.name (chosen st s) (get st.bindings d.target.number d.naming.name))
 by_covers caught st d = made_covers st d.target.number d
 
 rescoped_length : (ys : List Symbol) (bs : Bindings) (c : ℕ) → length (rescoped ys bs c) ≡ length ys
@@ -111,7 +111,7 @@ made_counted p h e =
     let ms : List Made = (run start (events (steps p))).made in
     omega (
       arith,
-      length-map ms (λ m. m.declaration.identifier),
+      length-map ms (λ m. m.declaration.naming.identifier),
       no_longer (identifiers ms) (symbol_ids (single role.Root p.root)) (identifiers_fewer p h e),
       ids_counted (single role.Root p.root),
     )

@@ -101,13 +101,13 @@ named_in r node x a = let (child, b, c) = among_flat bound_names (children_of r 
 
 -- the declaration is of a binding identifier of its name, or of an enum member
 pub data IsOf (all : List Node) (d : Declaration) : Type 0 where
-  of_name : (x : Node) → Binds all x → d.identifier ≡ x.node_id → d.name ≡ x.text → IsOf all d
-  of_member : (x : Node) → Among x all → x.kind ≡ kind.TSEnumMember → d.identifier ≡ x.node_id → IsOf all d
+  of_name : (x : Node) → Binds all x → d.naming.identifier ≡ x.node_id → d.naming.name ≡ x.text → IsOf all d
+  of_member : (x : Node) → Among x all → x.kind ≡ kind.TSEnumMember → d.naming.identifier ≡ x.node_id → IsOf all d
 
 row_of : (ns : List Node) (node : Node) (row : Row) (is_pure : Bool) (xs : List Node) (d : Declaration) → ((x : Node) → Among x xs → Binds ns x) → Among d (map (declare node row is_pure) xs) → IsOf ns d
 row_of ns node row is_pure xs d h a =
     let (x, b, e) = among_map (declare node row is_pure) xs d a in
-    of_name x (h x b) (sym (ap (λ y. y.identifier) e)) (sym (ap (λ y. y.name) e))
+    of_name x (h x b) (sym (ap (λ y. y.naming.identifier) e)) (sym (ap (λ y. y.naming.name) e))
 
 module _ (p : Place) where
   abbrev all : List Node
@@ -143,7 +143,7 @@ module _ (p : Place) where
       own e = subst (λ t. Among pattern (cond t (pattern ∷ []) (bound_below pattern.kind pattern.children))) (sym e) (inl refl)
 
       go : (t : Bool) → is kind.BindingIdentifier pattern ≡ t → Among d (if t then declare p.node (record { flags = union symbol.FunctionScopedVariable.bits symbol.CatchVariable.bits; excluded = 0; how = caught; route = here p.chain }) false pattern ∷ [] else declare_here p (union symbol.BlockScopedVariable.bits symbol.CatchVariable.bits) symbol.BlockScopedVariableExcludes.bits (bound_names pattern)) → IsOf all d
-      go true e (inl q) = of_name pattern (bound_child role.Pattern p.node pattern pattern b (own e)) (sym (ap (λ y. y.identifier) q)) (sym (ap (λ y. y.name) q))
+      go true e (inl q) = of_name pattern (bound_child role.Pattern p.node pattern pattern b (own e)) (sym (ap (λ y. y.naming.identifier) q)) (sym (ap (λ y. y.naming.name) q))
       go true e (inr q) = absurd q
       go false e q = row_of all p.node (row_here (union symbol.BlockScopedVariable.bits symbol.CatchVariable.bits) symbol.BlockScopedVariableExcludes.bits) false (bound_names pattern) d (λ x c. bound_child role.Pattern p.node pattern x b c) q
 
@@ -164,7 +164,7 @@ module _ (p : Place) where
       let (x, b, e) = among_map (declare p.node (row_here symbol.EnumMember.bits symbol.EnumMemberExcludes.bits) false) (flat_map (member_named p.node) (children_of role.Id p.node.children)) d a in
       let (id, c, f) = among_flat (member_named p.node) (children_of role.Id p.node.children) x b in
       let (name, g, h) = among_map (named_member p.node id) (member_names id) x f in
-      of_member p.node (inl refl) k (sym (ap (λ y. y.identifier) e) ∙ sym (ap (λ y. y.node_id) h))
+      of_member p.node (inl refl) k (sym (ap (λ y. y.naming.identifier) e) ∙ sym (ap (λ y. y.node_id) h))
 
   declared_of : (k : AstType) (d : Declaration) → p.node.kind ≡ k → Among d (declared_by k p) → IsOf all d
   declared_of kind.VariableDeclarator d e a = variables_of p.path d a

@@ -32,10 +32,10 @@ made_of p m a = elim (made_declared m start (events (steps p)) a) [ inl k ↦ ab
 pub nodes_have_names : (p : Tree) → HasForm p → IsNumbered p.root → NodesHaveNames p
 nodes_have_names p f n place x s a b =
     let (m, c, e) = among_map belonging (run start (events (steps p))).made (record { node = x.node_id; number = s }) b in
-    let named : IsNamed (tables_of p) m.symbol m.declaration.name = declarations_have_names p f m c in
+    let named : IsNamed (tables_of p) m.symbol m.declaration.naming.name = declarations_have_names p f m c in
     go m (ap (λ y. y.node) e) (ap (λ y. y.number) e) named (made_of p m c)
   where
-    go : (m : Made) → m.declaration.identifier ≡ x.node_id → m.symbol ≡ s → IsNamed (tables_of p) m.symbol m.declaration.name → IsOf (nodes_from p.root) m.declaration → ((x.kind ≡ kind.BindingIdentifier) × IsNamed (tables_of p) s x.text) ⊎ (x.kind ≡ kind.TSEnumMember)
+    go : (m : Made) → m.declaration.naming.identifier ≡ x.node_id → m.symbol ≡ s → IsNamed (tables_of p) m.symbol m.declaration.naming.name → IsOf (nodes_from p.root) m.declaration → ((x.kind ≡ kind.BindingIdentifier) × IsNamed (tables_of p) s x.text) ⊎ (x.kind ≡ kind.TSEnumMember)
     go m i j named (of_name y w e h) =
         let same : y ≡ x = one_node p.root y x n w.among (placed_node p.root place x a) (sym e ∙ i) in
         inl (sym (ap (λ z. z.kind) same) ∙ w.binds, subst₂ (λ (r : ℕ) (t : Name). IsNamed (tables_of p) r t) j (h ∙ ap (λ z. z.text) same) named)

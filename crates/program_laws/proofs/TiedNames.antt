@@ -62,5 +62,5 @@ module _ (p : Tree) where
 
   pub declarations_have_names : HasForm p → DeclarationsHaveNames p
   declarations_have_names f m a =
-      let n : HasName final.symbols m.symbol m.declaration.name = (sound_program p f).has_name m a in
+      let n : HasName final.symbols m.symbol m.declaration.naming.name = (sound_program p f).has_name m a in
       record { symbol = n.symbol; is_there = n.is_there; named = n.named }

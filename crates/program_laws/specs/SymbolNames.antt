@@ -28,7 +28,7 @@ TiesHaveNames p = (n s : ℕ) (r : Occurrence) (e : Reference) → slice_get (re
 
 -- the symbol of a declaration has the declared name
 abbrev pub DeclarationsHaveNames : Tree → Type 0
-DeclarationsHaveNames p = (m : Made) → Among m (run start (events (steps p))).made → IsNamed (tables_of p) m.symbol m.declaration.name
+DeclarationsHaveNames p = (m : Made) → Among m (run start (events (steps p))).made → IsNamed (tables_of p) m.symbol m.declaration.naming.name
 
 -- a node to which a symbol belongs is a binding identifier of its name, or an enum member
 abbrev pub NodesHaveNames : Tree → Type 0

@@ -136,14 +136,14 @@ module _ (p : Tree) (faultless : first_fault p ≡ None) (numbered : IsNumbered 
   some_name e =
       let final : State = run start (events (steps p)) in
       let (m, a, i) = (sound_program p form).has_declaration s (slice_get_within final.symbols s y there) in
-      let n : HasName final.symbols m.symbol m.declaration.name = (sound_program p form).has_name m a in
-      let named : m.declaration.name ≡ y.name = its_name m.declaration.name (record { symbol = n.symbol; is_there = subst (λ t. slice_get final.symbols t ≡ Some n.symbol) i n.is_there; named = n.named }) in
+      let n : HasName final.symbols m.symbol m.declaration.naming.name = (sound_program p form).has_name m a in
+      let named : m.declaration.naming.name ≡ y.name = its_name m.declaration.naming.name (record { symbol = n.symbol; is_there = subst (λ t. slice_get final.symbols t ≡ Some n.symbol) i n.is_there; named = n.named }) in
       elim (made_declared m start (events (steps p)) a) [
         | inl never ↦ absurd never
         | inr d ↦ by m a i (named ∙ e) (declaration_of p m.declaration d)
       ]
     where
-      by : (m : Made) → Among m (run start (events (steps p))).made → m.symbol ≡ s → m.declaration.name ≡ [] → IsOf (nodes_from p.root) m.declaration → ⊥
+      by : (m : Made) → Among m (run start (events (steps p))).made → m.symbol ≡ s → m.declaration.naming.name ≡ [] → IsOf (nodes_from p.root) m.declaration → ⊥
       by m a i e (of_name x w j t) =
           let (here, b) = place_of p.root x w.among in
           let text : may_have_text x.kind x.text ≡ true = (one_of IsWellFormed (all_placed p.root) (no_fault-IsShaped p faultless).forms here x b).text in

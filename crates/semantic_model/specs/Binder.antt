@@ -28,16 +28,18 @@ pub record Row : Type 0 where
 -- a name is declared at the node
 abbrev pub declare : Node → Row → Bool → Node → Declaration
 declare node row is_pure name = record {
-  node = node.node_id;
-  identifier = name.node_id;
-  name = name.text;
-  span = name.span;
-  flags = row.flags;
-  excluded = row.excluded;
+  naming = record {
+    node = node.node_id;
+    identifier = name.node_id;
+    name = name.text;
+    span = name.span;
+    flags = row.flags;
+    excluded = row.excluded;
+    is_pure = is_pure;
+  };
   how = row.how;
   passed = row.route.passed;
   target = row.route.target;
-  is_pure = is_pure;
 }
 
 -- the names are declared in the scope where the node stands

@@ -1,9 +1,8 @@
 -- A declaration of a name, from the scope where it stands to the scope that is to bind it.
 use Rattle.std.specs.Prelude.{◌≡◌, ℕ, List, [], ◌∷◌, ◌++◌, Bool, true, Option, Some, None, cond, map}
-use Rattle.semantic_syntax.specs.declared.spans.Span.{Span}
-use Rattle.semantic_syntax.specs.Tables.{Name}
 use Rattle.semantic_syntax.specs.Members.{contains}
 use Rattle.semantic_model.specs.Place.{OpenScope, innermost}
+use Rattle.semantic_model.specs.Naming.{Naming}
 
 -- how a declaration comes to its symbol
 pub data How : Type 0 where
@@ -17,20 +16,11 @@ pub data How : Type 0 where
   caught : How
 
 pub record Declaration : Type 0 where
-  -- the declaring node, and the node of the name
-  pub node : ℕ
-  pub identifier : ℕ
-  pub name : Name
-  pub span : Span
-  pub flags : ℕ
-  -- the flags of a symbol with which it conflicts
-  pub excluded : ℕ
+  pub naming : Naming
   pub how : How
   -- the scopes from where it stands to its target, without the target
   pub passed : List OpenScope
   pub target : OpenScope
-  -- whether a function without side effects is declared
-  pub is_pure : Bool
 
 -- the scope where it stands
 abbrev pub scope_it_stands_in : Declaration → OpenScope
@@ -57,7 +47,7 @@ path d = map (λ s. s.number) d.passed ++ d.target.number ∷ body_list d.target
 
 -- two declarations of one name whose paths share a scope
 pub record Meets (d e : Declaration) : Type 0 where
-  pub same_name : d.name ≡ e.name
+  pub same_name : d.naming.name ≡ e.naming.name
   pub shared : ℕ
   pub on_left : contains (path d) shared ≡ true
   pub on_right : contains (path e) shared ≡ true

@@ -22,11 +22,11 @@ written_declarations steps = flat_map declared_at steps
 
 -- whether the declaration is one past which a block function of its name doesn't move: lexical, of a class or of a function
 abbrev pub counts_past : Declaration → Bool
-counts_past e = meets e.flags symbol.BlockScopedVariable.bits || meets e.flags symbol.Class.bits || meets e.flags symbol.Function.bits
+counts_past e = meets e.naming.flags symbol.BlockScopedVariable.bits || meets e.naming.flags symbol.Class.bits || meets e.naming.flags symbol.Function.bits
 
 -- whether a declaration in the scope is a namesake past which a block function doesn't move
 abbrev pub bars : Declaration → OpenScope → Declaration → Bool
-bars d c e = counts_past e && stands_in e == c.number && bytes_eq e.name d.name
+bars d c e = counts_past e && stands_in e == c.number && bytes_eq e.naming.name d.naming.name
 
 abbrev pub any_bars : Declaration → OpenScope → List Declaration → Bool
 any_bars d c [] = false

@@ -65,25 +65,25 @@ pub record MeetsNoOther (ds : List Declaration) (d : Declaration) : Type 0 where
 
 -- what a declaration that meets no other has: a symbol that belongs to it alone, with its name, span, node and flags, in its home, which alone binds it
 pub record OwnSymbol (t : Tables) (belongs : List Belongs) (d : Declaration) (s : ℕ) : Type 0 where
-  pub is : Among (record { node = d.identifier; number = s }) belongs
+  pub is : Among (record { node = d.naming.identifier; number = s }) belongs
   pub alone : times s (map (λ b. b.number) belongs) ≡ 1
-  pub symbol : slice_get t.symbols s ≡ Some (new_symbol (home d) d)
-  pub binds : bound_in t (home d) d.name ≡ Some s
-  pub only : (c : ℕ) (x : Name) → bound_in t c x ≡ Some s → (c ≡ home d) × (x ≡ d.name)
+  pub symbol : slice_get t.symbols s ≡ Some (new_symbol (home d) d.naming)
+  pub binds : bound_in t (home d) d.naming.name ≡ Some s
+  pub only : (c : ℕ) (x : Name) → bound_in t c x ≡ Some s → (c ≡ home d) × (x ≡ d.naming.name)
 
 -- a declaration of the name with the scope on its path
 pub record DeclaredOn (ds : List Declaration) (c : ℕ) (x : Name) : Type 0 where
   pub declaration : Declaration
   pub among : Among declaration ds
-  pub named : declaration.name ≡ x
+  pub named : declaration.naming.name ≡ x
   pub on_path : contains (path declaration) c ≡ true
 
 -- a declaration of the name, whose symbol it is
 pub record DeclaredAs (belongs : List Belongs) (ds : List Declaration) (s : ℕ) (x : Name) : Type 0 where
   pub declaration : Declaration
   pub among : Among declaration ds
-  pub named : declaration.name ≡ x
-  pub is : Among (record { node = declaration.identifier; number = s }) belongs
+  pub named : declaration.naming.name ≡ x
+  pub is : Among (record { node = declaration.naming.identifier; number = s }) belongs
 
 -- no binding and no symbol is invented
 pub record AreDeclared (t : Tables) (belongs : List Belongs) (ds : List Declaration) : Type 0 where

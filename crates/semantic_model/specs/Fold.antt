@@ -1,10 +1,13 @@
 -- What the events of a program make: bindings, symbols and conflicts.
 use Rattle.std.specs.Prelude.{ℕ, zero, suc, List, [], ◌∷◌, ◌++◌, Option, Some, None, cond, length, slice_get}
+use Rattle.std.specs.Option.{unwrap_or}
 use Rattle.semantic_syntax.specs.declared.spans.Span.{Span}
 use Rattle.semantic_syntax.specs.declared.symbol_flags.TheConstants.SymbolFlags as symbol
 use Rattle.semantic_syntax.specs.Sets.{meets, union}
 use Rattle.semantic_syntax.specs.declared.references.Redeclaration.{Redeclaration}
 use Rattle.semantic_syntax.specs.Tables.{Name, Symbol}
+use Rattle.semantic_syntax.specs.Reading.{own_entry}
+use Rattle.semantic_model.specs.Naming.{Naming}
 use Rattle.semantic_model.specs.Declaration.{Declaration}
 use Rattle.semantic_model.specs.Binding.{Binding, get, put}
 
@@ -46,24 +49,21 @@ abbrev pub or_else : Option ℕ → Option ℕ → Option ℕ
 or_else (Some s) o = Some s
 or_else None o = o
 
-abbrev pub unless_expression : State → Option ℕ → Option ℕ
-unless_expression st None = None
-unless_expression st (Some s) = cond (meets (flags_of st s) symbol.FunctionExpression.bits) None (Some s)
+-- no symbol where that is a function expression's, by the flags of each
+abbrev pub unless_expression : (ℕ → ℕ) → Option ℕ → Option ℕ
+unless_expression flags None = None
+unless_expression flags (Some s) = cond (meets (flags s) symbol.FunctionExpression.bits) None (Some s)
 
 -- the symbol that a scope binds to the name, else the one that it remembers; the name of a function expression counts as none
 abbrev pub found : State → ℕ → Name → Option ℕ
-found st c x = unless_expression st (or_else (get st.bindings c x) (get st.remembered c x))
+found st c x = unless_expression (flags_of st) (or_else (get st.bindings c x) (get st.remembered c x))
 
-abbrev pub entry_of : Declaration → Redeclaration
-entry_of d = record { span = d.span; declaration = d.node; flags = record { bits = d.flags } }
-
-abbrev pub with_entry : Option (List Redeclaration) → Symbol → Declaration → List Redeclaration
-with_entry None y d = record { span = y.span; declaration = y.node; flags = y.flags } ∷ entry_of d ∷ []
-with_entry (Some rs) y d = rs ++ entry_of d ∷ []
+abbrev pub entry_of : Naming → Redeclaration
+entry_of n = record { span = n.span; declaration = n.node; flags = record { bits = n.flags } }
 
 -- one more declaration of the symbol; without a list, its own goes first
-abbrev pub redeclared : Declaration → Symbol → Symbol
-redeclared d y = record y { redeclarations = Some (with_entry y.redeclarations y d) }
+abbrev pub redeclared : Naming → Symbol → Symbol
+redeclared n y = record y { redeclarations = Some (unwrap_or y.redeclarations (own_entry y ∷ []) ++ entry_of n ∷ []) }
 
 abbrev pub united : ℕ → Symbol → Symbol
 united flags y = record y { flags = record { bits = union y.flags.bits flags } }
@@ -71,8 +71,8 @@ united flags y = record y { flags = record { bits = union y.flags.bits flags } }
 abbrev pub in_scope : ℕ → Symbol → Symbol
 in_scope c y = record y { scope = c }
 
-abbrev pub new_symbol : ℕ → Declaration → Symbol
-new_symbol c d = record { name = d.name; span = d.span; flags = record { bits = d.flags }; scope = c; node = d.node; redeclarations = None }
+abbrev pub new_symbol : ℕ → Naming → Symbol
+new_symbol c n = record { name = n.name; span = n.span; flags = record { bits = n.flags }; scope = c; node = n.node; redeclarations = None }
 
 -- the declaration gets the symbol
 abbrev pub note_symbol : State → Declaration → ℕ → State
@@ -81,24 +81,27 @@ note_symbol st d s = record st { made = st.made ++ record { declaration = d; sym
 -- a new symbol, bound in the scope
 abbrev pub make : State → ℕ → Declaration → State
 make st c d =
-    note_symbol (record st { bindings = put st.bindings c d.name (length st.symbols); symbols = st.symbols ++ new_symbol c d ∷ [] })
+    note_symbol (record st { bindings = put st.bindings c d.naming.name (length st.symbols); symbols = st.symbols ++ new_symbol c d.naming ∷ [] })
     d (length st.symbols)
 
-abbrev pub conflict_with : Declaration → Option Symbol → List Conflict
-conflict_with d None = []
-conflict_with d (Some y) =
-    cond (meets y.flags.bits d.excluded) (record { name = d.name; earlier = y.span; later = d.span } ∷ []) []
+-- a conflict where the symbol's flags meet the excluded ones
+abbrev pub conflict_of : Naming → Symbol → List Conflict
+conflict_of n y = cond (meets y.flags.bits n.excluded) (record { name = n.name; earlier = y.span; later = n.span } ∷ []) []
 
--- a conflict is noted where the symbol's flags meet the excluded ones
+abbrev pub conflict_with : Naming → Option Symbol → List Conflict
+conflict_with n None = []
+conflict_with n (Some y) = conflict_of n y
+
+-- a conflict with the symbol is noted
 abbrev pub against : State → Declaration → ℕ → State
-against st d s = record st { conflicts = st.conflicts ++ conflict_with d (slice_get st.symbols s) }
+against st d s = record st { conflicts = st.conflicts ++ conflict_with d.naming (slice_get st.symbols s) }
 
 -- declared in a scope, by what was found there
 abbrev pub declare_in : State → ℕ → Declaration → Option ℕ → State
 declare_in st c d None = make st c d
 declare_in st c d (Some s) =
     let noted : State = against st d s in
-    note_symbol (record noted { symbols = update (λ y. united d.flags (redeclared d y)) noted.symbols s }) d s
+    note_symbol (record noted { symbols = update (λ y. united d.naming.flags (redeclared d.naming y)) noted.symbols s }) d s
 
 -- the symbol that a declaration gets then
 abbrev pub chosen : State → Option ℕ → ℕ

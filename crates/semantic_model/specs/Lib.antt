@@ -7,6 +7,7 @@ pub mod Cursor
 pub mod Step
 pub mod EachStep
 pub mod Reference
+pub mod Naming
 pub mod Declaration
 pub mod Namespace
 pub mod Binder

@@ -48,7 +48,7 @@ numbered_from i (node ∷ more) = record { node = node; number = i } ∷ numbere
 
 -- a binding identifier or enum member with its symbol
 abbrev pub belonging : Made → Belongs
-belonging m = record { node = m.declaration.identifier; number = m.symbol }
+belonging m = record { node = m.declaration.naming.identifier; number = m.symbol }
 
 abbrev pub symbols_of : State → List Belongs
 symbols_of st = map belonging st.made

@@ -86,7 +86,7 @@ free_of ts = fold with_tie [] ts
 
 abbrev pub any_pure : List Made → ℕ → Bool
 any_pure [] s = false
-any_pure (m ∷ ms) s = (m.declaration.is_pure && m.symbol == s) || any_pure ms s
+any_pure (m ∷ ms) s = (m.declaration.naming.is_pure && m.symbol == s) || any_pure ms s
 
 -- the symbols with a declaration of a function without side effects, ascending
 abbrev pub pure_of : State → List ℕ

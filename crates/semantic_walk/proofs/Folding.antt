@@ -35,7 +35,7 @@ use Rattle.count_laws.specs.Room.{opened_by}
 use Rattle.semantic_walk.specs.Folded.{ShowsFold}
 
 -- a node is noted with its symbol
-noted_from : (es : List (ℕ × ℕ)) (ms : List Made) → fold with_noted es ms ≡ fold with_entry es (map (λ m. record { node = m.declaration.identifier; number = m.symbol }) ms)
+noted_from : (es : List (ℕ × ℕ)) (ms : List Made) → fold with_noted es ms ≡ fold with_entry es (map (λ m. record { node = m.declaration.naming.identifier; number = m.symbol }) ms)
 noted_from es [] = refl
 noted_from es (m ∷ ms) = noted_from (with_noted es m) ms
 

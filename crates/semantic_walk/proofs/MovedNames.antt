@@ -1,6 +1,6 @@
 -- What the name of a block function adds.
 use Rattle.std.proofs.Common.{ℕ, ◌+◌, ◌≤◌, Option, None, Some, length}
-use Rattle.walk_model.specs.Naming.{Naming}
+use Rattle.semantic_model.specs.Naming.{Naming}
 use Rattle.count_laws.proofs.Growth.{declare_adds, moved_adds}
 use Rattle.table_building.specs.Each.{settle_in_block}
 use Rattle.semantic_walk.specs.Walker.{Walker}

@@ -6,6 +6,7 @@ use Rattle.semantic_syntax.specs.Sets.{meets}
 use Rattle.semantic_syntax.specs.Tables.{Tables}
 use Rattle.semantic_tree.specs.declared.node.Node.{Node}
 use Rattle.semantic_syntax.specs.Reading.{scope_of}
+use Rattle.semantic_model.specs.Naming.{Naming}
 use Rattle.semantic_model.specs.Place.{Place, OpenScope, innermost, outside}
 use Rattle.semantic_model.specs.Declaration as declaration
 use Rattle.semantic_model.specs.Declaration.{Declaration, plain, hoisted, moved, passed_before, first_with, route_from, here, outward_to, outward_past, stands_in}
@@ -13,7 +14,6 @@ use Rattle.semantic_model.specs.Event.{declares, placed, any_bars, is_barred, de
 use Rattle.semantic_model.specs.Binder as binder
 use Rattle.semantic_model.specs.Binder.{declare_here, is_var, is_conditional}
 use Rattle.walk_model.specs.WalkState.{WalkState}
-use Rattle.walk_model.specs.Naming.{Naming, naming_of}
 use Rattle.walk_model.specs.Declares.{declare}
 use Rattle.walk_model.specs.Hoists.{hoist, declare_and_move}
 use Rattle.walk_model.specs.Shown.{IsOther, ShowsChain, HasVar}
@@ -41,26 +41,26 @@ hoists_fold w passed s [] = refl
 hoists_fold w passed s (x ∷ xs) = hoists_fold (hoist w passed s x) passed s xs
 
 module _ (node : Node) (row : Row) (r : binder.Row) (is_pure : Bool) (same : IsRow row r.flags r.excluded) where
-  name_same : (x : Node) → named_by node row is_pure x ≡ naming_of (binder.declare node r is_pure x)
+  name_same : (x : Node) → named_by node row is_pure x ≡ (binder.declare node r is_pure x).naming
   name_same x =
       let named : ℕ → ℕ → Naming = λ f e. record { node = node.node_id; identifier = x.node_id; name = x.text; span = x.span; flags = f; excluded = e; is_pure = is_pure } in
       ap (λ f. named f row.excluded.bits) same.flags ∙ ap (λ e. named r.flags e) same.excluded
 
-  names_same : (xs : List Node) → map (named_by node row is_pure) xs ≡ map (λ x. naming_of (binder.declare node r is_pure x)) xs
+  names_same : (xs : List Node) → map (named_by node row is_pure) xs ≡ map (λ x. (binder.declare node r is_pure x).naming) xs
   names_same [] = refl
   names_same (x ∷ xs) =
-      ap (λ n. n ∷ map (named_by node row is_pure) xs) (name_same x) ∙ ap (λ ns. naming_of (binder.declare node r is_pure x) ∷ ns) (names_same xs)
+      ap (λ n. n ∷ map (named_by node row is_pure) xs) (name_same x) ∙ ap (λ ns. (binder.declare node r is_pure x).naming ∷ ns) (names_same xs)
 
   pub plain_acts : (ds : List Declaration) (w : WalkState) (s : ℕ) (xs : List Node) → r.how ≡ plain → s ≡ r.route.target.number
       → declare_each w s (map (named_by node row is_pure) xs) ≡ act_all w (declares_all ds (map (binder.declare node r is_pure) xs))
   plain_acts ds w s xs how at =
-      let named : List Naming = map (λ x. naming_of (binder.declare node r is_pure x)) xs in
+      let named : List Naming = map (λ x. (binder.declare node r is_pure x).naming) xs in
       ap (λ ns. declare_each w s ns) (names_same xs) ∙ ap (λ n. declare_each w n named) at ∙ declares_fold w r.route.target.number named ∙ sym (acts_plain ds node r is_pure w xs how)
 
   pub hoisted_acts : (ds : List Declaration) (w : WalkState) (passed : List ℕ) (s : ℕ) (xs : List Node) → r.how ≡ hoisted → passed ≡ numbers r.route.passed → s ≡ r.route.target.number
       → hoist_each w passed s (map (named_by node row is_pure) xs) ≡ act_all w (declares_all ds (map (binder.declare node r is_pure) xs))
   hoisted_acts ds w passed s xs how way at =
-      let named : List Naming = map (λ x. naming_of (binder.declare node r is_pure x)) xs in
+      let named : List Naming = map (λ x. (binder.declare node r is_pure x).naming) xs in
       ap (λ ns. hoist_each w passed s ns) (names_same xs) ∙ ap (λ n. hoist_each w passed n named) at ∙ ap (λ ps. hoist_each w ps r.route.target.number named) way
       ∙ hoists_fold w (numbers r.route.passed) r.route.target.number named ∙ sym (acts_hoisted ds node r is_pure w xs how)
 
@@ -137,11 +137,11 @@ module _ (t : Tables) (ds : List Declaration) (ws : List Written) where
       by (Some s) = told_before test chain h
 
   -- a name is written in one of the scopes where a declaration in one of them bars the way
-  stands_barred : (d : Declaration) (cs : List OpenScope) → AreTold t ds ws cs → stands_on t ws d.name (numbers cs) ≡ is_barred ds d cs
+  stands_barred : (d : Declaration) (cs : List OpenScope) → AreTold t ds ws cs → stands_on t ws d.naming.name (numbers cs) ≡ is_barred ds d cs
   stands_barred d [] h = refl
   stands_barred d (c ∷ cs) h =
-      ap (λ n. is_written ws n d.name || stands_on t ws d.name (numbers cs)) h.0.0
-      ∙ ap (λ b. b || stands_on t ws d.name (numbers cs)) (sym (h.0.1 d))
+      ap (λ n. is_written ws n d.naming.name || stands_on t ws d.naming.name (numbers cs)) h.0.0
+      ∙ ap (λ b. b || stands_on t ws d.naming.name (numbers cs)) (sym (h.0.1 d))
       ∙ ap (λ b. any_bars d c ds || b) (stands_barred d cs h.1)
 
 past_numbers : (cs : List OpenScope) → drop 1 (numbers cs) ≡ numbers (outside cs)
@@ -182,10 +182,10 @@ module _ (ds : List Declaration) (node : Node) (row : Row) (r : binder.Row) (is_
       let target : way.target.number ≡ d.target.number = ways.ends ∙ ap (λ (q : declaration.Route). q.target.number) (sym is) in
       ap (λ (m : WalkState). record w { made = m })
       (ap (λ n. settle_in_block w.made w.current (block_target t w.namesakes w.current x.text) n) (name_same node row r is_pure same x)
-      ∙ settles_by w.made w.current way.target.number (stands_on t w.namesakes x.text (drop 1 (numbers way.passed))) (naming_of d)
-      ∙ ap (λ b. cond b (declare w.made w.current (naming_of d)) (declare_and_move w.made w.current way.target.number (naming_of d))) barred
-      ∙ ap (λ n. cond (is_barred ds d (outside d.passed)) (declare w.made n (naming_of d)) (declare_and_move w.made n way.target.number (naming_of d))) block
-      ∙ ap (λ n. cond (is_barred ds d (outside d.passed)) (declare w.made (stands_in d) (naming_of d)) (declare_and_move w.made (stands_in d) n (naming_of d))) target
+      ∙ settles_by w.made w.current way.target.number (stands_on t w.namesakes x.text (drop 1 (numbers way.passed))) d.naming
+      ∙ ap (λ b. cond b (declare w.made w.current d.naming) (declare_and_move w.made w.current way.target.number d.naming)) barred
+      ∙ ap (λ n. cond (is_barred ds d (outside d.passed)) (declare w.made n d.naming) (declare_and_move w.made n way.target.number d.naming)) block
+      ∙ ap (λ n. cond (is_barred ds d (outside d.passed)) (declare w.made (stands_in d) d.naming) (declare_and_move w.made (stands_in d) n d.naming)) target
       ∙ sym (acts_move ds w.made d how))
 
   -- each is declared in its block, and moves out of it unless a namesake stands between

@@ -6,9 +6,9 @@ use Rattle.semantic_syntax.specs.Tables.{Name, Tables}
 use Rattle.semantic_syntax.specs.Reading.{scope_of}
 use Rattle.semantic_tree.specs.declared.node.Node.{Node}
 use Rattle.semantic_tree.specs.Views.{is}
+use Rattle.semantic_model.specs.Naming.{Naming}
 use Rattle.semantic_model.specs.Declaration.{Declaration, Route as Way}
 use Rattle.semantic_model.specs.Event.{declares_all}
-use Rattle.walk_model.specs.Naming.{Naming}
 use Rattle.walk_model.specs.Walks.{act_all}
 use Rattle.walk_model.specs.WrittenNames.{Written, is_written, is_known_inside}
 use Rattle.semantic_walk.specs.Walker.{Walker}

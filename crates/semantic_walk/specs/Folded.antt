@@ -16,7 +16,7 @@ BindsOnce (b ∷ bs) = (get bs b.scope b.name ≡ None) × BindsOnce bs
 
 -- the symbols without side effects, as they are declared
 abbrev pub pure_of : List Made → List ℕ
-pure_of ms = fold (λ ys m. cond m.declaration.is_pure (insert_key nat_cmp ys m.symbol) ys) [] ms
+pure_of ms = fold (λ ys m. cond m.declaration.naming.is_pure (insert_key nat_cmp ys m.symbol) ys) [] ms
 
 -- bindings by their scopes, symbols and all that is noted of declarations are those of the state
 pub record ShowsFold (w : WalkState) (st : State) : Type 0 where

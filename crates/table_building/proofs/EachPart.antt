@@ -2,9 +2,9 @@
 use Rattle.std.proofs.Common.{◌≡◌, ℕ, List, [], ◌∷◌, ◌++◌, map, flat_map, refl}
 use Rattle.std.proofs.lemmas.List.{map-append}
 use Rattle.semantic_tree.specs.declared.node.Node.{Node}
+use Rattle.semantic_model.specs.Naming.{Naming}
 use Rattle.semantic_model.specs.Names.{bound_names}
 use Rattle.walk_model.specs.WalkState.{WalkState}
-use Rattle.walk_model.specs.Naming.{Naming}
 use Rattle.walk_model.specs.Declares.{declare}
 use Rattle.table_building.specs.Each.{declare_each}
 

@@ -4,8 +4,8 @@ use Rattle.std.proofs.Math.ListN.{drop_of_length-le}
 use Rattle.std.proofs.Math.Seq.{drop-cons}
 use Rattle.std.proofs.Math.Numerals.{add-one}
 use Rattle.semantic_syntax.specs.Tables.{Name}
+use Rattle.semantic_model.specs.Naming.{Naming}
 use Rattle.walk_model.specs.WalkState.{WalkState}
-use Rattle.walk_model.specs.Naming.{Naming}
 use Rattle.walk_model.specs.Declares.{found}
 use Rattle.walk_model.specs.Hoists.{value_symbol, passed_symbol, against_found, against_way, remember, remember_all}
 

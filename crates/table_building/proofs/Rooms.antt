@@ -5,9 +5,9 @@ use Rattle.std.proofs.lemmas.List.Elements.{All-weaker}
 use Rattle.semantic_kinds.specs.declared.kind.AstType.TheVariants as kind
 use Rattle.semantic_tree.specs.declared.node.Node.{Node}
 use Rattle.semantic_tree.specs.Views.{is}
+use Rattle.semantic_model.specs.Naming.{Naming}
 use Rattle.semantic_model.specs.Names.{bound_below, bound_names}
 use Rattle.walk_model.specs.WalkState.{WalkState}
-use Rattle.walk_model.specs.Naming.{Naming}
 use Rattle.walk_model.specs.Declares.{declare, declare_anew}
 use Rattle.count_laws.proofs.Growth.{declare_adds, anew_adds}
 use Rattle.table_building.specs.Each.{declare_each, declare_pattern}

@@ -3,10 +3,10 @@ use Rattle.std.specs.Prelude.{ℕ, List, [], ◌∷◌, Option, Some, None, cond
 use Rattle.semantic_kinds.specs.declared.kind.AstType.TheVariants as kind
 use Rattle.semantic_tree.specs.declared.node.Node.{Node}
 use Rattle.semantic_tree.specs.Views.{is}
+use Rattle.semantic_model.specs.Naming.{Naming}
 use Rattle.semantic_model.specs.Names.{bound_names}
 use Rattle.semantic_model.specs.Binder.{member_names}
 use Rattle.walk_model.specs.WalkState.{WalkState}
-use Rattle.walk_model.specs.Naming.{Naming}
 use Rattle.walk_model.specs.Declares.{declare, declare_anew}
 use Rattle.walk_model.specs.Hoists.{hoist, declare_and_move}
 use Rattle.table_building.specs.Named.{member_naming, caught_naming, pattern_naming}

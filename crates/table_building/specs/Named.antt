@@ -4,7 +4,7 @@ use Rattle.std.specs.Str.{chars}
 use Rattle.semantic_syntax.specs.declared.symbol_flags.TheConstants.SymbolFlags as symbol
 use Rattle.semantic_syntax.specs.Sets.{union}
 use Rattle.semantic_tree.specs.declared.node.Node.{Node}
-use Rattle.walk_model.specs.Naming.{Naming}
+use Rattle.semantic_model.specs.Naming.{Naming}
 use Rattle.node_rules.specs.declared.rows.Row.{Row}
 use Rattle.table_building.specs.declared.declaration.Declaration.{Declaration}
 

@@ -1,8 +1,8 @@
 -- Symbols that count as a variable, in the words of the definitions.
 use Rattle.std.specs.Prelude.{ℕ, List}
+use Rattle.semantic_model.specs.Naming.{Naming}
 use Rattle.semantic_model.specs.Hoist.{PassedSymbol as PassedSymbolOnWay}
 use Rattle.walk_model.specs.WalkState.{WalkState}
-use Rattle.walk_model.specs.Naming.{Naming}
 use Rattle.walk_model.specs.Hoists.{passed_symbol, against_way, hoisted_by, hoisted_symbol}
 use Rattle.table_building.specs.declared.hoist.PassedSymbol.{PassedSymbol}
 

@@ -1,38 +1,24 @@
 -- How a name is declared in one scope.
 use Rattle.std.specs.Prelude.{ℕ, List, [], ◌∷◌, ◌++◌, Option, Some, None, cond, length, nat_eq}
 use Rattle.std.specs.Ordering.{nat_cmp}
-use Rattle.std.specs.Int.RustNames.{bit_or}
 use Rattle.std.specs.Option.{unwrap_or}
 use Rattle.std.specs.BTreeSet.{insert_key}
 use Rattle.indexmap.specs.IndexMap.{insert_entry}
-use Rattle.semantic_syntax.specs.declared.symbol_flags.TheConstants.SymbolFlags as symbol
-use Rattle.semantic_syntax.specs.declared.references.Redeclaration.{Redeclaration}
-use Rattle.semantic_syntax.specs.Sets.{meets}
-use Rattle.semantic_syntax.specs.Tables.{Name, Symbol, Tables}
-use Rattle.semantic_syntax.specs.Reading.{bound_in, symbol_of, own_entry}
+use Rattle.semantic_syntax.specs.Tables.{Name, Tables}
+use Rattle.semantic_syntax.specs.Reading.{bound_in, symbol_of, symbol_flags}
 use Rattle.scoping.specs.Writing.{bound, with_symbol}
+use Rattle.semantic_model.specs.Naming.{Naming}
 use Rattle.semantic_model.specs.Binding.{get}
-use Rattle.semantic_model.specs.Fold.{Conflict, or_else}
+use Rattle.semantic_model.specs.Fold.{or_else, unless_expression, conflict_of, new_symbol, redeclared, united}
 use Rattle.walk_model.specs.WalkState.{WalkState}
-use Rattle.walk_model.specs.Naming.{Naming}
-
-abbrev pub unless_expression : Tables → Option ℕ → Option ℕ
-unless_expression t None = None
-unless_expression t (Some y) = cond (meets (symbol_of t y).flags.bits symbol.FunctionExpression.bits) None (Some y)
 
 -- the symbol that the scope binds to the name, else the one that it remembers; the name of a function expression counts as none
 abbrev pub found : WalkState → ℕ → Name → Option ℕ
-found w s x = unless_expression w.tables (or_else (bound_in w.tables s x) (get w.remembered s x))
+found w s x = unless_expression (symbol_flags w.tables) (or_else (bound_in w.tables s x) (get w.remembered s x))
 
-abbrev pub conflict_of : Naming → Symbol → List Conflict
-conflict_of d y = cond (meets y.flags.bits d.excluded) (record { name = d.name; earlier = y.span; later = d.span } ∷ []) []
-
--- a conflict is noted where the symbol's flags meet the excluded ones
+-- a conflict with the symbol is noted
 abbrev pub against : WalkState → Naming → ℕ → WalkState
 against w d y = record w { conflicts = w.conflicts ++ conflict_of d (symbol_of w.tables y) }
-
-abbrev pub new_symbol : ℕ → Naming → Symbol
-new_symbol s d = record { name = d.name; span = d.span; flags = record { bits = d.flags }; scope = s; node = d.node; redeclarations = None }
 
 abbrev pub with_new : Tables → ℕ → Naming → Tables
 with_new t s d = record (bound t s d.name (length t.symbols)) { symbols = t.symbols ++ new_symbol s d ∷ []; uses = t.uses ++ [] ∷ [] }
@@ -41,22 +27,13 @@ with_new t s d = record (bound t s d.name (length t.symbols)) { symbols = t.symb
 abbrev pub make : WalkState → ℕ → Naming → WalkState
 make w s d = record w { tables = with_new w.tables s d }
 
-abbrev pub entry_of : Naming → Redeclaration
-entry_of d = record { span = d.span; declaration = d.node; flags = record { bits = d.flags } }
-
-abbrev pub redeclared : Naming → Symbol → Symbol
-redeclared d y = record y { redeclarations = Some (unwrap_or y.redeclarations (own_entry y ∷ []) ++ entry_of d ∷ []) }
-
 -- one more declaration of the symbol, without its flags; without a list, its own goes first
 abbrev pub redeclare : WalkState → ℕ → Naming → WalkState
 redeclare w y d = record w { tables = with_symbol w.tables y (redeclared d (symbol_of w.tables y)) }
 
-abbrev pub with_flags : ℕ → Symbol → Symbol
-with_flags flags y = record y { flags = record { bits = bit_or y.flags.bits flags } }
-
 -- the flags of one more declaration are added to the symbol's
 abbrev pub add_flags : WalkState → ℕ → ℕ → WalkState
-add_flags w y flags = record w { tables = with_symbol w.tables y (with_flags flags (symbol_of w.tables y)) }
+add_flags w y flags = record w { tables = with_symbol w.tables y (united flags (symbol_of w.tables y)) }
 
 -- the symbol is declared once more
 abbrev pub unite : WalkState → ℕ → Naming → WalkState

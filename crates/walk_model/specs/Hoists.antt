@@ -5,10 +5,10 @@ use Rattle.semantic_syntax.specs.Sets.{meets}
 use Rattle.semantic_syntax.specs.Tables.{Name, Tables}
 use Rattle.semantic_syntax.specs.Reading.{bound_in, symbol_of}
 use Rattle.scoping.specs.Writing.{bound, unbound, with_symbol}
+use Rattle.semantic_model.specs.Naming.{Naming}
 use Rattle.semantic_model.specs.Binding.{put}
 use Rattle.semantic_model.specs.Hoist.{PassedSymbol}
 use Rattle.walk_model.specs.WalkState.{WalkState}
-use Rattle.walk_model.specs.Naming.{Naming}
 use Rattle.walk_model.specs.Declares.{found, against, redeclare, with_symbol_in, symbol_in, note_symbol}
 
 -- the symbol that is found, if it counts as the variable: if it is a value or an import

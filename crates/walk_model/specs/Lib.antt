@@ -1,5 +1,4 @@
 pub mod WalkState
-pub mod Naming
 pub mod Declares
 pub mod Hoists
 pub mod Settles

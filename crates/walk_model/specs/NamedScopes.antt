@@ -10,7 +10,7 @@ use Rattle.walk_model.specs.WrittenNames.{Written, is_written}
 
 -- in the scope, the names that are written are those of the declarations past which a block function doesn't move
 abbrev pub IsNamedIn : List Declaration → List Written → OpenScope → Type 0
-IsNamedIn ds ws c = (d : Declaration) → any_bars d c ds ≡ is_written ws c.opener d.name
+IsNamedIn ds ws c = (d : Declaration) → any_bars d c ds ≡ is_written ws c.opener d.naming.name
 
 abbrev pub AreNamedIn : List Declaration → List Written → List OpenScope → Type 0
 AreNamedIn ds ws chain = AllByRecursion (IsNamedIn ds ws) chain

@@ -7,7 +7,6 @@ use Rattle.semantic_model.specs.Declaration.{How, plain, hoisted, moved, caught,
 use Rattle.semantic_model.specs.Step.{Step, entering, opening, header_ending, closing, leaving, steps}
 use Rattle.semantic_model.specs.Event.{Event, declares, takes_over, ends_header, events_of, written_declarations}
 use Rattle.walk_model.specs.WalkState.{WalkState, nothing_made}
-use Rattle.walk_model.specs.Naming.{naming_of}
 use Rattle.walk_model.specs.Declares.{declare, declare_anew}
 use Rattle.walk_model.specs.Hoists.{hoist, declare_and_move}
 use Rattle.walk_model.specs.Settles.{end_header, settle_rest}
@@ -17,10 +16,10 @@ abbrev pub numbers : List OpenScope → List ℕ
 numbers scopes = map (λ s. s.number) scopes
 
 abbrev pub declare_by : How → WalkState → Declaration → WalkState
-declare_by plain w d = declare w d.target.number (naming_of d)
-declare_by hoisted w d = hoist w (numbers d.passed) d.target.number (naming_of d)
-declare_by moved w d = declare_and_move w (stands_in d) d.target.number (naming_of d)
-declare_by caught w d = declare_anew w d.target.number (naming_of d)
+declare_by plain w d = declare w d.target.number d.naming
+declare_by hoisted w d = hoist w (numbers d.passed) d.target.number d.naming
+declare_by moved w d = declare_and_move w (stands_in d) d.target.number d.naming
+declare_by caught w d = declare_anew w d.target.number d.naming
 
 -- what one event does
 abbrev pub act : WalkState → Event → WalkState

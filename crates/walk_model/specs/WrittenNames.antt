@@ -90,4 +90,4 @@ names_written program = written_in program.root None (record { innermost = 0; ar
 -- whether one of the name that counts stands in the scope that the node opens
 abbrev pub any_standing : ℕ → Name → List Declaration → Bool
 any_standing opener name [] = false
-any_standing opener name (e ∷ es) = (counts_past e && (scope_it_stands_in e).opener == opener && bytes_eq e.name name) || any_standing opener name es
+any_standing opener name (e ∷ es) = (counts_past e && (scope_it_stands_in e).opener == opener && bytes_eq e.naming.name name) || any_standing opener name es

@@ -31,23 +31,23 @@ pub record Own (table : List (Option ℕ)) (d : Declaration) (s h : ℕ) (st : S
   pub sits : Sits table d h
   pub others : (m : Made) → Among m st.made → (m ≡ record { declaration = d; symbol = s }) ⊎ ((Meets d m.declaration → ⊥) × (m.symbol ≡ s → ⊥))
   pub once : symbol_times s st.made ≡ 1
-  pub symbol : slice_get st.symbols s ≡ Some (new_symbol h d)
-  pub binds : get st.bindings h d.name ≡ Some s
-  pub only : (e : Binding) → Among e st.bindings → e.symbol ≡ s → (e.scope ≡ h) × (e.name ≡ d.name)
+  pub symbol : slice_get st.symbols s ≡ Some (new_symbol h d.naming)
+  pub binds : get st.bindings h d.naming.name ≡ Some s
+  pub only : (e : Binding) → Among e st.bindings → e.symbol ≡ s → (e.scope ≡ h) × (e.name ≡ d.naming.name)
 
 -- a declaration that d does not meet touches another binding
-apart : (d e : Declaration) (h c : ℕ) → (Meets d e → ⊥) → contains (path d) h ≡ true → contains (path e) c ≡ true → same_key c e.name h d.name ≡ false
+apart : (d e : Declaration) (h c : ℕ) → (Meets d e → ⊥) → contains (path d) h ≡ true → contains (path e) c ≡ true → same_key c e.naming.name h d.naming.name ≡ false
 apart d e h c n p q =
-    elim (same_key_tells c h e.name d.name) [
+    elim (same_key_tells c h e.naming.name d.naming.name) [
       | inl k ↦ absurd (n (record { same_name = sym k.2; shared = h; on_left = p; on_right = subst (λ r. contains (path e) r ≡ true) k.1 q }))
       | inr k ↦ k.0
     ]
 
 -- a symbol that such a declaration finds is another one
-other_found : (table : List (Option ℕ)) (d e : Declaration) (s h c r : ℕ) (st : State) → Own table d s h st → (Meets d e → ⊥) → contains (path e) c ≡ true → Has st.made c e.name r → r ≡ s → ⊥
+other_found : (table : List (Option ℕ)) (d e : Declaration) (s h c r : ℕ) (st : State) → Own table d s h st → (Meets d e → ⊥) → contains (path e) c ≡ true → Has st.made c e.naming.name r → r ≡ s → ⊥
 other_found table d e s h c r st o n p k i =
     elim (o.others k.made k.among) [
-      | inl q ↦ n (record { same_name = subst (λ m. m.declaration.name ≡ e.name) q k.named; shared = c; on_left = subst (λ m. contains (path m.declaration) c ≡ true) q k.on_path; on_right = p })
+      | inl q ↦ n (record { same_name = subst (λ m. m.declaration.naming.name ≡ e.naming.name) q k.named; shared = c; on_left = subst (λ m. contains (path m.declaration) c ≡ true) q k.on_path; on_right = p })
       | inr q ↦ q.1 (k.symbol ∙ i)
     ]
 
@@ -74,15 +74,15 @@ symbol_kept f ys r s y n h = grind (arith, get-update f ys r s, eqb_tells r s)
 
 own_change : (table : List (Option ℕ)) (d e : Declaration) (s h : ℕ) {a b : State} → (Meets d e → ⊥) → Change table e a b → Own table d s h a → Own table d s h b
 own_change table d e s h n (makes st c p) o =
-    let within : s < length st.symbols = get_within st.symbols s (new_symbol h d) o.symbol in
+    let within : s < length st.symbols = get_within st.symbols s (new_symbol h d.naming) o.symbol in
     let i : length st.symbols ≡ s → ⊥ = λ q. omega arith in
     record {
       sits = o.sits;
       others = others_more d e s (length st.symbols) st.made n i o.others;
       once = same_times s st.made (record { declaration = e; symbol = length st.symbols }) i o.once;
-      symbol = get-push st.symbols (new_symbol c e) s within ∙ o.symbol;
-      binds = get-put_other st.bindings c e.name (length st.symbols) h d.name (apart d e h c n (on_path table d h o.sits) (on_path table e c p)) ∙ o.binds;
-      only = only_put st.bindings c e.name (length st.symbols) h d.name s i o.only;
+      symbol = get-push st.symbols (new_symbol c e.naming) s within ∙ o.symbol;
+      binds = get-put_other st.bindings c e.naming.name (length st.symbols) h d.naming.name (apart d e h c n (on_path table d h o.sits) (on_path table e c p)) ∙ o.binds;
+      only = only_put st.bindings c e.naming.name (length st.symbols) h d.naming.name s i o.only;
     }
 own_change table d e s h n (finds st f c r keeps p k) o =
     let i : r ≡ s → ⊥ = other_found table d e s h c r st o n p k in
@@ -90,7 +90,7 @@ own_change table d e s h n (finds st f c r keeps p k) o =
       sits = o.sits;
       others = others_more d e s r st.made n i o.others;
       once = same_times s st.made (record { declaration = e; symbol = r }) i o.once;
-      symbol = symbol_kept f st.symbols r s (new_symbol h d) i o.symbol;
+      symbol = symbol_kept f st.symbols r s (new_symbol h d.naming) i o.symbol;
       binds = o.binds;
       only = o.only;
     }
@@ -99,8 +99,8 @@ own_change table d e s h n (unbinds st c p) o = record {
   others = o.others;
   once = o.once;
   symbol = o.symbol;
-  binds = get-remove_other st.bindings c e.name h d.name (apart d e h c n (on_path table d h o.sits) p) ∙ o.binds;
-  only = λ q a i. o.only q (among_remove q st.bindings c e.name a).0 i;
+  binds = get-remove_other st.bindings c e.naming.name h d.naming.name (apart d e h c n (on_path table d h o.sits) p) ∙ o.binds;
+  only = λ q a i. o.only q (among_remove q st.bindings c e.naming.name a).0 i;
 }
 own_change table d e s h n (binds st c r p k) o =
     let i : r ≡ s → ⊥ = other_made table d e s h r st o n k in
@@ -108,14 +108,14 @@ own_change table d e s h n (binds st c r p k) o =
       sits = o.sits;
       others = o.others;
       once = o.once;
-      symbol = symbol_kept (in_scope c) st.symbols r s (new_symbol h d) i o.symbol;
-      binds = get-put_other st.bindings c e.name r h d.name (apart d e h c n (on_path table d h o.sits) (on_path table e c p)) ∙ o.binds;
-      only = only_put st.bindings c e.name r h d.name s i o.only;
+      symbol = symbol_kept (in_scope c) st.symbols r s (new_symbol h d.naming) i o.symbol;
+      binds = get-put_other st.bindings c e.naming.name r h d.naming.name (apart d e h c n (on_path table d h o.sits) (on_path table e c p)) ∙ o.binds;
+      only = only_put st.bindings c e.naming.name r h d.naming.name s i o.only;
     }
 own_change table d e s h n (remembers st c r p k) o = record { sits = o.sits; others = o.others; once = o.once; symbol = o.symbol; binds = o.binds; only = o.only }
 own_change table d e s h n (rescopes st c r k) o =
     let i : r ≡ s → ⊥ = other_made table d e s h r st o n k in
-    record { sits = o.sits; others = o.others; once = o.once; symbol = symbol_kept (in_scope c) st.symbols r s (new_symbol h d) i o.symbol; binds = o.binds; only = o.only }
+    record { sits = o.sits; others = o.others; once = o.once; symbol = symbol_kept (in_scope c) st.symbols r s (new_symbol h d.naming) i o.symbol; binds = o.binds; only = o.only }
 own_change table d e s h n (notes st cs) o = record { sits = o.sits; others = o.others; once = o.once; symbol = o.symbol; binds = o.binds; only = o.only }
 
 pub own_changes : (table : List (Option ℕ)) (d e : Declaration) (s h : ℕ) {a b : State} → (Meets d e → ⊥) → Changes table e a b → Own table d s h a → Own table d s h b

@@ -74,23 +74,23 @@ bound_passed_symbol (b ∷ bs) c s h = elim (eqb_tells b.scope c) [
 module _ (table : List (Option ℕ)) (d : Declaration) (s : ℕ) where
   pub own_among : (h : ℕ) (st : State) → Sound table st → Own table d s h st → Among (record { declaration = d; symbol = s }) st.made
   own_among h st k o =
-      let t : Holds table st.made h d.name s = k.bound (record { scope = h; name = d.name; symbol = s }) (get_among st.bindings h d.name s o.binds) in
+      let t : Holds table st.made h d.naming.name s = k.bound (record { scope = h; name = d.naming.name; symbol = s }) (get_among st.bindings h d.naming.name s o.binds) in
       elim (o.others t.made t.among) [
         | inl q ↦ subst (λ m. Among m st.made) q t.among
         | inr q ↦ absurd (q.1 t.symbol)
       ]
 
   -- where d's name may be bound elsewhere on its path, nothing is
-  none_bound : (h c e : ℕ) (st : State) → Sound table st → Own table d s h st → (c ≡ h → ⊥) → contains (path d) e ≡ true → ((m : Made) → Among m st.made → Sits table m.declaration c → contains (path m.declaration) e ≡ true) → get st.bindings c d.name ≡ None
-  none_bound h c e st k o n p f = go (get st.bindings c d.name) refl
+  none_bound : (h c e : ℕ) (st : State) → Sound table st → Own table d s h st → (c ≡ h → ⊥) → contains (path d) e ≡ true → ((m : Made) → Among m st.made → Sits table m.declaration c → contains (path m.declaration) e ≡ true) → get st.bindings c d.naming.name ≡ None
+  none_bound h c e st k o n p f = go (get st.bindings c d.naming.name) refl
     where
-      go : (t : Option ℕ) → get st.bindings c d.name ≡ t → get st.bindings c d.name ≡ None
+      go : (t : Option ℕ) → get st.bindings c d.naming.name ≡ t → get st.bindings c d.naming.name ≡ None
       go None q = q
       go (Some r) q =
-          let a : Among (record { scope = c; name = d.name; symbol = r }) st.bindings = get_among st.bindings c d.name r q in
-          let t : Holds table st.made c d.name r = k.bound (record { scope = c; name = d.name; symbol = r }) a in
+          let a : Among (record { scope = c; name = d.naming.name; symbol = r }) st.bindings = get_among st.bindings c d.naming.name r q in
+          let t : Holds table st.made c d.naming.name r = k.bound (record { scope = c; name = d.naming.name; symbol = r }) a in
           elim (o.others t.made t.among) [
-            | inl w ↦ absurd (n (o.only (record { scope = c; name = d.name; symbol = r }) a (sym t.symbol ∙ ap (λ m. m.symbol) w)).0)
+            | inl w ↦ absurd (n (o.only (record { scope = c; name = d.naming.name; symbol = r }) a (sym t.symbol ∙ ap (λ m. m.symbol) w)).0)
             | inr w ↦ absurd (w.0 (record { same_name = sym t.named; shared = e; on_left = p; on_right = f t.made t.among t.sits }))
           ]
 
@@ -98,14 +98,14 @@ module _ (table : List (Option ℕ)) (d : Declaration) (s : ℕ) where
   own_take_here c b st r k o =
       let a : Among (record { declaration = d; symbol = s }) st.made = own_among c st k o in
       let home : Sits table d b = sits_closed table d c b r.clause r.body (r.targets (record { declaration = d; symbol = s }) a) o.sits in
-      let empty : get st.bindings b d.name ≡ None = none_bound c b b st k o (λ e. two table st.made c b r (sym e)) (on_path table d b home) (λ m q t. on_path table m.declaration b t) in
-      let passed_symbol : hits s (bound_by st.bindings c) ≡ true = hits_bound (record { scope = c; name = d.name; symbol = s }) st.bindings c s (get_among st.bindings c d.name s o.binds) refl refl in
+      let empty : get st.bindings b d.naming.name ≡ None = none_bound c b b st k o (λ e. two table st.made c b r (sym e)) (on_path table d b home) (λ m q t. on_path table m.declaration b t) in
+      let passed_symbol : hits s (bound_by st.bindings c) ≡ true = hits_bound (record { scope = c; name = d.naming.name; symbol = s }) st.bindings c s (get_among st.bindings c d.naming.name s o.binds) refl refl in
       record {
         sits = home;
         others = o.others;
         once = o.once;
         symbol = symbol_rescoped (bound_by st.bindings c) b s st.symbols ∙ rw (passed_symbol, o.symbol) refl;
-        binds = get-take_over_body st.bindings c b d.name empty ∙ o.binds;
+        binds = get-take_over_body st.bindings c b d.naming.name empty ∙ o.binds;
         only = λ e q i. elim (among_take_over e st.bindings c b q) [
           | inl t ↦ absurd (among_taken e st.bindings c b (two table st.made c b r) q (o.only e t i).0)
           | inr t ↦ (t.0, (o.only (record e { scope = c }) t.1 i).1)
@@ -125,17 +125,17 @@ module _ (table : List (Option ℕ)) (d : Declaration) (s : ℕ) where
     ];
   }
     where
-      unhit : (t : Bool) → hits s (bound_by st.bindings c) ≡ t → cond (hits s (bound_by st.bindings c)) (option_map (in_scope b) (slice_get st.symbols s)) (slice_get st.symbols s) ≡ Some (new_symbol h d)
+      unhit : (t : Bool) → hits s (bound_by st.bindings c) ≡ t → cond (hits s (bound_by st.bindings c)) (option_map (in_scope b) (slice_get st.symbols s)) (slice_get st.symbols s) ≡ Some (new_symbol h d.naming)
       unhit true e = let w : BoundIn st.bindings c s = bound_passed_symbol st.bindings c s e in absurd (n (sym (o.only w.entry w.among w.symbol).0 ∙ w.scope))
       unhit false e = rw e o.symbol
 
-      kept : ((h == b ≡ true) × (h ≡ b)) ⊎ ((h == b ≡ false) × (h ≡ b → ⊥)) → get (take_over st.bindings c b) h d.name ≡ Some s
-      kept (inr e) = get-take_over_other st.bindings c b h d.name n e.1 ∙ o.binds
+      kept : ((h == b ≡ true) × (h ≡ b)) ⊎ ((h == b ≡ false) × (h ≡ b → ⊥)) → get (take_over st.bindings c b) h d.naming.name ≡ Some s
+      kept (inr e) = get-take_over_other st.bindings c b h d.naming.name n e.1 ∙ o.binds
       kept (inl e) =
-          let free : get st.bindings c d.name ≡ None = none_bound h c h st k o (λ q. n (sym q)) (on_path table d h o.sits)
+          let free : get st.bindings c d.naming.name ≡ None = none_bound h c h st k o (λ q. n (sym q)) (on_path table d h o.sits)
           (λ m a t. subst (λ x. contains (path m.declaration) x ≡ true) (sym e.1) (on_path table m.declaration b (sits_closed table m.declaration c b r.clause r.body (r.targets m a) t))) in
-          subst (λ x. get (take_over st.bindings c b) x d.name ≡ Some s) (sym e.1)
-          (get-take_over_kept st.bindings c b d.name free ∙ subst (λ x. get st.bindings x d.name ≡ Some s) e.1 o.binds)
+          subst (λ x. get (take_over st.bindings c b) x d.naming.name ≡ Some s) (sym e.1)
+          (get-take_over_kept st.bindings c b d.naming.name free ∙ subst (λ x. get st.bindings x d.naming.name ≡ Some s) e.1 o.binds)
 
   own_take : (h c b : ℕ) (st : State) → Ready table st.made c b → Sound table st → Own table d s h st → Own table d s (cond (h == c) b h) (act st (takes_over c b))
   own_take h c b st r k o = go (eqb_tells h c)

@@ -99,7 +99,7 @@ lone_declaration p f d m =
         is = belongs_made (record { declaration = d; symbol = s }) final.made (own_among table d s (home d) final (sound_program p f) own);
         alone = belongs_times s final.made ∙ own.once;
         symbol = own.symbol;
-        binds = bound_as p (home d) d.name below ∙ own.binds;
+        binds = bound_as p (home d) d.naming.name below ∙ own.binds;
         only = λ c x e. own.only (record { scope = c; name = x; symbol = s }) (bound_stands p c x s e) refl;
       },
     )

@@ -8,7 +8,7 @@ use Rattle.semantic_model.specs.Place.{OpenScope}
 use Rattle.semantic_model.specs.Declaration.{Declaration, How, plain, hoisted, moved, caught, stands_in}
 use Rattle.semantic_model.specs.Binding.{Binding, get, put, remove, move, take_over, bound_by}
 use Rattle.semantic_model.specs.Event.{Event, declares, takes_over, ends_header}
-use Rattle.semantic_model.specs.Fold.{State, start, update, or_else, unless_expression, found, redeclared, united, in_scope, new_symbol, note_symbol, make, against, declare_in, chosen}
+use Rattle.semantic_model.specs.Fold.{State, start, update, or_else, unless_expression, flags_of, found, redeclared, united, in_scope, new_symbol, note_symbol, make, against, declare_in, chosen}
 use Rattle.semantic_model.specs.Hoist.{PassedSymbol, counts, passed_symbol, passed_symbol_or, asked_symbols, against_all, remembering, move_symbol, hoist_by, hoist, move_out, declare_by, rescoped, act, run}
 use Rattle.semantic_model.proofs.lists.BindingLaws.{get-put_same, get_among, among_put, among_remove, among_take_over, among_taken}
 use Rattle.semantic_model.proofs.lists.SymbolLaws.{get-update, get-last}
@@ -95,12 +95,12 @@ module _ (v : ℕ → ℕ) (table : List (Option ℕ)) (root : slice_get table 0
   kept_make st c d h =
       let n : ℕ = length st.symbols in
       record {
-        owned = λ e a. elim (among_put e st.bindings c d.name n a) [
-          | inl k ↦ symbol_push st.symbols (new_symbol c d) e.scope e.name e.symbol (h.owned e k)
-          | inr k ↦ record { symbol = new_symbol c d; is_there = ap (slice_get (st.symbols ++ new_symbol c d ∷ [])) k.2 ∙ get-last st.symbols (new_symbol c d); named = sym k.1; stands = sym k.0 }
+        owned = λ e a. elim (among_put e st.bindings c d.naming.name n a) [
+          | inl k ↦ symbol_push st.symbols (new_symbol c d.naming) e.scope e.name e.symbol (h.owned e k)
+          | inr k ↦ record { symbol = new_symbol c d.naming; is_there = ap (slice_get (st.symbols ++ new_symbol c d.naming ∷ [])) k.2 ∙ get-last st.symbols (new_symbol c d.naming); named = sym k.1; stands = sym k.0 }
         ];
-        once = λ s. put_once s st.bindings c d.name n (unbound n st.bindings (λ e a q. absurd (omega (arith, symbol_within st.symbols e.scope e.name e.symbol (h.owned e a), q)))) (h.once s);
-        backed = λ e a. more_backed st.bindings (put st.bindings c d.name n) e (λ t y i l k. bound_put st.bindings c d.name n t y k) (h.backed e a);
+        once = λ s. put_once s st.bindings c d.naming.name n (unbound n st.bindings (λ e a q. absurd (omega (arith, symbol_within st.symbols e.scope e.name e.symbol (h.owned e a), q)))) (h.once s);
+        backed = λ e a. more_backed st.bindings (put st.bindings c d.naming.name n) e (λ t y i l k. bound_put st.bindings c d.naming.name n t y k) (h.backed e a);
       }
 
   -- a symbol of the same name and scope
@@ -116,7 +116,7 @@ module _ (v : ℕ → ℕ) (table : List (Option ℕ)) (root : slice_get table 0
 
   kept_declare_in : (st : State) (c : ℕ) (d : Declaration) (o : Option ℕ) → Kept st → Kept (declare_in st c d o)
   kept_declare_in st c d None h = kept_make st c d h
-  kept_declare_in st c d (Some s) h = kept_finds (λ y. united d.flags (redeclared d y)) (against st d s) d s (λ y. (refl, refl)) (kept_against st d s h)
+  kept_declare_in st c d (Some s) h = kept_finds (λ y. united d.naming.flags (redeclared d.naming y)) (against st d s) d s (λ y. (refl, refl)) (kept_against st d s h)
 
   -- one more remembered name
   kept_remember : (st : State) (c : ℕ) (x : Name) (s t : ℕ) → Leads v table c t → IsBound st.bindings t x → Kept st → Kept (record st { remembered = put st.remembered c x s })
@@ -138,7 +138,7 @@ module _ (v : ℕ → ℕ) (table : List (Option ℕ)) (root : slice_get table 0
   found_where : (st : State) (c : ℕ) (x : Name) (s : ℕ) → found st c x ≡ Some s → (get st.bindings c x ≡ Some s) ⊎ (get st.remembered c x ≡ Some s)
   found_where st c x s e = go (get st.bindings c x) refl e
     where
-      go : (o : Option ℕ) → get st.bindings c x ≡ o → unless_expression st (or_else o (get st.remembered c x)) ≡ Some s → (get st.bindings c x ≡ Some s) ⊎ (get st.remembered c x ≡ Some s)
+      go : (o : Option ℕ) → get st.bindings c x ≡ o → unless_expression (flags_of st) (or_else o (get st.remembered c x)) ≡ Some s → (get st.bindings c x ≡ Some s) ⊎ (get st.remembered c x ≡ Some s)
       go (Some r) g f = inl (g ∙ unless_some st (Some r) s f)
       go None g f = inr (unless_some st (get st.remembered c x) s f)
 
@@ -149,9 +149,9 @@ module _ (v : ℕ → ℕ) (table : List (Option ℕ)) (root : slice_get table 0
         inr (subst (λ m. IsBound st.bindings m x) (sym w.leads.near ∙ n) w.bound))
   ]
 
-  declared_bound : (st : State) (c : ℕ) (d : Declaration) (o : Option ℕ) → found st c d.name ≡ o → v c ≡ c → Kept st → IsBound (declare_in st c d o).bindings c d.name
-  declared_bound st c d None e n h = (length st.symbols, get-put_same st.bindings c d.name (length st.symbols))
-  declared_bound st c d (Some s) e n h = elim (found_leads st c d.name s c n h e) [ inl g ↦ (s, g) | inr k ↦ k ]
+  declared_bound : (st : State) (c : ℕ) (d : Declaration) (o : Option ℕ) → found st c d.naming.name ≡ o → v c ≡ c → Kept st → IsBound (declare_in st c d o).bindings c d.naming.name
+  declared_bound st c d None e n h = (length st.symbols, get-put_same st.bindings c d.naming.name (length st.symbols))
+  declared_bound st c d (Some s) e n h = elim (found_leads st c d.naming.name s c n h e) [ inl g ↦ (s, g) | inr k ↦ k ]
 
   -- a binding moves out
   kept_moves : (st : State) (c t : ℕ) (x : Name) (s : ℕ) → get st.bindings c x ≡ Some s → v c ≡ t → Kept st → Kept (record st { bindings = put (remove st.bindings c x) t x s; symbols = update (in_scope t) st.symbols s })
@@ -200,24 +200,24 @@ module _ (v : ℕ → ℕ) (table : List (Option ℕ)) (root : slice_get table 0
   bindings_against st d [] = refl
   bindings_against st d (s ∷ ss) = bindings_against (against st d s) d ss
 
-  kept_hoist_by : (st : State) (d : Declaration) (o : Option PassedSymbol) → AllLead v table d.passed d.target.number → ((h : PassedSymbol) → o ≡ Some h → (v h.scope ≡ d.target.number) × ((get st.bindings h.scope d.name ≡ Some h.symbol) ⊎ IsBound st.bindings d.target.number d.name)) → Kept st → Kept (hoist_by st d o)
+  kept_hoist_by : (st : State) (d : Declaration) (o : Option PassedSymbol) → AllLead v table d.passed d.target.number → ((h : PassedSymbol) → o ≡ Some h → (v h.scope ≡ d.target.number) × ((get st.bindings h.scope d.naming.name ≡ Some h.symbol) ⊎ IsBound st.bindings d.target.number d.naming.name)) → Kept st → Kept (hoist_by st d o)
   kept_hoist_by st d None l f h =
       let t : ℕ = d.target.number in
-      let o : Option ℕ = found st t d.name in
-      kept_remembering (declare_in st t d o) d.passed d.name (chosen st o) t l (λ n. declared_bound st t d o refl n h) (kept_declare_in st t d o h)
+      let o : Option ℕ = found st t d.naming.name in
+      kept_remembering (declare_in st t d o) d.passed d.naming.name (chosen st o) t l (λ n. declared_bound st t d o refl n h) (kept_declare_in st t d o h)
   kept_hoist_by st d (Some r) l f h =
       let t : ℕ = d.target.number in
-      let got : State = note_symbol (record st { symbols = update (redeclared d) st.symbols r.symbol }) d r.symbol in
-      let w : Moved (move_symbol got r.scope t d.name r.symbol (get st.bindings t d.name)) t d.name =
-      kept_move_symbol got r.scope t d.name r.symbol (get st.bindings t d.name) refl (f r refl).1 (f r refl).0 (kept_finds (redeclared d) st d r.symbol (λ y. (refl, refl)) h) in
-      kept_remembering (move_symbol got r.scope t d.name r.symbol (get st.bindings t d.name)) d.passed d.name r.symbol t l (λ n. w.bound) w.kept
+      let got : State = note_symbol (record st { symbols = update (redeclared d.naming) st.symbols r.symbol }) d r.symbol in
+      let w : Moved (move_symbol got r.scope t d.naming.name r.symbol (get st.bindings t d.naming.name)) t d.naming.name =
+      kept_move_symbol got r.scope t d.naming.name r.symbol (get st.bindings t d.naming.name) refl (f r refl).1 (f r refl).0 (kept_finds (redeclared d.naming) st d r.symbol (λ y. (refl, refl)) h) in
+      kept_remembering (move_symbol got r.scope t d.naming.name r.symbol (get st.bindings t d.naming.name)) d.passed d.naming.name r.symbol t l (λ n. w.bound) w.kept
 
   kept_hoist : (st : State) (d : Declaration) → AllLead v table d.passed d.target.number → Kept st → Kept (hoist st d)
   kept_hoist st d l h =
-      let ss : List ℕ = asked_symbols st d.passed d.name in
-      kept_hoist_by (against_all st d ss) d (passed_symbol st d.passed d.name) l
-      (λ r e. let w : LedPassedSymbol st d.name d.target.number r = led_passed_symbol st d.name d.target.number d.passed r l e in
-      (w.near, subst (λ bs. (get bs r.scope d.name ≡ Some r.symbol) ⊎ IsBound bs d.target.number d.name) (sym (bindings_against st d ss)) (found_leads st r.scope d.name r.symbol d.target.number w.near h w.is_found)))
+      let ss : List ℕ = asked_symbols st d.passed d.naming.name in
+      kept_hoist_by (against_all st d ss) d (passed_symbol st d.passed d.naming.name) l
+      (λ r e. let w : LedPassedSymbol st d.naming.name d.target.number r = led_passed_symbol st d.naming.name d.target.number d.passed r l e in
+      (w.near, subst (λ bs. (get bs r.scope d.naming.name ≡ Some r.symbol) ⊎ IsBound bs d.target.number d.naming.name) (sym (bindings_against st d ss)) (found_leads st r.scope d.naming.name r.symbol d.target.number w.near h w.is_found)))
       (kept_against_all st d ss h)
 
   -- block functions
@@ -233,21 +233,21 @@ module _ (v : ℕ → ℕ) (table : List (Option ℕ)) (root : slice_get table 0
       (s, ap (λ bs. get bs t x) (moved_is st.bindings c t x s (g refl)) ∙ get-put_same (remove st.bindings c x) t x s) w
 
   -- a function that is to move is bound in its block
-  bound_in_block : (st : State) (d : Declaration) (c t : ℕ) (o : Option ℕ) → found st c d.name ≡ o → v c ≡ t → get st.bindings t d.name ≡ None → Kept st → get (declare_in st c d o).bindings c d.name ≡ Some (chosen st o)
-  bound_in_block st d c t None e n g h = get-put_same st.bindings c d.name (length st.symbols)
-  bound_in_block st d c t (Some s) e n g h = elim (found_leads st c d.name s t n h e) [
+  bound_in_block : (st : State) (d : Declaration) (c t : ℕ) (o : Option ℕ) → found st c d.naming.name ≡ o → v c ≡ t → get st.bindings t d.naming.name ≡ None → Kept st → get (declare_in st c d o).bindings c d.naming.name ≡ Some (chosen st o)
+  bound_in_block st d c t None e n g h = get-put_same st.bindings c d.naming.name (length st.symbols)
+  bound_in_block st d c t (Some s) e n g h = elim (found_leads st c d.naming.name s t n h e) [
     | inl k ↦ k
     | inr k ↦ (let q : None ≡ Some k.0 = sym g ∙ k.1 in absurd cc)
   ]
 
   kept_by : (how : How) (st : State) (d : Declaration) → IsLed v table how d → Kept st → Kept (declare_by how st d)
-  kept_by plain st d l h = kept_declare_in st d.target.number d (found st d.target.number d.name) h
+  kept_by plain st d l h = kept_declare_in st d.target.number d (found st d.target.number d.naming.name) h
   kept_by hoisted st d l h = kept_hoist st d l h
   kept_by moved st d l h =
       let c : ℕ = stands_in d in
       let t : ℕ = d.target.number in
-      let o : Option ℕ = found st c d.name in
-      kept_move_out (declare_in st c d o) c t d.name (chosen st o) (get st.bindings t d.name) l (λ g. bound_in_block st d c t o refl l.near g h) (kept_declare_in st c d o h)
+      let o : Option ℕ = found st c d.naming.name in
+      kept_move_out (declare_in st c d o) c t d.naming.name (chosen st o) (get st.bindings t d.naming.name) l (λ g. bound_in_block st d c t o refl l.near g h) (kept_declare_in st c d o h)
   kept_by caught st d l h = kept_make st d.target.number d h
 
   -- a take-over

@@ -1,19 +1,22 @@
 -- What holds of the tables of a program right after its analysis.
 use Rattle.std.proofs.Common.{◌≡◌, ℕ, zero, suc, ◌+◌, ◌<◌, ◌≤◌, List, [], ◌∷◌, ◌++◌, Option, Some, None, cond, Bool, true, false, inl, inr, refl, sym, ap, subst, ◌∙◌, length, map, bytes_eq, arith}
 use Rattle.std.specs.Prelude.{slice_get}
+use Rattle.std.specs.Option.{unwrap_or}
 use Rattle.std.proofs.lemmas.Option.{slice_get_cases, slice_get_within}
 use Rattle.std.proofs.lemmas.List.{length-map}
 use Rattle.std.proofs.lemmas.Bool.Decides.{eqb_tells}
 use Rattle.semantic_syntax.specs.declared.references.Redeclaration.{Redeclaration}
 use Rattle.semantic_syntax.specs.Tables.{Name, Bindings, Symbol}
+use Rattle.semantic_syntax.specs.Reading.{own_entry}
 use Rattle.semantic_tree.specs.Tree.{Tree}
 use Rattle.semantic_model.specs.Entries.{times, times_in_all, or_empty}
 use Rattle.semantic_model.specs.Step.{steps}
 use Rattle.semantic_model.specs.Reference.{references}
+use Rattle.semantic_model.specs.Naming.{Naming}
 use Rattle.semantic_model.specs.Declaration.{Declaration, How, plain, hoisted, moved, caught, stands_in}
 use Rattle.semantic_model.specs.Binding.{get, bound_by}
 use Rattle.semantic_model.specs.Event.{Event, declares, takes_over, ends_header, events}
-use Rattle.semantic_model.specs.Fold.{State, start, found, update, redeclared, united, in_scope, new_symbol, with_entry, declare_in, against, chosen}
+use Rattle.semantic_model.specs.Fold.{State, start, found, update, redeclared, united, in_scope, new_symbol, entry_of, declare_in, against, chosen}
 use Rattle.semantic_model.specs.Hoist.{PassedSymbol, passed_symbol, asked_symbols, against_all, hoist_by, move_symbol, move_out, rescoped, declare_by, act, run}
 use Rattle.semantic_model.specs.FreeNames.{free_references}
 use Rattle.semantic_model.specs.TablesOf.{tables_of, is_symbol}
@@ -76,15 +79,15 @@ begin_update f [] n k h = tt
 begin_update f (y ∷ ys) zero k h = (k y h.0, h.1)
 begin_update f (y ∷ ys) (suc n) k h = (h.0, begin_update f ys n k h.1)
 
-begin_push : (ys : List Symbol) (c : ℕ) (d : Declaration) → AllBegin ys → AllBegin (ys ++ new_symbol c d ∷ [])
-begin_push [] c d h = (tt, tt)
-begin_push (y ∷ ys) c d h = (h.0, begin_push ys c d h.1)
+begin_push : (ys : List Symbol) (c : ℕ) (n : Naming) → AllBegin ys → AllBegin (ys ++ new_symbol c n ∷ [])
+begin_push [] c n h = (tt, tt)
+begin_push (y ∷ ys) c n h = (h.0, begin_push ys c n h.1)
 
-one_more_entry : (d : Declaration) (y : Symbol) (o : Option (List Redeclaration)) → HasOwnEntry y o → BeginsWithOwn y (with_entry o y d)
-one_more_entry d y None h = (refl, refl)
-one_more_entry d y (Some []) h = absurd h
-one_more_entry d y (Some (r ∷ [])) h = absurd h
-one_more_entry d y (Some (r ∷ q ∷ more)) h = h
+one_more_entry : (n : Naming) (y : Symbol) (o : Option (List Redeclaration)) → HasOwnEntry y o → BeginsWithOwn y (unwrap_or o (own_entry y ∷ []) ++ entry_of n ∷ [])
+one_more_entry n y None h = (refl, refl)
+one_more_entry n y (Some []) h = absurd h
+one_more_entry n y (Some (r ∷ [])) h = absurd h
+one_more_entry n y (Some (r ∷ q ∷ more)) h = h
 
 -- a symbol of the same span and node
 own_same : (y z : Symbol) (o : Option (List Redeclaration)) → z.span ≡ y.span → z.node ≡ y.node → HasOwnEntry y o → HasOwnEntry z o
@@ -93,11 +96,11 @@ own_same y z (Some []) e k h = h
 own_same y z (Some (r ∷ [])) e k h = h
 own_same y z (Some (r ∷ q ∷ more)) e k h = (h.0 ∙ sym e, h.1 ∙ sym k)
 
-keeps_redeclared : (d : Declaration) → KeepsOwn (redeclared d)
-keeps_redeclared d y h = own_same y (redeclared d y) (Some (with_entry y.redeclarations y d)) refl refl (one_more_entry d y y.redeclarations h)
+keeps_redeclared : (n : Naming) → KeepsOwn (redeclared n)
+keeps_redeclared n y h = own_same y (redeclared n y) (redeclared n y).redeclarations refl refl (one_more_entry n y y.redeclarations h)
 
-keeps_united : (d : Declaration) → KeepsOwn (λ y. united d.flags (redeclared d y))
-keeps_united d y h = own_same y (united d.flags (redeclared d y)) (Some (with_entry y.redeclarations y d)) refl refl (one_more_entry d y y.redeclarations h)
+keeps_united : (n : Naming) → KeepsOwn (λ y. united n.flags (redeclared n y))
+keeps_united n y h = own_same y (united n.flags (redeclared n y)) (redeclared n y).redeclarations refl refl (one_more_entry n y y.redeclarations h)
 
 keeps_scope : (c : ℕ) → KeepsOwn (in_scope c)
 keeps_scope c y h = own_same y (in_scope c y) y.redeclarations refl refl h
@@ -107,8 +110,8 @@ begin_against st d [] h = h
 begin_against st d (s ∷ ss) h = begin_against (against st d s) d ss h
 
 begin_declare : (st : State) (c : ℕ) (d : Declaration) (o : Option ℕ) → AllBegin st.symbols → AllBegin (declare_in st c d o).symbols
-begin_declare st c d None h = begin_push st.symbols c d h
-begin_declare st c d (Some s) h = begin_update (λ y. united d.flags (redeclared d y)) st.symbols s (keeps_united d) h
+begin_declare st c d None h = begin_push st.symbols c d.naming h
+begin_declare st c d (Some s) h = begin_update (λ y. united d.naming.flags (redeclared d.naming y)) st.symbols s (keeps_united d.naming) h
 
 begin_move : (st : State) (c t : ℕ) (x : Name) (s : ℕ) (o : Option ℕ) → AllBegin st.symbols → AllBegin (move_symbol st c t x s o).symbols
 begin_move st c t x s None h = begin_update (in_scope t) st.symbols s (keeps_scope t) h
@@ -119,17 +122,17 @@ begin_move_out st c t x s None h = begin_update (in_scope t) st.symbols s (keeps
 begin_move_out st c t x s (Some r) h = h
 
 begin_hoist : (st : State) (d : Declaration) (o : Option PassedSymbol) → AllBegin st.symbols → AllBegin (hoist_by st d o).symbols
-begin_hoist st d None h = begin_declare st d.target.number d (found st d.target.number d.name) h
-begin_hoist st d (Some r) h = begin_move _ r.scope d.target.number d.name r.symbol (get st.bindings d.target.number d.name) (begin_update (redeclared d) st.symbols r.symbol (keeps_redeclared d) h)
+begin_hoist st d None h = begin_declare st d.target.number d (found st d.target.number d.naming.name) h
+begin_hoist st d (Some r) h = begin_move _ r.scope d.target.number d.naming.name r.symbol (get st.bindings d.target.number d.naming.name) (begin_update (redeclared d.naming) st.symbols r.symbol (keeps_redeclared d.naming) h)
 
 begin_by : (how : How) (st : State) (d : Declaration) → AllBegin st.symbols → AllBegin (declare_by how st d).symbols
-begin_by plain st d h = begin_declare st d.target.number d (found st d.target.number d.name) h
-begin_by hoisted st d h = begin_hoist (against_all st d (asked_symbols st d.passed d.name)) d (passed_symbol st d.passed d.name) (begin_against st d (asked_symbols st d.passed d.name) h)
+begin_by plain st d h = begin_declare st d.target.number d (found st d.target.number d.naming.name) h
+begin_by hoisted st d h = begin_hoist (against_all st d (asked_symbols st d.passed d.naming.name)) d (passed_symbol st d.passed d.naming.name) (begin_against st d (asked_symbols st d.passed d.naming.name) h)
 begin_by moved st d h =
     let c : ℕ = stands_in d in
-    let o : Option ℕ = found st c d.name in
-    begin_move_out (declare_in st c d o) c d.target.number d.name (chosen st o) (get st.bindings d.target.number d.name) (begin_declare st c d o h)
-begin_by caught st d h = begin_push st.symbols d.target.number d h
+    let o : Option ℕ = found st c d.naming.name in
+    begin_move_out (declare_in st c d o) c d.target.number d.naming.name (chosen st o) (get st.bindings d.target.number d.naming.name) (begin_declare st c d o h)
+begin_by caught st d h = begin_push st.symbols d.target.number d.naming h
 
 begin_rescoped : (ys : List Symbol) (bs : Bindings) (c : ℕ) → AllBegin ys → AllBegin (rescoped ys bs c)
 begin_rescoped ys [] c h = h

@@ -77,12 +77,12 @@ nothing_invented p f = record { bindings = bound; symbols = symbol }
     symbol s y h =
         let final : State = run start (events (steps p)) in
         let (m, a, e) = (sound_program p f).has_declaration s (slice_get_within final.symbols s y h) in
-        let n : HasName final.symbols m.symbol m.declaration.name = (sound_program p f).has_name m a in
+        let n : HasName final.symbols m.symbol m.declaration.naming.name = (sound_program p f).has_name m a in
         let q : Some n.symbol ≡ Some y = sym n.is_there ∙ subst (λ r. slice_get final.symbols r ≡ Some y) (sym e) h in
         let w : n.symbol ≡ y = cc in
         record {
           declaration = m.declaration;
           among = made_in p m a;
           named = sym n.named ∙ ap (λ z. z.name) w;
-          is = subst (λ r. Among {A = Belongs} (record { node = m.declaration.identifier; number = r }) (node_tables (steps p)).symbols) e (belongs_made m final.made a);
+          is = subst (λ r. Among {A = Belongs} (record { node = m.declaration.naming.identifier; number = r }) (node_tables (steps p)).symbols) e (belongs_made m final.made a);
         }

@@ -9,7 +9,7 @@ use Rattle.semantic_model.specs.Binding.{get, put, remove, move}
 use Rattle.semantic_model.specs.Declaration.{Declaration, How, plain, hoisted, moved, caught, path, stands_in, body_list}
 use Rattle.semantic_syntax.specs.Members.{contains}
 use Rattle.semantic_model.specs.Event.{declares}
-use Rattle.semantic_model.specs.Fold.{State, Made, update, note_symbol, in_scope, united, redeclared, found, or_else, unless_expression, declare_in, chosen, against, conflict_with}
+use Rattle.semantic_model.specs.Fold.{State, Made, update, note_symbol, in_scope, united, redeclared, found, or_else, unless_expression, flags_of, declare_in, chosen, against, conflict_with}
 use Rattle.semantic_model.specs.Hoist.{PassedSymbol, passed_symbol, counts, asked_symbols, against_all, remembering, move_symbol, hoist_by, hoist, move_out, declare_by, act}
 use Rattle.semantic_model.proofs.lists.Members.{among_last, contains_right, contains_first}
 use Rattle.semantic_model.proofs.lists.BindingLaws.{get_among, get-put_same}
@@ -32,11 +32,11 @@ all_passed (c ∷ cs) ns = (contains_first c.number (map (λ s. s.number) cs ++ 
 pub passed_on_path : (d : Declaration) → AllIn (path d) d.passed
 passed_on_path d = all_passed d.passed (d.target.number ∷ body_list d.target.body)
 
-pub unless_some : (st : State) (o : Option ℕ) (s : ℕ) → unless_expression st o ≡ Some s → o ≡ Some s
+pub unless_some : (st : State) (o : Option ℕ) (s : ℕ) → unless_expression (flags_of st) o ≡ Some s → o ≡ Some s
 unless_some st None s h = h
 unless_some st (Some r) s h = grind arith
 
-or_else_some : (o p : Option ℕ) (s : ℕ) → or_else o p ≡ Some s → (o ≡ Some s) ⊎ (p ≡ Some s)
+pub or_else_some : (o p : Option ℕ) (s : ℕ) → or_else o p ≡ Some s → (o ≡ Some s) ⊎ (p ≡ Some s)
 or_else_some (Some r) p s h = inl h
 or_else_some None p s h = inr h
 
@@ -48,24 +48,24 @@ has_found table st c x s h e =
       | inr k ↦ h.remembered (record { scope = c; name = x; symbol = s }) (get_among st.remembered c x s k)
     ]
 
-changes_declare_in : (table : List (Option ℕ)) (a st : State) (d : Declaration) (c : ℕ) → Sits table d c → Sound table st → Changes table d a st → (o : Option ℕ) → found st c d.name ≡ o → Changes table d a (declare_in st c d o)
+changes_declare_in : (table : List (Option ℕ)) (a st : State) (d : Declaration) (c : ℕ) → Sits table d c → Sound table st → Changes table d a st → (o : Option ℕ) → found st c d.naming.name ≡ o → Changes table d a (declare_in st c d o)
 changes_declare_in table a st d c p h m None e = more m (makes st c p)
 changes_declare_in table a st d c p h m (Some s) e =
-    more (more m (notes st (st.conflicts ++ conflict_with d (slice_get st.symbols s))))
-    (finds (against st d s) (λ y. united d.flags (redeclared d y)) c s (λ y. refl) (on_path table d c p) (has_found table st c d.name s h e))
+    more (more m (notes st (st.conflicts ++ conflict_with d.naming (slice_get st.symbols s))))
+    (finds (against st d s) (λ y. united d.naming.flags (redeclared d.naming y)) c s (λ y. refl) (on_path table d c p) (has_found table st c d.naming.name s h e))
 
 among_declare_in : (st : State) (d : Declaration) (c : ℕ) (o : Option ℕ) → Among (record { declaration = d; symbol = chosen st o }) (declare_in st c d o).made
 among_declare_in st d c None = among_last (record { declaration = d; symbol = length st.symbols }) st.made
 among_declare_in st d c (Some s) = among_last (record { declaration = d; symbol = s }) st.made
 
-changes_remembering : (table : List (Option ℕ)) (d : Declaration) (a st : State) (cs : List OpenScope) (s : ℕ) → AllIn (path d) cs → Among (record { declaration = d; symbol = s }) st.made → Changes table d a st → Changes table d a (remembering st cs d.name s)
+changes_remembering : (table : List (Option ℕ)) (d : Declaration) (a st : State) (cs : List OpenScope) (s : ℕ) → AllIn (path d) cs → Among (record { declaration = d; symbol = s }) st.made → Changes table d a st → Changes table d a (remembering st cs d.naming.name s)
 changes_remembering table d a st [] s h k m = m
 changes_remembering table d a st (c ∷ cs) s h k m =
-    changes_remembering table d a (record st { remembered = put st.remembered c.number d.name s }) cs s h.1 k (more m (remembers st c.number s h.0 k))
+    changes_remembering table d a (record st { remembered = put st.remembered c.number d.naming.name s }) cs s h.1 k (more m (remembers st c.number s h.0 k))
 
-changes_move_symbol : (table : List (Option ℕ)) (d : Declaration) (a st : State) (c t s : ℕ) (o : Option ℕ) → contains (path d) c ≡ true → Sits table d t → Among (record { declaration = d; symbol = s }) st.made → Changes table d a st → Changes table d a (move_symbol st c t d.name s o)
+changes_move_symbol : (table : List (Option ℕ)) (d : Declaration) (a st : State) (c t s : ℕ) (o : Option ℕ) → contains (path d) c ≡ true → Sits table d t → Among (record { declaration = d; symbol = s }) st.made → Changes table d a st → Changes table d a (move_symbol st c t d.naming.name s o)
 changes_move_symbol table d a st c t s (Some r) p q k m = m
-changes_move_symbol table d a st c t s None p q k m = more (more m (unbinds st c p)) (binds (record st { bindings = remove st.bindings c d.name }) t s q k)
+changes_move_symbol table d a st c t s None p q k m = more (more m (unbinds st c p)) (binds (record st { bindings = remove st.bindings c d.naming.name }) t s q k)
 
 among_move_symbol : (m : Made) (st : State) (c t : ℕ) (x : Name) (s : ℕ) (o : Option ℕ) → Among m st.made → Among m (move_symbol st c t x s o).made
 among_move_symbol m st c t x s None h = h
@@ -91,44 +91,44 @@ is_passed_symbol st ns x (c ∷ cs) h a e = go (found st c.number x) refl (cases
 pub changes_against_all : (table : List (Option ℕ)) (a st : State) (d : Declaration) (ss : List ℕ) → Changes table d a st → Changes table d a (against_all st d ss)
 changes_against_all table a st d [] m = m
 changes_against_all table a st d (s ∷ ss) m =
-    changes_against_all table a (against st d s) d ss (more m (notes st (st.conflicts ++ conflict_with d (slice_get st.symbols s))))
+    changes_against_all table a (against st d s) d ss (more m (notes st (st.conflicts ++ conflict_with d.naming (slice_get st.symbols s))))
 
 pub made_against_all : (st : State) (d : Declaration) (ss : List ℕ) → (against_all st d ss).made ≡ st.made
 made_against_all st d [] = refl
 made_against_all st d (s ∷ ss) = made_against_all (against st d s) d ss
 
-changes_hoist_by : (table : List (Option ℕ)) (a st : State) (d : Declaration) → Sound table st → Changes table d a st → (o : Option PassedSymbol) → ((h : PassedSymbol) → o ≡ Some h → (contains (path d) h.scope ≡ true) × Has st.made h.scope d.name h.symbol) → Changes table d a (hoist_by st d o)
+changes_hoist_by : (table : List (Option ℕ)) (a st : State) (d : Declaration) → Sound table st → Changes table d a st → (o : Option PassedSymbol) → ((h : PassedSymbol) → o ≡ Some h → (contains (path d) h.scope ≡ true) × Has st.made h.scope d.naming.name h.symbol) → Changes table d a (hoist_by st d o)
 changes_hoist_by table a st d h m None e =
-    let o : Option ℕ = found st d.target.number d.name in
+    let o : Option ℕ = found st d.target.number d.naming.name in
     changes_remembering table d a (declare_in st d.target.number d o) d.passed (chosen st o) (passed_on_path d) (among_declare_in st d d.target.number o)
     (changes_declare_in table a st d d.target.number (at_target refl) h m o refl)
 changes_hoist_by table a st d h m (Some r) e =
-    let i : (contains (path d) r.scope ≡ true) × Has st.made r.scope d.name r.symbol = e r refl in
-    let got : State = note_symbol (record st { symbols = update (redeclared d) st.symbols r.symbol }) d r.symbol in
+    let i : (contains (path d) r.scope ≡ true) × Has st.made r.scope d.naming.name r.symbol = e r refl in
+    let got : State = note_symbol (record st { symbols = update (redeclared d.naming) st.symbols r.symbol }) d r.symbol in
     let k : Among (record { declaration = d; symbol = r.symbol }) got.made = among_last (record { declaration = d; symbol = r.symbol }) st.made in
-    let o : Option ℕ = get got.bindings d.target.number d.name in
-    changes_remembering table d a (move_symbol got r.scope d.target.number d.name r.symbol o) d.passed r.symbol (passed_on_path d)
-    (among_move_symbol (record { declaration = d; symbol = r.symbol }) got r.scope d.target.number d.name r.symbol o k)
+    let o : Option ℕ = get got.bindings d.target.number d.naming.name in
+    changes_remembering table d a (move_symbol got r.scope d.target.number d.naming.name r.symbol o) d.passed r.symbol (passed_on_path d)
+    (among_move_symbol (record { declaration = d; symbol = r.symbol }) got r.scope d.target.number d.naming.name r.symbol o k)
     (changes_move_symbol table d a got r.scope d.target.number r.symbol o i.0 (at_target refl) k
-    (more m (finds st (redeclared d) r.scope r.symbol (λ y. refl) i.0 i.1)))
+    (more m (finds st (redeclared d.naming) r.scope r.symbol (λ y. refl) i.0 i.1)))
 
 changes_hoist : (table : List (Option ℕ)) (st : State) (d : Declaration) → Sound table st → Changes table d st (hoist st d)
 changes_hoist table st d h =
-    let noted : State = against_all st d (asked_symbols st d.passed d.name) in
-    let m : Changes table d st noted = changes_against_all table st st d (asked_symbols st d.passed d.name) (none st) in
-    changes_hoist_by table st noted d (sound-changes table d m h) m (passed_symbol st d.passed d.name)
-    (λ r e. let i : IsPassedSymbol st (path d) d.name r = is_passed_symbol st (path d) d.name d.passed r (passed_on_path d) e in
-    (i.inside, subst (λ ms. Has ms r.scope d.name r.symbol) (sym (made_against_all st d (asked_symbols st d.passed d.name))) (has_found table st r.scope d.name r.symbol h i.is_found)))
+    let noted : State = against_all st d (asked_symbols st d.passed d.naming.name) in
+    let m : Changes table d st noted = changes_against_all table st st d (asked_symbols st d.passed d.naming.name) (none st) in
+    changes_hoist_by table st noted d (sound-changes table d m h) m (passed_symbol st d.passed d.naming.name)
+    (λ r e. let i : IsPassedSymbol st (path d) d.naming.name r = is_passed_symbol st (path d) d.naming.name d.passed r (passed_on_path d) e in
+    (i.inside, subst (λ ms. Has ms r.scope d.naming.name r.symbol) (sym (made_against_all st d (asked_symbols st d.passed d.naming.name))) (has_found table st r.scope d.naming.name r.symbol h i.is_found)))
 
 -- what is moved out of a block is the symbol itself, or nothing
 abbrev pub IsMovable : State → ℕ → Name → ℕ → Type 0
 IsMovable st c x s = (get st.bindings c x ≡ Some s) ⊎ (get st.bindings c x ≡ None)
 
-changes_move_out : (table : List (Option ℕ)) (d : Declaration) (a st : State) (c s : ℕ) (o : Option ℕ) → contains (path d) c ≡ true → IsMovable st c d.name s → Among (record { declaration = d; symbol = s }) st.made → Changes table d a st → Changes table d a (move_out st c d.target.number d.name s o)
+changes_move_out : (table : List (Option ℕ)) (d : Declaration) (a st : State) (c s : ℕ) (o : Option ℕ) → contains (path d) c ≡ true → IsMovable st c d.naming.name s → Among (record { declaration = d; symbol = s }) st.made → Changes table d a st → Changes table d a (move_out st c d.target.number d.naming.name s o)
 changes_move_out table d a st c s (Some r) p g k m = m
 changes_move_out table d a st c s None p (inl g) k m =
-    rw (g, move) (more (more (more m (unbinds st c p)) (binds (record st { bindings = remove st.bindings c d.name }) d.target.number s (at_target refl) k))
-    (remembers (record st { bindings = put (remove st.bindings c d.name) d.target.number d.name s; symbols = update (in_scope d.target.number) st.symbols s }) c s p k))
+    rw (g, move) (more (more (more m (unbinds st c p)) (binds (record st { bindings = remove st.bindings c d.naming.name }) d.target.number s (at_target refl) k))
+    (remembers (record st { bindings = put (remove st.bindings c d.naming.name) d.target.number d.naming.name s; symbols = update (in_scope d.target.number) st.symbols s }) c s p k))
 changes_move_out table d a st c s None p (inr g) k m =
     rw (g, move) (more (more m (rescopes st d.target.number s k)) (remembers (record st { symbols = update (in_scope d.target.number) st.symbols s }) c s p k))
 
@@ -136,13 +136,13 @@ changes_move_out table d a st c s None p (inr g) k m =
 found_movable : (st : State) (c : ℕ) (x : Name) (s : ℕ) → found st c x ≡ Some s → IsMovable st c x s
 found_movable st c x s e = go (get st.bindings c x) refl e
   where
-    go : (o : Option ℕ) → get st.bindings c x ≡ o → unless_expression st (or_else o (get st.remembered c x)) ≡ Some s → IsMovable st c x s
+    go : (o : Option ℕ) → get st.bindings c x ≡ o → unless_expression (flags_of st) (or_else o (get st.remembered c x)) ≡ Some s → IsMovable st c x s
     go None g f = inr g
     go (Some r) g f = inl (g ∙ unless_some st (Some r) s f)
 
-pub declared_movable : (st : State) (d : Declaration) (c : ℕ) (o : Option ℕ) → found st c d.name ≡ o → IsMovable (declare_in st c d o) c d.name (chosen st o)
-declared_movable st d c None e = inl (get-put_same st.bindings c d.name (length st.symbols))
-declared_movable st d c (Some s) e = found_movable st c d.name s e
+pub declared_movable : (st : State) (d : Declaration) (c : ℕ) (o : Option ℕ) → found st c d.naming.name ≡ o → IsMovable (declare_in st c d o) c d.naming.name (chosen st o)
+declared_movable st d c None e = inl (get-put_same st.bindings c d.naming.name (length st.symbols))
+declared_movable st d c (Some s) e = found_movable st c d.naming.name s e
 
 -- a block function may be bound where it stands
 abbrev pub StandsInBlock : List (Option ℕ) → How → Declaration → Type 0
@@ -150,13 +150,13 @@ StandsInBlock table moved d = slice_get table (stands_in d) ≡ Some None
 StandsInBlock table _ d = Unit {0}
 
 changes_by : (table : List (Option ℕ)) (how : How) (st : State) (d : Declaration) → StandsInBlock table how d → Sound table st → Changes table d st (declare_by how st d)
-changes_by table plain st d b h = changes_declare_in table st st d d.target.number (at_target refl) h (none st) (found st d.target.number d.name) refl
+changes_by table plain st d b h = changes_declare_in table st st d d.target.number (at_target refl) h (none st) (found st d.target.number d.naming.name) refl
 changes_by table hoisted st d b h = changes_hoist table st d h
 changes_by table moved st d b h =
     let c : ℕ = stands_in d in
-    let o : Option ℕ = found st c d.name in
+    let o : Option ℕ = found st c d.naming.name in
     let sits : Sits table d c = at_block refl b in
-    changes_move_out table d st (declare_in st c d o) c (chosen st o) (get st.bindings d.target.number d.name) (on_path table d c sits)
+    changes_move_out table d st (declare_in st c d o) c (chosen st o) (get st.bindings d.target.number d.naming.name) (on_path table d c sits)
     (declared_movable st d c o refl) (among_declare_in st d c o) (changes_declare_in table st st d c sits h (none st) o refl)
 changes_by table caught st d b h = more (none st) (makes st d.target.number (at_target refl))
 

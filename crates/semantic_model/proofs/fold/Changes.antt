@@ -36,7 +36,7 @@ on_path table d c (at_block e k) = subst (λ n. contains (path d) n ≡ true) e 
 pub record Holds (table : List (Option ℕ)) (ms : List Made) (c : ℕ) (x : Name) (s : ℕ) : Type 0 where
   pub made : Made
   pub among : Among made ms
-  pub named : made.declaration.name ≡ x
+  pub named : made.declaration.naming.name ≡ x
   pub sits : Sits table made.declaration c
   pub symbol : made.symbol ≡ s
 
@@ -44,7 +44,7 @@ pub record Holds (table : List (Option ℕ)) (ms : List Made) (c : ℕ) (x : Nam
 pub record Has (ms : List Made) (c : ℕ) (x : Name) (s : ℕ) : Type 0 where
   pub made : Made
   pub among : Among made ms
-  pub named : made.declaration.name ≡ x
+  pub named : made.declaration.naming.name ≡ x
   pub on_path : contains (path made.declaration) c ≡ true
   pub symbol : made.symbol ≡ s
 
@@ -59,10 +59,10 @@ has_more ms ns c x s h = record { made = h.made; among = among_left h.made ms ns
 
 pub data Change (table : List (Option ℕ)) (e : Declaration) : State → State → Type 0 where
   makes : (st : State) (c : ℕ) → Sits table e c → Change table e st (make st c e)
-  finds : (st : State) (f : Symbol → Symbol) (c s : ℕ) → ((y : Symbol) → (f y).name ≡ y.name) → contains (path e) c ≡ true → Has st.made c e.name s → Change table e st (note_symbol (record st { symbols = update f st.symbols s }) e s)
-  unbinds : (st : State) (c : ℕ) → contains (path e) c ≡ true → Change table e st (record st { bindings = remove st.bindings c e.name })
-  binds : (st : State) (c s : ℕ) → Sits table e c → Among (record { declaration = e; symbol = s }) st.made → Change table e st (record st { bindings = put st.bindings c e.name s; symbols = update (in_scope c) st.symbols s })
-  remembers : (st : State) (c s : ℕ) → contains (path e) c ≡ true → Among (record { declaration = e; symbol = s }) st.made → Change table e st (record st { remembered = put st.remembered c e.name s })
+  finds : (st : State) (f : Symbol → Symbol) (c s : ℕ) → ((y : Symbol) → (f y).name ≡ y.name) → contains (path e) c ≡ true → Has st.made c e.naming.name s → Change table e st (note_symbol (record st { symbols = update f st.symbols s }) e s)
+  unbinds : (st : State) (c : ℕ) → contains (path e) c ≡ true → Change table e st (record st { bindings = remove st.bindings c e.naming.name })
+  binds : (st : State) (c s : ℕ) → Sits table e c → Among (record { declaration = e; symbol = s }) st.made → Change table e st (record st { bindings = put st.bindings c e.naming.name s; symbols = update (in_scope c) st.symbols s })
+  remembers : (st : State) (c s : ℕ) → contains (path e) c ≡ true → Among (record { declaration = e; symbol = s }) st.made → Change table e st (record st { remembered = put st.remembered c e.naming.name s })
   rescopes : (st : State) (c s : ℕ) → Among (record { declaration = e; symbol = s }) st.made → Change table e st (record st { symbols = update (in_scope c) st.symbols s })
   notes : (st : State) (cs : List Conflict) → Change table e st (record st { conflicts = cs })
 
@@ -79,7 +79,7 @@ pub record HasName (ys : List Symbol) (s : ℕ) (x : Name) : Type 0 where
 pub record Sound (table : List (Option ℕ)) (st : State) : Type 0 where
   pub bound : (e : Binding) → Among e st.bindings → Holds table st.made e.scope e.name e.symbol
   pub remembered : (e : Binding) → Among e st.remembered → Has st.made e.scope e.name e.symbol
-  pub has_name : (m : Made) → Among m st.made → HasName st.symbols m.symbol m.declaration.name
+  pub has_name : (m : Made) → Among m st.made → HasName st.symbols m.symbol m.declaration.naming.name
   pub has_declaration : (s : ℕ) → s < length st.symbols → (m : Made) × Among m st.made × (m.symbol ≡ s)
 
 pub sound_start : (table : List (Option ℕ)) → Sound table start

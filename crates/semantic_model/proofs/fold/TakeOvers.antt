@@ -53,7 +53,7 @@ sound_take table st c b r h = record {
     | inr k ↦ subst (λ n. Holds table st.made n e.name e.symbol) (sym k.0) (holds_closed table st.made c b e.name e.symbol r (h.bound (record e { scope = c }) k.1))
   ];
   remembered = h.remembered;
-  has_name = λ m a. has_name-rescoped st.symbols (bound_by st.bindings c) b m.symbol m.declaration.name (h.has_name m a);
+  has_name = λ m a. has_name-rescoped st.symbols (bound_by st.bindings c) b m.symbol m.declaration.naming.name (h.has_name m a);
   has_declaration = λ s q. h.has_declaration s (subst (λ l. s < l) (rescoped_length st.symbols (bound_by st.bindings c) b) q);
 }
 

@@ -79,7 +79,7 @@ found_below k st c x b = unless (or_else (get st.bindings c x) (get st.remembere
     either None h = get_below k st.remembered c x b.remembered
     either (Some s) h = h
 
-    unless : (o : Option ℕ) → IsBelow k o → IsBelow k (unless_expression st o)
+    unless : (o : Option ℕ) → IsBelow k o → IsBelow k (unless_expression (flags_of st) o)
     unless None h = tt
     unless (Some s) h = by (meets (flags_of st s) symbol.FunctionExpression.bits)
       where
@@ -96,11 +96,11 @@ pub make_grows : (st : State) (c : ℕ) (d : Declaration) → IsSound st → Gro
 make_grows st c d b =
     let n : ℕ = length st.symbols in
     let m : ℕ = length (make st c d).symbols in
-    let grown : suc n ≤ m = omega (arith, append_length st.symbols (new_symbol c d ∷ [])) in
+    let grown : suc n ≤ m = omega (arith, append_length st.symbols (new_symbol c d.naming ∷ [])) in
     record {
       longer = omega (arith, grown);
       sound = record {
-        bindings = put_below m st.bindings c d.name n (omega (arith, grown)) (more_below n m st.bindings (omega (arith, grown)) b.bindings);
+        bindings = put_below m st.bindings c d.naming.name n (omega (arith, grown)) (more_below n m st.bindings (omega (arith, grown)) b.bindings);
         remembered = more_below n m st.remembered (omega (arith, grown)) b.remembered;
       };
     }
@@ -118,9 +118,9 @@ same_grows st new e bs rs = record {
 pub declare_grows : (st : State) (c : ℕ) (d : Declaration) (o : Option ℕ) → IsSound st → Grows st (declare_in st c d o)
 declare_grows st c d None b = make_grows st c d b
 declare_grows st c d (Some s) b =
-    same_grows st (declare_in st c d (Some s)) (update_length (λ y. united d.flags (redeclared d y)) st.symbols s) b.bindings b.remembered
+    same_grows st (declare_in st c d (Some s)) (update_length (λ y. united d.naming.flags (redeclared d.naming y)) st.symbols s) b.bindings b.remembered
 
 -- the symbol that a declaration gets exists then
 pub chosen_below : (st : State) (c : ℕ) (d : Declaration) (o : Option ℕ) → IsBelow (length st.symbols) o → chosen st o < length (declare_in st c d o).symbols
-chosen_below st c d None h = omega (arith, append_length st.symbols (new_symbol c d ∷ []))
-chosen_below st c d (Some s) h = omega (arith, h, update_length (λ y. united d.flags (redeclared d y)) st.symbols s)
+chosen_below st c d None h = omega (arith, append_length st.symbols (new_symbol c d.naming ∷ []))
+chosen_below st c d (Some s) h = omega (arith, h, update_length (λ y. united d.naming.flags (redeclared d.naming y)) st.symbols s)

@@ -41,7 +41,7 @@ made_kept m st (e ∷ es) a = made_kept m (act st e) es (made_stays m st e a)
 record IsMade (st : State) (x : Name) (s : ℕ) : Type 0 where
   made : Made
   among : Among made st.made
-  named : made.declaration.name ≡ x
+  named : made.declaration.naming.name ≡ x
   symbol : made.symbol ≡ s
 
 -- what a state saw before the end of a header was made in the end

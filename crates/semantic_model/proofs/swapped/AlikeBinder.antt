@@ -25,7 +25,7 @@ use Rattle.semantic_model.proofs.swapped.AlikeNames.{Changed, bound_changed, sim
 
 -- a declaration whose name is changed
 abbrev pub renamed_declaration : (Name → Name) → Declaration → Declaration
-renamed_declaration f d = record d { name = f d.name }
+renamed_declaration f d = record d { naming = record d.naming { name = f d.naming.name } }
 
 module _ (f : Name → Name) (keeps : Keeps f) where
   -- declarations with changed names

@@ -78,7 +78,7 @@ module _ (f : Name → Name) (keeps : Keeps f) where
   -- a namesake stays one
   any_bars_same : (d : Declaration) (c : OpenScope) (es : List Declaration) → any_bars (renamed_declaration f d) c (ren f keeps es) ≡ any_bars d c es
   any_bars_same d c [] = refl
-  any_bars_same d c (e ∷ es) = rw (keeps.equal e.name d.name, any_bars_same d c es) refl
+  any_bars_same d c (e ∷ es) = rw (keeps.equal e.naming.name d.naming.name, any_bars_same d c es) refl
 
   barred_same : (ds : List Declaration) (d : Declaration) (cs : List OpenScope) → is_barred (ren f keeps ds) (renamed_declaration f d) cs ≡ is_barred ds d cs
   barred_same ds d [] = refl

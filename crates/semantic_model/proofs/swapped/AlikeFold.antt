@@ -3,14 +3,13 @@ use Rattle.std.proofs.Common.{◌≡◌, ℕ, zero, suc, List, [], ◌∷◌, �
 use Rattle.std.specs.Prelude.{slice_get, option_map}
 use Rattle.std.proofs.lemmas.Option.{slice_get-map}
 use Rattle.std.proofs.lemmas.List.{length-map}
-use Rattle.semantic_syntax.specs.declared.references.Redeclaration.{Redeclaration}
 use Rattle.semantic_syntax.specs.Sets.{meets}
 use Rattle.semantic_syntax.specs.Tables.{Name, Symbol, Bindings}
 use Rattle.semantic_model.specs.Place.{OpenScope}
 use Rattle.semantic_model.specs.Declaration.{Declaration, How, plain, hoisted, moved, caught, stands_in}
 use Rattle.semantic_model.specs.Binding.{Binding, is_of, get, put, remove, move, take_over, bound_by}
 use Rattle.semantic_model.specs.Event.{Event, declares, takes_over, ends_header}
-use Rattle.semantic_model.specs.Fold.{Conflict, Made, State, update, flags_or_none, flags_of, or_else, unless_expression, found, with_entry, redeclared, united, in_scope, new_symbol, note_symbol, make, conflict_with, against, declare_in, chosen}
+use Rattle.semantic_model.specs.Fold.{Conflict, Made, State, update, flags_or_none, flags_of, or_else, unless_expression, found, redeclared, united, in_scope, new_symbol, note_symbol, make, conflict_with, against, declare_in, chosen}
 use Rattle.semantic_model.specs.Hoist.{PassedSymbol, counts, passed_symbol, asked_symbols, against_all, remember, remembering, move_symbol, hoist_by, hoist, move_out, declare_by, rescoped, act, run}
 use Rattle.semantic_model.specs.Swap.{renamed_symbol, renamed_key}
 use Rattle.semantic_model.proofs.swapped.Alike.{map_append}
@@ -113,23 +112,19 @@ module _ (f : Name → Name) (keeps : Keeps f) where
   update_same g h k (y ∷ ys) zero = λ i. k y i ∷ symbols ys
   update_same g h k (y ∷ ys) (suc n) = λ i. renamed_symbol f y ∷ update_same g h k ys n i
 
-  entries_same : (o : Option (List Redeclaration)) (y : Symbol) (d : Declaration) → with_entry o (renamed_symbol f y) (declaration d) ≡ with_entry o y d
-  entries_same None y d = refl
-  entries_same (Some rs) y d = refl
+  redeclared_same : (d : Declaration) (y : Symbol) → redeclared (declaration d).naming (renamed_symbol f y) ≡ renamed_symbol f (redeclared d.naming y)
+  redeclared_same d y = refl
 
-  redeclared_same : (d : Declaration) (y : Symbol) → redeclared (declaration d) (renamed_symbol f y) ≡ renamed_symbol f (redeclared d y)
-  redeclared_same d y = λ i. record (renamed_symbol f y) { redeclarations = Some (entries_same y.redeclarations y d i) }
-
-  united_same : (d : Declaration) (y : Symbol) → united d.flags (redeclared (declaration d) (renamed_symbol f y)) ≡ renamed_symbol f (united d.flags (redeclared d y))
-  united_same d y = ap (united d.flags) (redeclared_same d y)
+  united_same : (d : Declaration) (y : Symbol) → united d.naming.flags (redeclared (declaration d).naming (renamed_symbol f y)) ≡ renamed_symbol f (united d.naming.flags (redeclared d.naming y))
+  united_same d y = refl
 
   -- what is found
-  unless_same : (st : State) (o : Option ℕ) → unless_expression (state st) o ≡ unless_expression st o
+  unless_same : (st : State) (o : Option ℕ) → unless_expression (flags_of (state st)) o ≡ unless_expression (flags_of st) o
   unless_same st None = refl
   unless_same st (Some s) = rw (flags_same st s) refl
 
   found_same : (st : State) (c : ℕ) (x : Name) → found (state st) c (f x) ≡ found st c x
-  found_same st c x = (λ i. unless_expression (state st) (or_else (get_same st.bindings c x i) (get_same st.remembered c x i))) ∙ unless_same st (or_else (get st.bindings c x) (get st.remembered c x))
+  found_same st c x = (λ i. unless_expression (flags_of (state st)) (or_else (get_same st.bindings c x i) (get_same st.remembered c x i))) ∙ unless_same st (or_else (get st.bindings c x) (get st.remembered c x))
 
   counts_same : (st : State) (o : Option ℕ) → counts (state st) o ≡ counts st o
   counts_same st None = refl
@@ -153,23 +148,23 @@ module _ (f : Name → Name) (keeps : Keeps f) where
 
   make_same : (st : State) (c : ℕ) (d : Declaration) → make (state st) c (declaration d) ≡ state (make st c d)
   make_same st c d =
-      ap (λ n. note_symbol (record (state st) { bindings = put (bound st.bindings) c (f d.name) n; symbols = symbols st.symbols ++ renamed_symbol f (new_symbol c d) ∷ [] }) (declaration d) n) (length-map st.symbols (renamed_symbol f))
-      ∙ (λ i. note_symbol (record (state st) { bindings = put_same st.bindings c d.name (length st.symbols) i; symbols = sym (map_append (renamed_symbol f) st.symbols (new_symbol c d ∷ [])) i }) (declaration d) (length st.symbols))
-      ∙ note_symbol_same (record st { bindings = put st.bindings c d.name (length st.symbols); symbols = st.symbols ++ new_symbol c d ∷ [] }) d (length st.symbols)
+      ap (λ n. note_symbol (record (state st) { bindings = put (bound st.bindings) c (f d.naming.name) n; symbols = symbols st.symbols ++ renamed_symbol f (new_symbol c d.naming) ∷ [] }) (declaration d) n) (length-map st.symbols (renamed_symbol f))
+      ∙ (λ i. note_symbol (record (state st) { bindings = put_same st.bindings c d.naming.name (length st.symbols) i; symbols = sym (map_append (renamed_symbol f) st.symbols (new_symbol c d.naming ∷ [])) i }) (declaration d) (length st.symbols))
+      ∙ note_symbol_same (record st { bindings = put st.bindings c d.naming.name (length st.symbols); symbols = st.symbols ++ new_symbol c d.naming ∷ [] }) d (length st.symbols)
 
-  conflicts_same : (d : Declaration) (o : Option Symbol) → conflict_with (declaration d) (option_map (renamed_symbol f) o) ≡ map (renamed_conflict f) (conflict_with d o)
+  conflicts_same : (d : Declaration) (o : Option Symbol) → conflict_with (declaration d).naming (option_map (renamed_symbol f) o) ≡ map (renamed_conflict f) (conflict_with d.naming o)
   conflicts_same d None = refl
-  conflicts_same d (Some y) = go (meets y.flags.bits d.excluded)
+  conflicts_same d (Some y) = go (meets y.flags.bits d.naming.excluded)
     where
-      go : (b : Bool) → cond b (record { name = f d.name; earlier = y.span; later = d.span } ∷ []) [] ≡ map (renamed_conflict f) (cond b (record { name = d.name; earlier = y.span; later = d.span } ∷ []) [])
+      go : (b : Bool) → cond b (record { name = f d.naming.name; earlier = y.span; later = d.naming.span } ∷ []) [] ≡ map (renamed_conflict f) (cond b (record { name = d.naming.name; earlier = y.span; later = d.naming.span } ∷ []) [])
       go true = refl
       go false = refl
 
   against_same : (st : State) (d : Declaration) (s : ℕ) → against (state st) (declaration d) s ≡ state (against st d s)
   against_same st d s = ap (λ cs. record (state st) { conflicts = cs })
-      (ap (λ o. map (renamed_conflict f) st.conflicts ++ conflict_with (declaration d) o) (slice_get-map (renamed_symbol f) st.symbols s)
+      (ap (λ o. map (renamed_conflict f) st.conflicts ++ conflict_with (declaration d).naming o) (slice_get-map (renamed_symbol f) st.symbols s)
       ∙ ap (λ cs. map (renamed_conflict f) st.conflicts ++ cs) (conflicts_same d (slice_get st.symbols s))
-      ∙ sym (map_append (renamed_conflict f) st.conflicts (conflict_with d (slice_get st.symbols s))))
+      ∙ sym (map_append (renamed_conflict f) st.conflicts (conflict_with d.naming (slice_get st.symbols s))))
 
   against_all_same : (st : State) (d : Declaration) (ss : List ℕ) → against_all (state st) (declaration d) ss ≡ state (against_all st d ss)
   against_all_same st d [] = refl
@@ -184,8 +179,8 @@ module _ (f : Name → Name) (keeps : Keeps f) where
   declare_in_same : (st : State) (c : ℕ) (d : Declaration) (o : Option ℕ) → declare_in (state st) c (declaration d) o ≡ state (declare_in st c d o)
   declare_in_same st c d None = make_same st c d
   declare_in_same st c d (Some s) =
-      ap (λ w. note_symbol (record w { symbols = update (λ y. united d.flags (redeclared (declaration d) y)) w.symbols s }) (declaration d) s) (against_same st d s)
-      ∙ finds_same (λ y. united d.flags (redeclared d y)) (λ y. united d.flags (redeclared (declaration d) y)) (united_same d) (against st d s) d s
+      ap (λ w. note_symbol (record w { symbols = update (λ y. united d.naming.flags (redeclared (declaration d).naming y)) w.symbols s }) (declaration d) s) (against_same st d s)
+      ∙ finds_same (λ y. united d.naming.flags (redeclared d.naming y)) (λ y. united d.naming.flags (redeclared (declaration d).naming y)) (united_same d) (against st d s) d s
 
   remember_same : (bs : List Binding) (cs : List OpenScope) (x : Name) (s : ℕ) → remember (bound bs) cs (f x) s ≡ bound (remember bs cs x s)
   remember_same bs [] x s = refl
@@ -205,24 +200,24 @@ module _ (f : Name → Name) (keeps : Keeps f) where
   hoist_by_same : (st : State) (d : Declaration) (o : Option PassedSymbol) → hoist_by (state st) (declaration d) o ≡ state (hoist_by st d o)
   hoist_by_same st d None =
       let t : ℕ = d.target.number in
-      let o : Option ℕ = found st t d.name in
-      ap (λ w. remembering (declare_in (state st) t (declaration d) w) d.passed (f d.name) (chosen (state st) w)) (found_same st t d.name)
-      ∙ (λ i. remembering (declare_in_same st t d o i) d.passed (f d.name) (chosen_same st o i))
-      ∙ remembering_same (declare_in st t d o) d.passed d.name (chosen st o)
+      let o : Option ℕ = found st t d.naming.name in
+      ap (λ w. remembering (declare_in (state st) t (declaration d) w) d.passed (f d.naming.name) (chosen (state st) w)) (found_same st t d.naming.name)
+      ∙ (λ i. remembering (declare_in_same st t d o i) d.passed (f d.naming.name) (chosen_same st o i))
+      ∙ remembering_same (declare_in st t d o) d.passed d.naming.name (chosen st o)
   hoist_by_same st d (Some h) =
       let t : ℕ = d.target.number in
-      let got : State = note_symbol (record st { symbols = update (redeclared d) st.symbols h.symbol }) d h.symbol in
-      let o : Option ℕ = get st.bindings t d.name in
-      ap (λ w. remembering (move_symbol w h.scope t (f d.name) h.symbol (get w.bindings t (f d.name))) d.passed (f d.name) h.symbol) (finds_same (redeclared d) (redeclared (declaration d)) (redeclared_same d) st d h.symbol)
-      ∙ ap (λ w. remembering (move_symbol (state got) h.scope t (f d.name) h.symbol w) d.passed (f d.name) h.symbol) (get_same st.bindings t d.name)
-      ∙ ap (λ w. remembering w d.passed (f d.name) h.symbol) (move_symbol_same got h.scope t d.name h.symbol o)
-      ∙ remembering_same (move_symbol got h.scope t d.name h.symbol o) d.passed d.name h.symbol
+      let got : State = note_symbol (record st { symbols = update (redeclared d.naming) st.symbols h.symbol }) d h.symbol in
+      let o : Option ℕ = get st.bindings t d.naming.name in
+      ap (λ w. remembering (move_symbol w h.scope t (f d.naming.name) h.symbol (get w.bindings t (f d.naming.name))) d.passed (f d.naming.name) h.symbol) (finds_same (redeclared d.naming) (redeclared (declaration d).naming) (redeclared_same d) st d h.symbol)
+      ∙ ap (λ w. remembering (move_symbol (state got) h.scope t (f d.naming.name) h.symbol w) d.passed (f d.naming.name) h.symbol) (get_same st.bindings t d.naming.name)
+      ∙ ap (λ w. remembering w d.passed (f d.naming.name) h.symbol) (move_symbol_same got h.scope t d.naming.name h.symbol o)
+      ∙ remembering_same (move_symbol got h.scope t d.naming.name h.symbol o) d.passed d.naming.name h.symbol
 
   hoist_same : (st : State) (d : Declaration) → hoist (state st) (declaration d) ≡ state (hoist st d)
   hoist_same st d =
-      (λ i. hoist_by (against_all (state st) (declaration d) (asked_same st d.passed d.name i)) (declaration d) (passed_symbol_same st d.passed d.name i))
-      ∙ ap (λ w. hoist_by w (declaration d) (passed_symbol st d.passed d.name)) (against_all_same st d (asked_symbols st d.passed d.name))
-      ∙ hoist_by_same (against_all st d (asked_symbols st d.passed d.name)) d (passed_symbol st d.passed d.name)
+      (λ i. hoist_by (against_all (state st) (declaration d) (asked_same st d.passed d.naming.name i)) (declaration d) (passed_symbol_same st d.passed d.naming.name i))
+      ∙ ap (λ w. hoist_by w (declaration d) (passed_symbol st d.passed d.naming.name)) (against_all_same st d (asked_symbols st d.passed d.naming.name))
+      ∙ hoist_by_same (against_all st d (asked_symbols st d.passed d.naming.name)) d (passed_symbol st d.passed d.naming.name)
 
   move_out_same : (st : State) (c t : ℕ) (x : Name) (s : ℕ) (o : Option ℕ) → move_out (state st) c t (f x) s o ≡ state (move_out st c t x s o)
   move_out_same st c t x s (Some r) = refl
@@ -234,17 +229,17 @@ module _ (f : Name → Name) (keeps : Keeps f) where
 
   declare_by_same : (how : How) (st : State) (d : Declaration) → declare_by how (state st) (declaration d) ≡ state (declare_by how st d)
   declare_by_same plain st d =
-      ap (declare_in (state st) d.target.number (declaration d)) (found_same st d.target.number d.name)
-      ∙ declare_in_same st d.target.number d (found st d.target.number d.name)
+      ap (declare_in (state st) d.target.number (declaration d)) (found_same st d.target.number d.naming.name)
+      ∙ declare_in_same st d.target.number d (found st d.target.number d.naming.name)
   declare_by_same hoisted st d = hoist_same st d
   declare_by_same moved st d =
       let c : ℕ = stands_in d in
       let t : ℕ = d.target.number in
-      let o : Option ℕ = found st c d.name in
-      let w : Option ℕ = get st.bindings t d.name in
-      (λ i. move_out (declare_in (state st) c (declaration d) (found_same st c d.name i)) c t (f d.name) (chosen (state st) (found_same st c d.name i)) (get_same st.bindings t d.name i))
-      ∙ (λ i. move_out (declare_in_same st c d o i) c t (f d.name) (chosen_same st o i) w)
-      ∙ move_out_same (declare_in st c d o) c t d.name (chosen st o) w
+      let o : Option ℕ = found st c d.naming.name in
+      let w : Option ℕ = get st.bindings t d.naming.name in
+      (λ i. move_out (declare_in (state st) c (declaration d) (found_same st c d.naming.name i)) c t (f d.naming.name) (chosen (state st) (found_same st c d.naming.name i)) (get_same st.bindings t d.naming.name i))
+      ∙ (λ i. move_out (declare_in_same st c d o i) c t (f d.naming.name) (chosen_same st o i) w)
+      ∙ move_out_same (declare_in st c d o) c t d.naming.name (chosen st o) w
   declare_by_same caught st d = make_same st d.target.number d
 
   -- a take-over

@@ -153,7 +153,7 @@ module _ (f : Name → Name) (keeps : Keeps f) where
 
   pure_same : (ms : List Made) (s : ℕ) → any_pure (map (renamed_made f) ms) s ≡ any_pure ms s
   pure_same [] s = refl
-  pure_same (m ∷ ms) s = ap (λ b. (m.declaration.is_pure && m.symbol == s) || b) (pure_same ms s)
+  pure_same (m ∷ ms) s = ap (λ b. (m.declaration.naming.is_pure && m.symbol == s) || b) (pure_same ms s)
 
   all_pure_same : (ms : List Made) (ns : List ℕ) → filter (any_pure (map (renamed_made f) ms)) ns ≡ filter (any_pure ms) ns
   all_pure_same ms [] = refl

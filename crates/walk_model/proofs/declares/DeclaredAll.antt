@@ -42,7 +42,7 @@ scopes_seen calls seen (header_ending p s ∷ ss) = scopes_seen calls seen ss
 scopes_seen calls seen (closing p s ∷ ss) = scopes_seen calls seen ss
 scopes_seen calls seen (leaving p ∷ ss) = scopes_seen calls seen ss
 
-noted_from : (es : List (ℕ × ℕ)) (ms : List Made) → fold with_noted es ms ≡ fold with_entry es (map (λ m. record { node = m.declaration.identifier; number = m.symbol }) ms)
+noted_from : (es : List (ℕ × ℕ)) (ms : List Made) → fold with_noted es ms ≡ fold with_entry es (map (λ m. record { node = m.declaration.naming.identifier; number = m.symbol }) ms)
 noted_from es [] = refl
 noted_from es (m ∷ ms) = noted_from (with_noted es m) ms
 
@@ -58,7 +58,7 @@ has_declared p h =
     record {
       bindings = listed w.tables.bindings st.bindings 0 (λ c. subst (λ m. slice_index_or w.tables.bindings c [] ≡ bound_by st.bindings m) (omega arith) (r.shows.bindings c)) ∙ ap (λ k. map (bound_by st.bindings) (range_with_len 0 k)) count;
       symbols = r.shows.symbols;
-      pure_symbols = r.notes.pure_is ∙ pures_ascend (length st.symbols) st.made (λ m a. let t : HasName st.symbols m.symbol m.declaration.name = sound.has_name m a in get_within st.symbols m.symbol t.symbol t.is_there);
+      pure_symbols = r.notes.pure_is ∙ pures_ascend (length st.symbols) st.made (λ m a. let t : HasName st.symbols m.symbol m.declaration.naming.name = sound.has_name m a in get_within st.symbols m.symbol t.symbol t.is_there);
       conflicts = r.shows.conflicts;
       nodes = r.notes.nodes_are ∙ noted_from [] st.made;
     }

@@ -79,8 +79,8 @@ or_none : (a : Bool) → a ≡ (a || false)
 or_none true = refl
 or_none false = refl
 
-pure_step : (f : ℕ → Bool) (n : ℕ) (m : Made) → m.symbol < n → with_pure (filter f (range_with_len 0 n)) m ≡ filter (λ s. f s || (m.declaration.is_pure && m.symbol == s)) (range_with_len 0 n)
-pure_step f n m l = go m.declaration.is_pure
+pure_step : (f : ℕ → Bool) (n : ℕ) (m : Made) → m.symbol < n → with_pure (filter f (range_with_len 0 n)) m ≡ filter (λ s. f s || (m.declaration.naming.is_pure && m.symbol == s)) (range_with_len 0 n)
+pure_step f n m l = go m.declaration.naming.is_pure
   where
     go : (b : Bool) → cond b (insert_key nat_cmp (filter f (range_with_len 0 n)) m.symbol) (filter f (range_with_len 0 n)) ≡ filter (λ s. f s || (b && m.symbol == s)) (range_with_len 0 n)
     go true = insert_within f m.symbol 0 n (omega arith) (omega arith)
@@ -90,8 +90,8 @@ pures_from : (f : ℕ → Bool) (n : ℕ) (ms : List Made) → ((m : Made) → A
 pures_from f n [] h = filter_same f (λ s. f s || false) (range_with_len 0 n) (λ s. or_none (f s))
 pures_from f n (m ∷ ms) h =
     ap (λ ys. fold with_pure ys ms) (pure_step f n m (h m (inl refl)))
-    ∙ pures_from (λ s. f s || (m.declaration.is_pure && m.symbol == s)) n ms (λ k a. h k (inr a))
-    ∙ filter_same (λ s. (f s || (m.declaration.is_pure && m.symbol == s)) || any_pure ms s) (λ s. f s || any_pure (m ∷ ms) s) (range_with_len 0 n) (λ s. or_assoc (f s) (m.declaration.is_pure && m.symbol == s) (any_pure ms s))
+    ∙ pures_from (λ s. f s || (m.declaration.naming.is_pure && m.symbol == s)) n ms (λ k a. h k (inr a))
+    ∙ filter_same (λ s. (f s || (m.declaration.naming.is_pure && m.symbol == s)) || any_pure ms s) (λ s. f s || any_pure (m ∷ ms) s) (range_with_len 0 n) (λ s. or_assoc (f s) (m.declaration.naming.is_pure && m.symbol == s) (any_pure ms s))
 
 filter_none : (a n : ℕ) → filter (λ s. false) (range_with_len a n) ≡ []
 filter_none a zero = refl

@@ -1,7 +1,7 @@
 -- Scopes of two sides: events that act on one side alone leave what the other binds, and the flags of its symbols.
 use Rattle.std.proofs.Common.{◌≡◌, ℕ, List, [], ◌∷◌, Option, Some, None, Bool, true, false, cond, ◌⊎◌, inl, inr, refl, sym, ap, subst, ◌∙◌, length}
 use Rattle.semantic_syntax.specs.Tables.{Name}
-use Rattle.semantic_model.proofs.fold.Actions.{unless_some}
+use Rattle.semantic_model.proofs.fold.Actions.{unless_some, or_else_some}
 use Rattle.semantic_model.specs.Place.{OpenScope}
 use Rattle.semantic_model.specs.Entries.{Among}
 use Rattle.semantic_model.specs.Binding.{Binding, get, put, remove, move, take_over}
@@ -38,10 +38,6 @@ module _ (inside : ℕ → Bool) (side : ℕ → Bool) where
     | inr k ↦ ap inside k.0 ∙ sym s ∙ h (record e { scope = c }) k.1
   ]
 
-  or_else_some : (o p : Option ℕ) (y : ℕ) → or_else o p ≡ Some y → (o ≡ Some y) ⊎ (p ≡ Some y)
-  or_else_some (Some r) p y h = inl h
-  or_else_some None p y h = inr h
-
   -- what is found in a scope is of its side
   pub found_side : (st : State) (c : ℕ) (x : Name) (y : ℕ) → IsSided st → found st c x ≡ Some y → inside c ≡ side y
   found_side st c x y h e = elim (or_else_some (get st.bindings c x) (get st.remembered c x) y (unless_some st (or_else (get st.bindings c x) (get st.remembered c x)) y e)) [
@@ -65,12 +61,12 @@ module _ (inside : ℕ → Bool) (side : ℕ → Bool) where
   IsOn b (ends_header c) = Unit {0}
 
   module _ (b : Bool) where
-    pub chosen_side : (st : State) (c : ℕ) (d : Declaration) (o : Option ℕ) → inside c ≡ b → side (length st.symbols) ≡ b → IsSided st → found st c d.name ≡ o → side (chosen st o) ≡ b
+    pub chosen_side : (st : State) (c : ℕ) (d : Declaration) (o : Option ℕ) → inside c ≡ b → side (length st.symbols) ≡ b → IsSided st → found st c d.naming.name ≡ o → side (chosen st o) ≡ b
     chosen_side st c d None i n h e = n
-    chosen_side st c d (Some y) i n h e = sym (found_side st c d.name y h e) ∙ i
+    chosen_side st c d (Some y) i n h e = sym (found_side st c d.naming.name y h e) ∙ i
 
     pub declared_sided : (st : State) (c : ℕ) (d : Declaration) (o : Option ℕ) → inside c ≡ b → side (length st.symbols) ≡ b → IsSided st → IsSided (declare_in st c d o)
-    declared_sided st c d None i n h = record { bindings = of_put st.bindings c d.name (length st.symbols) (i ∙ sym n) h.bindings; remembered = h.remembered }
+    declared_sided st c d None i n h = record { bindings = of_put st.bindings c d.naming.name (length st.symbols) (i ∙ sym n) h.bindings; remembered = h.remembered }
     declared_sided st c d (Some y) i n h = record { bindings = h.bindings; remembered = h.remembered }
 
     remembered_of : (bs : List Binding) (cs : List OpenScope) (x : Name) (y : ℕ) → AllOn b cs → side y ≡ b → AreOf bs → AreOf (remember bs cs x y)
@@ -111,14 +107,14 @@ module _ (inside : ℕ → Bool) (side : ℕ → Bool) where
 
     hoisted_sided : (st : State) (d : Declaration) (o : Option PassedSymbol) → inside d.target.number ≡ b → AllOn b d.passed → side (length st.symbols) ≡ b → IsSided st → ((r : PassedSymbol) → o ≡ Some r → side r.symbol ≡ b) → IsSided (hoist_by st d o)
     hoisted_sided st d None i a n h q =
-        let f : Option ℕ = found st d.target.number d.name in
+        let f : Option ℕ = found st d.target.number d.naming.name in
         let done : IsSided (declare_in st d.target.number d f) = declared_sided st d.target.number d f i n h in
-        record { bindings = done.bindings; remembered = remembered_of (declare_in st d.target.number d f).remembered d.passed d.name (chosen st f) a (chosen_side st d.target.number d f i n h refl) done.remembered }
+        record { bindings = done.bindings; remembered = remembered_of (declare_in st d.target.number d f).remembered d.passed d.naming.name (chosen st f) a (chosen_side st d.target.number d f i n h refl) done.remembered }
     hoisted_sided st d (Some r) i a n h q =
-        let got : State = note_symbol (record st { symbols = update (redeclared d) st.symbols r.symbol }) d r.symbol in
-        let o : Option ℕ = get got.bindings d.target.number d.name in
-        let done : IsSided (move_symbol got r.scope d.target.number d.name r.symbol o) = moved_sided got r.scope d.target.number d.name r.symbol o i (q r refl) (record { bindings = h.bindings; remembered = h.remembered }) in
-        record { bindings = done.bindings; remembered = remembered_of (move_symbol got r.scope d.target.number d.name r.symbol o).remembered d.passed d.name r.symbol a (q r refl) done.remembered }
+        let got : State = note_symbol (record st { symbols = update (redeclared d.naming) st.symbols r.symbol }) d r.symbol in
+        let o : Option ℕ = get got.bindings d.target.number d.naming.name in
+        let done : IsSided (move_symbol got r.scope d.target.number d.naming.name r.symbol o) = moved_sided got r.scope d.target.number d.naming.name r.symbol o i (q r refl) (record { bindings = h.bindings; remembered = h.remembered }) in
+        record { bindings = done.bindings; remembered = remembered_of (move_symbol got r.scope d.target.number d.naming.name r.symbol o).remembered d.passed d.naming.name r.symbol a (q r refl) done.remembered }
 
     of_move : (bs : List Binding) (c t : ℕ) (x : Name) → inside c ≡ b → inside t ≡ b → AreOf bs → AreOf (move bs c t x)
     of_move bs c t x i j h = by (get bs c x) refl
@@ -132,16 +128,16 @@ module _ (inside : ℕ → Bool) (side : ℕ → Bool) where
     out_sided st c t x y None i j s h = record { bindings = of_move st.bindings c t x i j h.bindings; remembered = of_put st.remembered c x y (i ∙ sym s) h.remembered }
 
     by_sided : (how : How) (st : State) (d : Declaration) → inside d.target.number ≡ b → ArePassedOn b how d → side (length st.symbols) ≡ b → IsSided st → IsSided (declare_by how st d)
-    by_sided plain st d i a n h = declared_sided st d.target.number d (found st d.target.number d.name) i n h
+    by_sided plain st d i a n h = declared_sided st d.target.number d (found st d.target.number d.naming.name) i n h
     by_sided caught st d i a n h = declared_sided st d.target.number d None i n h
     by_sided hoisted st d i a n h =
-        let noted : State = against_all st d (asked_symbols st d.passed d.name) in
-        hoisted_sided noted d (passed_symbol st d.passed d.name) i a (ap (λ ys. side (length ys)) (against_symbols st d (asked_symbols st d.passed d.name)) ∙ n) (against_sided st d (asked_symbols st d.passed d.name) h)
-        (λ r e. (passed_symbol_side st d.passed d.name r a h e).1)
+        let noted : State = against_all st d (asked_symbols st d.passed d.naming.name) in
+        hoisted_sided noted d (passed_symbol st d.passed d.naming.name) i a (ap (λ ys. side (length ys)) (against_symbols st d (asked_symbols st d.passed d.naming.name)) ∙ n) (against_sided st d (asked_symbols st d.passed d.naming.name) h)
+        (λ r e. (passed_symbol_side st d.passed d.naming.name r a h e).1)
     by_sided moved st d i a n h =
         let c : ℕ = stands_in d in
-        let o : Option ℕ = found st c d.name in
-        out_sided (declare_in st c d o) c d.target.number d.name (chosen st o) (get st.bindings d.target.number d.name) a i (chosen_side st c d o a n h refl) (declared_sided st c d o a n h)
+        let o : Option ℕ = found st c d.naming.name in
+        out_sided (declare_in st c d o) c d.target.number d.naming.name (chosen st o) (get st.bindings d.target.number d.naming.name) a i (chosen_side st c d o a n h refl) (declared_sided st c d o a n h)
 
     -- an event on one side keeps what is bound on its side
     pub act_sided : (st : State) (e : Event) → IsOn b e → side (length st.symbols) ≡ b → IsSided st → IsSided (act st e)

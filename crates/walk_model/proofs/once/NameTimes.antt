@@ -33,7 +33,7 @@ module _ (x : ℕ) where
 
   abbrev pub declared_times : List Declaration → ℕ
   declared_times [] = 0
-  declared_times (d ∷ ds) = cond (d.identifier == x) 1 0 + declared_times ds
+  declared_times (d ∷ ds) = cond (d.naming.identifier == x) 1 0 + declared_times ds
 
   -- among the names under the roles
   abbrev pub reached : List Role → Forest → ℕ

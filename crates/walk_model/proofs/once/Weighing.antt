@@ -14,13 +14,13 @@ use Rattle.walk_model.proofs.once.NameTimes.{declared_times}
 use Rattle.walk_model.proofs.once.DeclaredBelow.{step_times}
 
 -- where a declaration goes to doesn't change its identifier
-placed_same : (how : How) (ds : List Declaration) (d : Declaration) → (placed_by how ds d).identifier ≡ d.identifier
+placed_same : (how : How) (ds : List Declaration) (d : Declaration) → (placed_by how ds d).naming.identifier ≡ d.naming.identifier
 placed_same plain ds d = refl
 placed_same hoisted ds d = refl
 placed_same caught ds d = refl
 placed_same moved ds d = by (is_barred ds d (outside d.passed))
   where
-    by : (b : Bool) → (if b then staying d else d).identifier ≡ d.identifier
+    by : (b : Bool) → (if b then staying d else d).naming.identifier ≡ d.naming.identifier
     by true = refl
     by false = refl
 
@@ -28,7 +28,7 @@ placed_same moved ds d = by (is_barred ds d (outside d.passed))
 module _ (weight : ℕ → ℕ) where
   abbrev pub declared_weight : List Declaration → ℕ
   declared_weight [] = 0
-  declared_weight (d ∷ ds) = weight d.identifier + declared_weight ds
+  declared_weight (d ∷ ds) = weight d.naming.identifier + declared_weight ds
 
   abbrev pub step_weight : List Step → ℕ
   step_weight [] = 0
@@ -36,11 +36,11 @@ module _ (weight : ℕ → ℕ) where
 
   abbrev pub made_weight : List Made → ℕ
   made_weight [] = 0
-  made_weight (m ∷ ms) = weight m.declaration.identifier + made_weight ms
+  made_weight (m ∷ ms) = weight m.declaration.naming.identifier + made_weight ms
 
   abbrev event_weight : List Event → ℕ
   event_weight [] = 0
-  event_weight (declares d ∷ es) = weight d.identifier + event_weight es
+  event_weight (declares d ∷ es) = weight d.naming.identifier + event_weight es
   event_weight (takes_over c b ∷ es) = event_weight es
   event_weight (ends_header c ∷ es) = event_weight es
 
@@ -101,7 +101,7 @@ module _ (weight : ℕ → ℕ) where
 
 -- the identifiers of the declarations that were made
 abbrev pub identifiers : List Made → List ℕ
-identifiers ms = map (λ m. m.declaration.identifier) ms
+identifiers ms = map (λ m. m.declaration.naming.identifier) ms
 
 module _ (x : ℕ) where
   abbrev value_symbol : ℕ → ℕ

@@ -8,9 +8,9 @@ use Rattle.std.proofs.lemmas.Bool.Decides.{eqb_tells}
 use Rattle.std.proofs.lemmas.List.{get_or-set_same, get_or-set_other}
 use Rattle.indexmap.specs.IndexMap.{insert_entry, shift_remove_entry}
 use Rattle.semantic_syntax.specs.Tables.{Name, Bindings}
-use Rattle.semantic_syntax.specs.Reading.{bindings_of, bound_in}
+use Rattle.semantic_syntax.specs.Reading.{bindings_of, bound_in, symbol_flags}
 use Rattle.semantic_model.specs.Binding.{Binding, get, put, remove, bound_by}
-use Rattle.semantic_model.specs.Fold.{State, Made, found, or_else, unless_expression}
+use Rattle.semantic_model.specs.Fold.{State, Made, flags_of, found, or_else, unless_expression}
 use Rattle.semantic_model.proofs.fits.Outwards.{lookup-bound_by, flags_at}
 use Rattle.walk_model.specs.WalkState.{WalkState}
 use Rattle.walk_model.specs.Declares as writes
@@ -27,14 +27,14 @@ pub record Shows (n : ℕ) (w : WalkState) (st : State) : Type 0 where
   pub uses : length w.tables.uses ≡ length st.symbols
 
 abbrev pub with_pure : List ℕ → Made → List ℕ
-with_pure ys m = cond m.declaration.is_pure (insert_key nat_cmp ys m.symbol) ys
+with_pure ys m = cond m.declaration.naming.is_pure (insert_key nat_cmp ys m.symbol) ys
 
 -- the symbols without side effects, as they are noted one by one
 abbrev pub pures : List Made → List ℕ
 pures ms = fold with_pure [] ms
 
 abbrev pub with_noted : List (ℕ × ℕ) → Made → List (ℕ × ℕ)
-with_noted es m = insert_entry nat_eq es m.declaration.identifier m.symbol
+with_noted es m = insert_entry nat_eq es m.declaration.naming.identifier m.symbol
 
 -- the symbols of the nodes, as they are noted one by one
 abbrev pub noted_symbols : List Made → List (ℕ × ℕ)
@@ -52,14 +52,14 @@ pub record Represents (n : ℕ) (w : WalkState) (st : State) : Type 0 where
 pub bound_as : (n : ℕ) (w : WalkState) (st : State) (c : ℕ) (x : Name) → Shows n w st → bound_in w.tables c x ≡ get st.bindings c x
 bound_as n w st c x h = ap (lookup (bytes_eq x)) (h.bindings c) ∙ lookup-bound_by st.bindings c x
 
-unless_as : (n : ℕ) (w : WalkState) (st : State) (o : Option ℕ) → Shows n w st → writes.unless_expression w.tables o ≡ unless_expression st o
+unless_as : (n : ℕ) (w : WalkState) (st : State) (o : Option ℕ) → Shows n w st → unless_expression (symbol_flags w.tables) o ≡ unless_expression (flags_of st) o
 unless_as n w st None h = refl
 unless_as n w st (Some y) h = rw (h.symbols, flags_at st.symbols y) refl
 
 pub found_as : (n : ℕ) (w : WalkState) (st : State) (c : ℕ) (x : Name) → Shows n w st → writes.found w c x ≡ found st c x
 found_as n w st c x h =
-    ap (λ o. writes.unless_expression w.tables (or_else o (get w.remembered c x))) (bound_as n w st c x h)
-    ∙ ap (λ bs. writes.unless_expression w.tables (or_else (get st.bindings c x) (get bs c x))) h.remembered
+    ap (λ o. unless_expression (symbol_flags w.tables) (or_else o (get w.remembered c x))) (bound_as n w st c x h)
+    ∙ ap (λ bs. unless_expression (symbol_flags w.tables) (or_else (get st.bindings c x) (get bs c x))) h.remembered
     ∙ unless_as n w st (or_else (get st.bindings c x) (get st.remembered c x)) h
 
 -- lists of what scopes bind, and all bindings

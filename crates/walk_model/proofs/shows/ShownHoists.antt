@@ -12,7 +12,6 @@ use Rattle.semantic_model.specs.Hoist.{PassedSymbol, passed_symbol, passed_symbo
 use Rattle.semantic_model.proofs.fits.Outwards.{flags_at}
 use Rattle.semantic_model.proofs.lists.BindingLaws.{same_key_tells, get-put_other}
 use Rattle.walk_model.specs.WalkState.{WalkState}
-use Rattle.walk_model.specs.Naming.{naming_of}
 use Rattle.walk_model.specs.Declares as writes
 use Rattle.walk_model.specs.Hoists as reaches
 use Rattle.walk_model.specs.Walks.{numbers}
@@ -44,23 +43,23 @@ asked_against st d y [] x = refl
 asked_against st d y (c ∷ cs) x = rw (asked_against st d y cs x) refl
 
 pub against_way_as : (n : ℕ) (w : WalkState) (st : State) (d : Declaration) (cs : List OpenScope) → Represents n w st
-    → Represents n (reaches.against_way w (naming_of d) (numbers cs)) (against_all st d (asked_symbols st cs d.name))
+    → Represents n (reaches.against_way w d.naming (numbers cs)) (against_all st d (asked_symbols st cs d.naming.name))
 against_way_as n w st d [] h = h
-against_way_as n w st d (c ∷ cs) h = rw (found_as n w st c.number d.name h.shows) (by (λ v s r. against_way_as n v s d cs r) (found st c.number d.name) refl)
+against_way_as n w st d (c ∷ cs) h = rw (found_as n w st c.number d.naming.name h.shows) (by (λ v s r. against_way_as n v s d cs r) (found st c.number d.naming.name) refl)
   where
     Rest : Type 0
-    Rest = (v : WalkState) (s : State) → Represents n v s → Represents n (reaches.against_way v (naming_of d) (numbers cs)) (against_all s d (asked_symbols s cs d.name))
+    Rest = (v : WalkState) (s : State) → Represents n v s → Represents n (reaches.against_way v d.naming (numbers cs)) (against_all s d (asked_symbols s cs d.naming.name))
 
-    counted : Rest → (y : ℕ) (b : Bool) → Represents n (reaches.unless_passed_symbol (cond b (Some y) None) (writes.against w (naming_of d) y) (reaches.against_way (writes.against w (naming_of d) y) (naming_of d) (numbers cs)))
-        (against_all st d (y ∷ cond b [] (asked_symbols st cs d.name)))
+    counted : Rest → (y : ℕ) (b : Bool) → Represents n (reaches.unless_passed_symbol (cond b (Some y) None) (writes.against w d.naming y) (reaches.against_way (writes.against w d.naming y) d.naming (numbers cs)))
+        (against_all st d (y ∷ cond b [] (asked_symbols st cs d.naming.name)))
     counted rest y true = represents_against n w st y d h
     counted rest y false =
-        subst (λ ys. Represents n (reaches.against_way (writes.against w (naming_of d) y) (naming_of d) (numbers cs)) (against_all (against st d y) d ys))
-        (asked_against st d y cs d.name) (rest (writes.against w (naming_of d) y) (against st d y) (represents_against n w st y d h))
+        subst (λ ys. Represents n (reaches.against_way (writes.against w d.naming y) d.naming (numbers cs)) (against_all (against st d y) d ys))
+        (asked_against st d y cs d.naming.name) (rest (writes.against w d.naming y) (against st d y) (represents_against n w st y d h))
 
-    by : Rest → (o : Option ℕ) → found st c.number d.name ≡ o
-        → Represents n (reaches.unless_passed_symbol (reaches.value_symbol w.tables o) (reaches.against_found w (naming_of d) o) (reaches.against_way (reaches.against_found w (naming_of d) o) (naming_of d) (numbers cs)))
-        (against_all st d (asked_symbols st (c ∷ cs) d.name))
+    by : Rest → (o : Option ℕ) → found st c.number d.naming.name ≡ o
+        → Represents n (reaches.unless_passed_symbol (reaches.value_symbol w.tables o) (reaches.against_found w d.naming o) (reaches.against_way (reaches.against_found w d.naming o) d.naming (numbers cs)))
+        (against_all st d (asked_symbols st (c ∷ cs) d.naming.name))
     by rest None e = rw e (rest w st h)
     by rest (Some y) e = rw (e, flags_as n w st y h.shows) (counted rest y (counts st (Some y)))
 
@@ -80,41 +79,41 @@ move_symbol_as n w st from to y x l k apart h = rw (bound_as n w st to x h.shows
 
 -- a state of the walk in which a declaration got a symbol, by whether it is pure
 abbrev got : Bool → WalkState → ℕ → Declaration → WalkState
-got b w y d = record w { nodes = (writes.note_symbol w y (naming_of d)).nodes; tables = cond b (writes.pure_with w.tables y) w.tables }
+got b w y d = record w { nodes = (writes.note_symbol w y d.naming).nodes; tables = cond b (writes.pure_with w.tables y) w.tables }
 
 -- it is the same whether the declaration gets its symbol before or after the move
-move_then_note_symbol : (w : WalkState) (from to y : ℕ) (d : Declaration) → writes.note_symbol (reaches.move_symbol w from to y d.name) y (naming_of d) ≡ reaches.move_symbol (writes.note_symbol w y (naming_of d)) from to y d.name
-move_then_note_symbol w from to y d = by d.is_pure (bound_in w.tables to d.name) refl
+move_then_note_symbol : (w : WalkState) (from to y : ℕ) (d : Declaration) → writes.note_symbol (reaches.move_symbol w from to y d.naming.name) y d.naming ≡ reaches.move_symbol (writes.note_symbol w y d.naming) from to y d.naming.name
+move_then_note_symbol w from to y d = by d.naming.is_pure (bound_in w.tables to d.naming.name) refl
   where
-    by : (b : Bool) (o : Option ℕ) → bound_in w.tables to d.name ≡ o → got b (reaches.move_symbol w from to y d.name) y d ≡ reaches.move_symbol (got b w y d) from to y d.name
+    by : (b : Bool) (o : Option ℕ) → bound_in w.tables to d.naming.name ≡ o → got b (reaches.move_symbol w from to y d.naming.name) y d ≡ reaches.move_symbol (got b w y d) from to y d.naming.name
     by true None e = rw e refl
     by true (Some z) e = rw e refl
     by false None e = rw e refl
     by false (Some z) e = rw e refl
 
 hoist_none : (n : ℕ) (w : WalkState) (st : State) (d : Declaration) → d.target.number < n → Represents n w st
-    → Represents n (reaches.remember_all (writes.note_symbol (writes.with_symbol_in w d.target.number (naming_of d)) (writes.symbol_in w d.target.number (naming_of d)) (naming_of d)) (numbers d.passed) d.name (writes.symbol_in w d.target.number (naming_of d)))
+    → Represents n (reaches.remember_all (writes.note_symbol (writes.with_symbol_in w d.target.number d.naming) (writes.symbol_in w d.target.number d.naming) d.naming) (numbers d.passed) d.naming.name (writes.symbol_in w d.target.number d.naming))
     (hoist_by st d None)
 hoist_none n w st d l h =
-    let o : Option ℕ = found st d.target.number d.name in
-    rw (found_as n w st d.target.number d.name h.shows)
-    (subst (λ y. Represents n (reaches.remember_all (writes.note_symbol (writes.symbol_by w d.target.number (naming_of d) o) (unwrap_or o (length w.tables.symbols)) (naming_of d)) (numbers d.passed) d.name y) (hoist_by st d None))
+    let o : Option ℕ = found st d.target.number d.naming.name in
+    rw (found_as n w st d.target.number d.naming.name h.shows)
+    (subst (λ y. Represents n (reaches.remember_all (writes.note_symbol (writes.symbol_by w d.target.number d.naming o) (unwrap_or o (length w.tables.symbols)) d.naming) (numbers d.passed) d.naming.name y) (hoist_by st d None))
     (sym (chosen_as n w st o h.shows))
-    (remember_all_as n (writes.note_symbol (writes.symbol_by w d.target.number (naming_of d) o) (unwrap_or o (length w.tables.symbols)) (naming_of d)) (declare_in st d.target.number d o) d.passed d.name (chosen st o)
+    (remember_all_as n (writes.note_symbol (writes.symbol_by w d.target.number d.naming o) (unwrap_or o (length w.tables.symbols)) d.naming) (declare_in st d.target.number d o) d.passed d.naming.name (chosen st o)
     (represents_declare_in n w st d.target.number d o l h)))
 
 hoist_some : (n : ℕ) (w : WalkState) (st : State) (d : Declaration) (r : PassedSymbol) → r.scope < n → d.target.number < n → (r.scope ≡ d.target.number → ⊥) → Represents n w st
-    → Represents n (reaches.remember_all (writes.note_symbol (reaches.move_symbol (writes.redeclare w r.symbol (naming_of d)) r.scope d.target.number r.symbol d.name) r.symbol (naming_of d)) (numbers d.passed) d.name r.symbol)
+    → Represents n (reaches.remember_all (writes.note_symbol (reaches.move_symbol (writes.redeclare w r.symbol d.naming) r.scope d.target.number r.symbol d.naming.name) r.symbol d.naming) (numbers d.passed) d.naming.name r.symbol)
     (hoist_by st d (Some r))
 hoist_some n w st d r l k apart h =
-    let redone : State = record st { symbols = update (redeclared d) st.symbols r.symbol } in
-    let again : WalkState = writes.redeclare w r.symbol (naming_of d) in
-    let got_it : Represents n (writes.note_symbol again r.symbol (naming_of d)) (note_symbol redone d r.symbol) = represents_note_symbol n again redone r.symbol d (represents_redeclare n w st r.symbol d h) in
-    let went : Represents n (reaches.move_symbol (writes.note_symbol again r.symbol (naming_of d)) r.scope d.target.number r.symbol d.name) (move_symbol (note_symbol redone d r.symbol) r.scope d.target.number d.name r.symbol (get st.bindings d.target.number d.name)) =
-    move_symbol_as n (writes.note_symbol again r.symbol (naming_of d)) (note_symbol redone d r.symbol) r.scope d.target.number r.symbol d.name l k apart got_it in
-    remember_all_as n (writes.note_symbol (reaches.move_symbol again r.scope d.target.number r.symbol d.name) r.symbol (naming_of d))
-    (move_symbol (note_symbol redone d r.symbol) r.scope d.target.number d.name r.symbol (get st.bindings d.target.number d.name)) d.passed d.name r.symbol
-    (subst (λ v. Represents n v (move_symbol (note_symbol redone d r.symbol) r.scope d.target.number d.name r.symbol (get st.bindings d.target.number d.name))) (sym (move_then_note_symbol again r.scope d.target.number r.symbol d)) went)
+    let redone : State = record st { symbols = update (redeclared d.naming) st.symbols r.symbol } in
+    let again : WalkState = writes.redeclare w r.symbol d.naming in
+    let got_it : Represents n (writes.note_symbol again r.symbol d.naming) (note_symbol redone d r.symbol) = represents_note_symbol n again redone r.symbol d (represents_redeclare n w st r.symbol d h) in
+    let went : Represents n (reaches.move_symbol (writes.note_symbol again r.symbol d.naming) r.scope d.target.number r.symbol d.naming.name) (move_symbol (note_symbol redone d r.symbol) r.scope d.target.number d.naming.name r.symbol (get st.bindings d.target.number d.naming.name)) =
+    move_symbol_as n (writes.note_symbol again r.symbol d.naming) (note_symbol redone d r.symbol) r.scope d.target.number r.symbol d.naming.name l k apart got_it in
+    remember_all_as n (writes.note_symbol (reaches.move_symbol again r.scope d.target.number r.symbol d.naming.name) r.symbol d.naming)
+    (move_symbol (note_symbol redone d r.symbol) r.scope d.target.number d.naming.name r.symbol (get st.bindings d.target.number d.naming.name)) d.passed d.naming.name r.symbol
+    (subst (λ v. Represents n v (move_symbol (note_symbol redone d r.symbol) r.scope d.target.number d.naming.name r.symbol (get st.bindings d.target.number d.naming.name))) (sym (move_then_note_symbol again r.scope d.target.number r.symbol d)) went)
 
 -- the scopes are open, and apart from the target
 abbrev pub ArePassed : ℕ → List OpenScope → ℕ → Type 0
@@ -137,19 +136,19 @@ passed_symbol_passed n st (c ∷ cs) t x r a e = by (passed_symbol_passed n st c
     by rest false o q = rest q
 
 pub hoist_as : (n : ℕ) (w : WalkState) (st : State) (d : Declaration) → d.target.number < n → ArePassed n d.passed d.target.number → Represents n w st
-    → Represents n (reaches.hoist w (numbers d.passed) d.target.number (naming_of d)) (hoist st d)
-hoist_as n w st d l a h = rw (passed_symbol_as n w st d.passed d.name h.shows) (by (passed_symbol st d.passed d.name) refl)
+    → Represents n (reaches.hoist w (numbers d.passed) d.target.number d.naming) (hoist st d)
+hoist_as n w st d l a h = rw (passed_symbol_as n w st d.passed d.naming.name h.shows) (by (passed_symbol st d.passed d.naming.name) refl)
   where
-    noted : Represents n (reaches.against_way w (naming_of d) (numbers d.passed)) (against_all st d (asked_symbols st d.passed d.name))
+    noted : Represents n (reaches.against_way w d.naming (numbers d.passed)) (against_all st d (asked_symbols st d.passed d.naming.name))
     noted = against_way_as n w st d d.passed h
 
-    by : (o : Option PassedSymbol) → passed_symbol st d.passed d.name ≡ o
-        → Represents n (reaches.remember_all (writes.note_symbol (reaches.hoisted_by (reaches.against_way w (naming_of d) (numbers d.passed)) d.target.number (naming_of d) o) (reaches.hoisted_symbol (reaches.against_way w (naming_of d) (numbers d.passed)) d.target.number (naming_of d) o) (naming_of d)) (numbers d.passed) d.name (reaches.hoisted_symbol (reaches.against_way w (naming_of d) (numbers d.passed)) d.target.number (naming_of d) o))
-        (hoist_by (against_all st d (asked_symbols st d.passed d.name)) d o)
-    by None e = hoist_none n (reaches.against_way w (naming_of d) (numbers d.passed)) (against_all st d (asked_symbols st d.passed d.name)) d l noted
+    by : (o : Option PassedSymbol) → passed_symbol st d.passed d.naming.name ≡ o
+        → Represents n (reaches.remember_all (writes.note_symbol (reaches.hoisted_by (reaches.against_way w d.naming (numbers d.passed)) d.target.number d.naming o) (reaches.hoisted_symbol (reaches.against_way w d.naming (numbers d.passed)) d.target.number d.naming o) d.naming) (numbers d.passed) d.naming.name (reaches.hoisted_symbol (reaches.against_way w d.naming (numbers d.passed)) d.target.number d.naming o))
+        (hoist_by (against_all st d (asked_symbols st d.passed d.naming.name)) d o)
+    by None e = hoist_none n (reaches.against_way w d.naming (numbers d.passed)) (against_all st d (asked_symbols st d.passed d.naming.name)) d l noted
     by (Some r) e =
-        let q : (r.scope < n) × (r.scope ≡ d.target.number → ⊥) = passed_symbol_passed n st d.passed d.target.number d.name r a e in
-        hoist_some n (reaches.against_way w (naming_of d) (numbers d.passed)) (against_all st d (asked_symbols st d.passed d.name)) d r q.0 l q.1 noted
+        let q : (r.scope < n) × (r.scope ≡ d.target.number → ⊥) = passed_symbol_passed n st d.passed d.target.number d.naming.name r a e in
+        hoist_some n (reaches.against_way w d.naming (numbers d.passed)) (against_all st d (asked_symbols st d.passed d.naming.name)) d r q.0 l q.1 noted
 
 move_some : (bs : List Binding) (c t y : ℕ) (x : Name) → get bs c x ≡ Some y → move bs c t x ≡ put (remove bs c x) t x y
 move_some bs c t y x g = rw (move, g) refl
@@ -179,22 +178,22 @@ move_out_as n w st c t y x l k apart m h = rw (bound_as n w st t x h.shows) (by 
     by None = subst (λ o. Represents n (reaches.remember (reaches.set_symbol_scope (reaches.rebind_bound w x o c t) y t) c x y) (move_out st c t x y None)) (sym (bound_as n w st c x h.shows)) (move_out_none n w st c t y x l k apart m h)
     by (Some z) = h
 
-target_kept : (st : State) (c t : ℕ) (d : Declaration) (o : Option ℕ) → (c ≡ t → ⊥) → get (declare_in st c d o).bindings t d.name ≡ get st.bindings t d.name
-target_kept st c t d None apart = elim (same_key_tells c t d.name d.name) [
+target_kept : (st : State) (c t : ℕ) (d : Declaration) (o : Option ℕ) → (c ≡ t → ⊥) → get (declare_in st c d o).bindings t d.naming.name ≡ get st.bindings t d.naming.name
+target_kept st c t d None apart = elim (same_key_tells c t d.naming.name d.naming.name) [
   | inl k ↦ absurd (apart k.1)
-  | inr k ↦ get-put_other st.bindings c d.name (length st.symbols) t d.name k.0
+  | inr k ↦ get-put_other st.bindings c d.naming.name (length st.symbols) t d.naming.name k.0
 ]
 target_kept st c t d (Some y) apart = refl
 
 pub declare_and_move_as : (n : ℕ) (w : WalkState) (st : State) (d : Declaration) → stands_in d < n → d.target.number < n → (stands_in d ≡ d.target.number → ⊥) → Represents n w st
-    → Represents n (reaches.declare_and_move w (stands_in d) d.target.number (naming_of d)) (move_function st d)
+    → Represents n (reaches.declare_and_move w (stands_in d) d.target.number d.naming) (move_function st d)
 declare_and_move_as n w st d l k apart h =
     let c : ℕ = stands_in d in
-    let o : Option ℕ = found st c d.name in
-    let done : Represents n (writes.note_symbol (writes.symbol_by w c (naming_of d) o) (unwrap_or o (length w.tables.symbols)) (naming_of d)) (declare_in st c d o) = represents_declare_in n w st c d o l h in
-    rw (found_as n w st c d.name h.shows)
-    (subst (λ y. Represents n (reaches.move_out (writes.note_symbol (writes.symbol_by w c (naming_of d) o) y (naming_of d)) c d.target.number y d.name) (move_function st d)) (sym (chosen_as n w st o h.shows))
-    (subst (λ p. Represents n (reaches.move_out (writes.note_symbol (writes.symbol_by w c (naming_of d) o) (chosen st o) (naming_of d)) c d.target.number (chosen st o) d.name) (move_out (declare_in st c d o) c d.target.number d.name (chosen st o) p))
+    let o : Option ℕ = found st c d.naming.name in
+    let done : Represents n (writes.note_symbol (writes.symbol_by w c d.naming o) (unwrap_or o (length w.tables.symbols)) d.naming) (declare_in st c d o) = represents_declare_in n w st c d o l h in
+    rw (found_as n w st c d.naming.name h.shows)
+    (subst (λ y. Represents n (reaches.move_out (writes.note_symbol (writes.symbol_by w c d.naming o) y d.naming) c d.target.number y d.naming.name) (move_function st d)) (sym (chosen_as n w st o h.shows))
+    (subst (λ p. Represents n (reaches.move_out (writes.note_symbol (writes.symbol_by w c d.naming o) (chosen st o) d.naming) c d.target.number (chosen st o) d.naming.name) (move_out (declare_in st c d o) c d.target.number d.naming.name (chosen st o) p))
     (target_kept st c d.target.number d o apart)
-    (move_out_as n (writes.note_symbol (writes.symbol_by w c (naming_of d) o) (chosen st o) (naming_of d)) (declare_in st c d o) c d.target.number (chosen st o) d.name l k apart (declared_movable st d c o refl)
-    (subst (λ y. Represents n (writes.note_symbol (writes.symbol_by w c (naming_of d) o) y (naming_of d)) (declare_in st c d o)) (chosen_as n w st o h.shows) done))))
+    (move_out_as n (writes.note_symbol (writes.symbol_by w c d.naming o) (chosen st o) d.naming) (declare_in st c d o) c d.target.number (chosen st o) d.naming.name l k apart (declared_movable st d c o refl)
+    (subst (λ y. Represents n (writes.note_symbol (writes.symbol_by w c d.naming o) y d.naming) (declare_in st c d o)) (chosen_as n w st o h.shows) done))))

@@ -1,51 +1,35 @@
 -- The symbols after a change of one, as the walk writes it and as the definitions do.
-use Rattle.std.proofs.Common.{◌≡◌, ℕ, zero, suc, List, [], ◌∷◌, refl, ap, ◌∙◌, Option, Some, None, fold, slice_index_or}
+use Rattle.std.proofs.Common.{◌≡◌, ℕ, zero, suc, List, [], ◌∷◌, refl, ap, ◌∙◌, fold, slice_index_or}
 use Rattle.std.specs.Prelude.{slice_get, slice_set}
 use Rattle.std.specs.Map.{values_of}
 use Rattle.semantic_syntax.specs.Tables.{Symbol, Bindings}
 use Rattle.semantic_syntax.specs.Reading.{no_symbol}
 use Rattle.scoping.specs.Writing.{with_home}
-use Rattle.semantic_model.specs.Declaration.{Declaration}
-use Rattle.semantic_model.specs.Fold.{update, conflict_with, redeclared, united, in_scope}
+use Rattle.semantic_model.specs.Naming.{Naming}
+use Rattle.semantic_model.specs.Fold.{update, conflict_of, conflict_with, redeclared, united, in_scope}
 use Rattle.semantic_model.specs.Hoist.{rescoped}
-use Rattle.walk_model.specs.Naming.{naming_of}
-use Rattle.walk_model.specs.Declares as writes
 
 pub set_is_update : (f : Symbol → Symbol) (ys : List Symbol) (n : ℕ) (d : Symbol) → slice_set ys n (f (slice_index_or ys n d)) ≡ update f ys n
 set_is_update f [] n d = refl
 set_is_update f (y ∷ ys) zero d = refl
 set_is_update f (y ∷ ys) (suc n) d = ap (λ zs. y ∷ zs) (set_is_update f ys n d)
 
-pub update_same : (f g : Symbol → Symbol) (ys : List Symbol) (n : ℕ) → ((y : Symbol) → f y ≡ g y) → update f ys n ≡ update g ys n
-update_same f g ys n h = λ i. update (λ y. h y i) ys n
-
 pub update_twice : (f g : Symbol → Symbol) (ys : List Symbol) (n : ℕ) → update g (update f ys n) n ≡ update (λ y. g (f y)) ys n
 update_twice f g [] n = refl
 update_twice f g (y ∷ ys) zero = refl
 update_twice f g (y ∷ ys) (suc n) = ap (λ zs. y ∷ zs) (update_twice f g ys n)
 
-pub conflict_at : (d : Declaration) (ys : List Symbol) (n : ℕ) → writes.conflict_of (naming_of d) (slice_index_or ys n no_symbol) ≡ conflict_with d (slice_get ys n)
+pub conflict_at : (d : Naming) (ys : List Symbol) (n : ℕ) → conflict_of d (slice_index_or ys n no_symbol) ≡ conflict_with d (slice_get ys n)
 conflict_at d [] n = refl
 conflict_at d (y ∷ ys) zero = refl
 conflict_at d (y ∷ ys) (suc n) = conflict_at d ys n
 
-pub redeclared_as : (d : Declaration) (y : Symbol) → writes.redeclared (naming_of d) y ≡ redeclared d y
-redeclared_as d y = go y.redeclarations refl
-  where
-    go : (o : Option (List _)) → y.redeclarations ≡ o → writes.redeclared (naming_of d) y ≡ redeclared d y
-    go None e = rw e refl
-    go (Some rs) e = rw e refl
-
-pub redeclared_at : (d : Declaration) (ys : List Symbol) (n : ℕ) → slice_set ys n (writes.redeclared (naming_of d) (slice_index_or ys n no_symbol)) ≡ update (redeclared d) ys n
-redeclared_at d ys n = set_is_update (writes.redeclared (naming_of d)) ys n no_symbol ∙ update_same (writes.redeclared (naming_of d)) (redeclared d) ys n (redeclared_as d)
-
-pub united_at : (d : Declaration) (ys : List Symbol) (n : ℕ)
-    → slice_set (slice_set ys n (writes.redeclared (naming_of d) (slice_index_or ys n no_symbol))) n
-    (writes.with_flags d.flags (slice_index_or (slice_set ys n (writes.redeclared (naming_of d) (slice_index_or ys n no_symbol))) n no_symbol))
+pub united_at : (d : Naming) (ys : List Symbol) (n : ℕ)
+    → slice_set (slice_set ys n (redeclared d (slice_index_or ys n no_symbol))) n (united d.flags (slice_index_or (slice_set ys n (redeclared d (slice_index_or ys n no_symbol))) n no_symbol))
     ≡ update (λ y. united d.flags (redeclared d y)) ys n
 united_at d ys n =
-    set_is_update (writes.with_flags d.flags) (slice_set ys n (writes.redeclared (naming_of d) (slice_index_or ys n no_symbol))) n no_symbol
-    ∙ ap (λ zs. update (united d.flags) zs n) (redeclared_at d ys n)
+    set_is_update (united d.flags) (slice_set ys n (redeclared d (slice_index_or ys n no_symbol))) n no_symbol
+    ∙ ap (λ zs. update (united d.flags) zs n) (set_is_update (redeclared d) ys n no_symbol)
     ∙ update_twice (redeclared d) (united d.flags) ys n
 
 pub rescoped_as : (ys : List Symbol) (bs : Bindings) (c : ℕ) → fold (with_home c) ys (values_of bs) ≡ rescoped ys bs c

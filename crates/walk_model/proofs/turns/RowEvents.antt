@@ -2,12 +2,12 @@
 use Rattle.std.proofs.Common.{◌≡◌, ℕ, List, [], ◌∷◌, ◌++◌, Option, Some, None, Bool, true, false, cond, refl, ap, ◌∙◌, map}
 use Rattle.std.specs.Prelude.{fold, if◌then◌else◌}
 use Rattle.semantic_tree.specs.declared.node.Node.{Node}
+use Rattle.semantic_model.specs.Naming.{Naming}
 use Rattle.semantic_model.specs.Place.{OpenScope, innermost, outside}
 use Rattle.semantic_model.specs.Declaration.{plain, hoisted, moved, caught, Declaration, passed_before, first_with, route_from, outward_past, stands_in}
 use Rattle.semantic_model.specs.Event.{Event, declares, placed, placed_by, staying, is_barred, declares_all}
 use Rattle.semantic_model.specs.Binder.{Row, declare}
 use Rattle.walk_model.specs.WalkState.{WalkState}
-use Rattle.walk_model.specs.Naming.{Naming, naming_of}
 use Rattle.walk_model.specs.Declares as writes
 use Rattle.walk_model.specs.Hoists as reaches
 use Rattle.walk_model.specs.Walks.{numbers, declare_by, act, act_all}
@@ -20,16 +20,16 @@ acts-append w (e ∷ es) fs = acts-append (act w e) es fs
 -- a block function is declared where it stands, and moves on to its target unless a namesake bars the way
 pub acts_move : (ds : List Declaration) (w : WalkState) (d : Declaration) → d.how ≡ moved
     → act w (declares (placed ds d))
-    ≡ cond (is_barred ds d (outside d.passed)) (writes.declare w (stands_in d) (naming_of d)) (reaches.declare_and_move w (stands_in d) d.target.number (naming_of d))
+    ≡ cond (is_barred ds d (outside d.passed)) (writes.declare w (stands_in d) d.naming) (reaches.declare_and_move w (stands_in d) d.target.number d.naming)
 acts_move ds w d e = ap (λ h. act w (declares (placed_by h ds d))) e ∙ by (is_barred ds d (outside d.passed))
   where
-    by : (b : Bool) → act w (declares (if b then staying d else d)) ≡ cond b (writes.declare w (stands_in d) (naming_of d)) (reaches.declare_and_move w (stands_in d) d.target.number (naming_of d))
+    by : (b : Bool) → act w (declares (if b then staying d else d)) ≡ cond b (writes.declare w (stands_in d) d.naming) (reaches.declare_and_move w (stands_in d) d.target.number d.naming)
     by true = refl
     by false = ap (λ h. declare_by h w d) e
 
 module _ (ds : List Declaration) (node : Node) (row : Row) (is_pure : Bool) where
   abbrev pub named : Node → Naming
-  named name = naming_of (declare node row is_pure name)
+  named name = (declare node row is_pure name).naming
 
   abbrev pub row_events : List Node → List Event
   row_events names = declares_all ds (map (declare node row is_pure) names)

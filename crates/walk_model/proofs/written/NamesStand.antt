@@ -38,7 +38,7 @@ module _ (program : Tree) (ws : List Written) (whole : first_fault program ≡ N
   named_in : (c : OpenScope) → is_sloppy program.source_type ≡ true → Listed c → IsNamedIn ds ws c
   named_in c e l d =
       bars_standing (openers_of program) d c ds (openers_distinct program ids) l (all_standing program whole)
-      ∙ sym (collected c.opener d.name ∙ ap (λ b. b && is_written (names_written program) c.opener d.name) e ∙ written c.opener d.name)
+      ∙ sym (collected c.opener d.naming.name ∙ ap (λ b. b && is_written (names_written program) c.opener d.naming.name) e ∙ written c.opener d.naming.name)
 
   all_named_in : (chain : List OpenScope) → is_sloppy program.source_type ≡ true → AllByRecursion Listed chain → AreNamedIn ds ws chain
   all_named_in [] e h = tt

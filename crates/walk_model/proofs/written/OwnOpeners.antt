@@ -123,11 +123,11 @@ module _ (all : List ℕ) where
   standing_listed t (leaving p ∷ ss) g h = standing_listed t ss g.1 h.1
 
   -- so the declarations of a scope are those that stand where its node opens one
-  pub bars_standing : (d : Declaration) (c : OpenScope) (ds : List Declaration) → AreDistinct all → IsListed all c → StandListed ds → any_bars d c ds ≡ any_standing c.opener d.name ds
+  pub bars_standing : (d : Declaration) (c : OpenScope) (ds : List Declaration) → AreDistinct all → IsListed all c → StandListed ds → any_bars d c ds ≡ any_standing c.opener d.naming.name ds
   bars_standing d c [] f l h = refl
   bars_standing d c (e ∷ es) f l h =
-      ap (λ b. (counts_past e && b && bytes_eq e.name d.name) || any_bars d c es) (one_to_one all (scope_it_stands_in e) c f h.0 l)
-      ∙ ap (λ b. (counts_past e && (scope_it_stands_in e).opener == c.opener && bytes_eq e.name d.name) || b) (bars_standing d c es f l h.1)
+      ap (λ b. (counts_past e && b && bytes_eq e.naming.name d.naming.name) || any_bars d c es) (one_to_one all (scope_it_stands_in e) c f h.0 l)
+      ∙ ap (λ b. (counts_past e && (scope_it_stands_in e).opener == c.opener && bytes_eq e.naming.name d.naming.name) || b) (bars_standing d c es f l h.1)
 
 pub all_standing : (program : Tree) → first_fault program ≡ None → StandListed (openers_of program) (written_declarations (steps program))
 all_standing program h = standing_listed (openers_of program) program.source_type (steps program) (all_grounded program h) (all_listed program)

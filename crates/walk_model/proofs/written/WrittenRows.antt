@@ -134,7 +134,7 @@ module _ (x : ℕ) (name : Name) where
   pub any_append : (ds es : List Declaration) → any_in (ds ++ es) ≡ (any_in ds || any_in es)
   any_append [] es = refl
   any_append (d ∷ ds) es =
-      let first : Bool = counts_past d && (scope_it_stands_in d).opener == x && bytes_eq d.name name in
+      let first : Bool = counts_past d && (scope_it_stands_in d).opener == x && bytes_eq d.naming.name name in
       ap (λ b. first || b) (any_append ds es) ∙ or_assoc first (any_in ds) (any_in es)
 
   -- a row whose flags count

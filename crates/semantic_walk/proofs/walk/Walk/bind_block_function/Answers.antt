@@ -1,7 +1,7 @@
 use Rattle.std.proofs.Common.{List, length, map, sym, ap, ◌∙◌, arith}
 use Rattle.semantic_tree.specs.declared.node.Node.{Node}
+use Rattle.semantic_model.specs.Naming.{Naming}
 use Rattle.node_rules.specs.BoundIdentifiers.{names_left}
-use Rattle.walk_model.specs.Naming.{Naming}
 use Rattle.table_building.specs.Named.{named_by}
 use Rattle.table_building.proofs.Growing.{goes-trans}
 use Rattle.semantic_walk.specs.Binds.{moving}

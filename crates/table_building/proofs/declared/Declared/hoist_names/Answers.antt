@@ -1,8 +1,8 @@
 use Rattle.std.proofs.Common.{List, length, map, sym, ap, ◌∙◌, arith}
 use Rattle.semantic_tree.specs.declared.node.Node.{Node}
+use Rattle.semantic_model.specs.Naming.{Naming}
 use Rattle.node_rules.specs.BoundIdentifiers.{names_left}
 use Rattle.walk_model.specs.WalkState.{WalkState}
-use Rattle.walk_model.specs.Naming.{Naming}
 use Rattle.count_laws.proofs.Growth.{hoist_adds}
 use Rattle.table_building.specs.Named.{named_by}
 use Rattle.table_building.specs.Each.{hoist_each}

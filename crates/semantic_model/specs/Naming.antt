@@ -1,8 +1,7 @@
--- A declaration without its way outward.
+-- What is declared: a node, its name, and the flags of its symbol.
 use Rattle.std.specs.Prelude.{ℕ, Bool}
 use Rattle.semantic_syntax.specs.declared.spans.Span.{Span}
 use Rattle.semantic_syntax.specs.Tables.{Name}
-use Rattle.semantic_model.specs.Declaration.{Declaration}
 
 pub record Naming : Type 0 where
   -- the declaring node, and the node of the name
@@ -13,15 +12,5 @@ pub record Naming : Type 0 where
   pub flags : ℕ
   -- the flags of a symbol with which it conflicts
   pub excluded : ℕ
+  -- whether a function without side effects is declared
   pub is_pure : Bool
-
-abbrev pub naming_of : Declaration → Naming
-naming_of d = record {
-  node = d.node;
-  identifier = d.identifier;
-  name = d.name;
-  span = d.span;
-  flags = d.flags;
-  excluded = d.excluded;
-  is_pure = d.is_pure;
-}
