@@ -108,7 +108,7 @@ module _ (n : ℕ) where
 
   made_below : (ms : List Made) → ((m : Made) → Among m ms → m.symbol < n) → (node s : ℕ) → number_of (map belonging ms) node ≡ Some s → s < n
   made_below [] h node s e = absurd cc
-  made_below (m ∷ ms) h node s e = by (m.declaration.identifier == node) e (made_below ms (λ q a. h q (inr a)) node s)
+  made_below (m ∷ ms) h node s e = by (m.declaration.naming.identifier == node) e (made_below ms (λ q a. h q (inr a)) node s)
     where
       by : (b : Bool) → cond b (Some m.symbol) (number_of (map belonging ms) node) ≡ Some s → (number_of (map belonging ms) node ≡ Some s → s < n) → s < n
       by true e more = subst (λ x. x < n) (some_same m.symbol s e) (h m (inl refl))
@@ -188,7 +188,7 @@ module _ (p : Tree) (faultless : first_fault p ≡ None) where
 
       within : (m : Made) → Among m (run start (events (steps p))).made → m.symbol < count
       within m i =
-          let named : HasName (run start (events (steps p))).symbols m.symbol m.declaration.name = (sound_program p form).has_name m i in
+          let named : HasName (run start (events (steps p))).symbols m.symbol m.declaration.naming.name = (sound_program p form).has_name m i in
           slice_get_within (run start (events (steps p))).symbols m.symbol named.symbol named.is_there
 
   pub are_symbols : AreSymbols (tables_of p) (symbol_at (analysis_of p)) (exports (steps p)) (owners (analysis_of p) (steps p))
