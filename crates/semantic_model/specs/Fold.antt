@@ -49,7 +49,7 @@ abbrev pub or_else : Option ℕ → Option ℕ → Option ℕ
 or_else (Some s) o = Some s
 or_else None o = o
 
--- no symbol where that is a function expression's, by the flags of each
+-- the symbol, unless it is a function expression's, by the flags of each
 abbrev pub unless_expression : (ℕ → ℕ) → Option ℕ → Option ℕ
 unless_expression flags None = None
 unless_expression flags (Some s) = cond (meets (flags s) symbol.FunctionExpression.bits) None (Some s)

@@ -1,5 +1,5 @@
 -- Scopes of two sides: events that act on one side alone leave what the other binds, and the flags of its symbols.
-use Rattle.std.proofs.Common.{◌≡◌, ℕ, List, [], ◌∷◌, Option, Some, None, Bool, true, false, cond, ◌⊎◌, inl, inr, refl, sym, ap, subst, ◌∙◌, length}
+use Rattle.std.proofs.Common.{◌≡◌, ℕ, List, [], ◌∷◌, Option, Some, None, Bool, true, false, cond, inl, inr, refl, sym, ap, subst, ◌∙◌, length}
 use Rattle.semantic_syntax.specs.Tables.{Name}
 use Rattle.semantic_model.proofs.fold.Actions.{unless_some, or_else_some}
 use Rattle.semantic_model.specs.Place.{OpenScope}
