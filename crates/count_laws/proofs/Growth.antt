@@ -178,10 +178,10 @@ moved_adds w block target d =
     then_none 0 1 0 w.tables had.tables (reaches.declare_and_move w block target d).tables (declare_adds w block d) (out_adds had block target y d.name)
 
 by_adds : (how : How) (w : WalkState) (d : Declaration) → Adds 0 1 0 w.tables (declare_by how w d).tables
-by_adds plain w d = declare_adds w d.target.number d.naming
-by_adds hoisted w d = hoist_adds w (numbers d.passed) d.target.number d.naming
-by_adds moved w d = moved_adds w (stands_in d) d.target.number d.naming
-by_adds caught w d = anew_adds w d.target.number d.naming
+by_adds plain w d = declare_adds w d.route.target.number d.naming
+by_adds hoisted w d = hoist_adds w (numbers d.route.passed) d.route.target.number d.naming
+by_adds moved w d = moved_adds w (stands_in d) d.route.target.number d.naming
+by_adds caught w d = anew_adds w d.route.target.number d.naming
 
 -- declarations make a symbol each at most
 pub declares_add : (ds new : List Declaration) (w : WalkState) → Adds 0 (length new) 0 w.tables (act_all w (declares_all ds new)).tables

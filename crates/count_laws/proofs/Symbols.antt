@@ -54,30 +54,30 @@ moved_covers st c t x s (Some r) = omega arith
 moved_covers st c t x s None = omega (arith, update_length (in_scope t) st.symbols s)
 
 hoisted_covers : (st : State) (d : Declaration) (o : Option PassedSymbol) → Covers st (hoist_by st d o)
-hoisted_covers st d None = declared_covers st d.target.number d (found st d.target.number d.naming.name)
+hoisted_covers st d None = declared_covers st d.route.target.number d (found st d.route.target.number d.naming.name)
 hoisted_covers st d (Some h) =
     let st1 : State = note_symbol (record st { symbols = update (redeclared d.naming) st.symbols h.symbol }) d h.symbol in
-    covers st st1 (move_symbol st1 h.scope d.target.number d.naming.name h.symbol (get st1.bindings d.target.number d.naming.name))
+    covers st st1 (move_symbol st1 h.scope d.route.target.number d.naming.name h.symbol (get st1.bindings d.route.target.number d.naming.name))
     (omega (arith, update_length (redeclared d.naming) st.symbols h.symbol, note_symbol_length (record st { symbols = update (redeclared d.naming) st.symbols h.symbol }) d h.symbol))
-    (moved_covers st1 h.scope d.target.number d.naming.name h.symbol (get st1.bindings d.target.number d.naming.name))
+    (moved_covers st1 h.scope d.route.target.number d.naming.name h.symbol (get st1.bindings d.route.target.number d.naming.name))
 
 out_covers : (st : State) (c t : ℕ) (x : Name) (s : ℕ) (o : Option ℕ) → Covers st (move_out st c t x s o)
 out_covers st c t x s (Some r) = omega arith
 out_covers st c t x s None = omega (arith, update_length (in_scope t) st.symbols s)
 
 by_covers : (how : How) (st : State) (d : Declaration) → Covers st (declare_by how st d)
-by_covers plain st d = declared_covers st d.target.number d (found st d.target.number d.naming.name)
+by_covers plain st d = declared_covers st d.route.target.number d (found st d.route.target.number d.naming.name)
 by_covers hoisted st d =
-    let noted : State = against_all st d (asked_symbols st d.passed d.naming.name) in
-    let same = against_same st d (asked_symbols st d.passed d.naming.name) in
-    let later = hoisted_covers noted d (passed_symbol st d.passed d.naming.name) in
+    let noted : State = against_all st d (asked_symbols st d.route.passed d.naming.name) in
+    let same = against_same st d (asked_symbols st d.route.passed d.naming.name) in
+    let later = hoisted_covers noted d (passed_symbol st d.route.passed d.naming.name) in
     omega (arith, later, ap length same.0, ap length same.1)
 by_covers moved st d =
     let c : ℕ = stands_in d in
     let s : Option ℕ = found st c d.naming.name in
     covers st (declare_in st c d s) (move_function st d) (declared_covers st c d s)
-    (out_covers (declare_in st c d s) c d.target.number d.naming.name (chosen st s) (get st.bindings d.target.number d.naming.name))
-by_covers caught st d = made_covers st d.target.number d
+    (out_covers (declare_in st c d s) c d.route.target.number d.naming.name (chosen st s) (get st.bindings d.route.target.number d.naming.name))
+by_covers caught st d = made_covers st d.route.target.number d
 
 rescoped_length : (ys : List Symbol) (bs : Bindings) (c : ℕ) → length (rescoped ys bs c) ≡ length ys
 rescoped_length ys [] c = refl

@@ -212,7 +212,7 @@ placed_of : (ns : List Node) (how : How) (ds : List Declaration) (d : Declaratio
 placed_of ns plain ds d i = i
 placed_of ns hoisted ds d i = i
 placed_of ns caught ds d i = i
-placed_of ns moved ds d i = go (is_barred ds d (outside d.passed)) i
+placed_of ns moved ds d i = go (is_barred ds d (outside d.route.passed)) i
   where
     stays : IsOf ns d → IsOf ns (staying d)
     stays (of_name x b e f) = of_name x b e f

@@ -38,8 +38,7 @@ declare node row is_pure name = record {
     is_pure = is_pure;
   };
   how = row.how;
-  passed = row.route.passed;
-  target = row.route.target;
+  route = row.route;
 }
 
 -- the names are declared in the scope where the node stands

@@ -15,16 +15,20 @@ pub data How : Type 0 where
   -- as the name of a catch clause does: always anew
   caught : How
 
-pub record Declaration : Type 0 where
-  pub naming : Naming
-  pub how : How
-  -- the scopes from where it stands to its target, without the target
+-- a way outward: the scopes that are passed, and the one where it ends
+pub record Route : Type 0 where
   pub passed : List OpenScope
   pub target : OpenScope
 
+-- a declaration, with its way from the scope where it stands to its target
+pub record Declaration : Type 0 where
+  pub naming : Naming
+  pub how : How
+  pub route : Route
+
 -- the scope where it stands
 abbrev pub scope_it_stands_in : Declaration → OpenScope
-scope_it_stands_in d = innermost (d.passed ++ d.target ∷ [])
+scope_it_stands_in d = innermost (d.route.passed ++ d.route.target ∷ [])
 
 abbrev pub stands_in : Declaration → ℕ
 stands_in d = (scope_it_stands_in d).number
@@ -39,11 +43,11 @@ body_list (Some b) = b ∷ []
 
 -- the scope that binds the name in the end: its target, or the body's scope where that is a catch clause's
 abbrev pub home : Declaration → ℕ
-home d = body_or d.target.number d.target.body
+home d = body_or d.route.target.number d.route.target.body
 
 -- the scopes from where it stands to its home
 abbrev pub path : Declaration → List ℕ
-path d = map (λ s. s.number) d.passed ++ d.target.number ∷ body_list d.target.body
+path d = map (λ s. s.number) d.route.passed ++ d.route.target.number ∷ body_list d.route.target.body
 
 -- two declarations of one name whose paths share a scope
 pub record Meets (d e : Declaration) : Type 0 where
@@ -51,11 +55,6 @@ pub record Meets (d e : Declaration) : Type 0 where
   pub shared : ℕ
   pub on_left : contains (path d) shared ≡ true
   pub on_right : contains (path e) shared ≡ true
-
--- a way outward: the scopes that are passed, and the one where it ends
-pub record Route : Type 0 where
-  pub passed : List OpenScope
-  pub target : OpenScope
 
 abbrev pub here : List OpenScope → Route
 here chain = record { passed = []; target = innermost chain }

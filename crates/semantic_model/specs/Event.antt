@@ -38,10 +38,10 @@ is_barred ds d [] = false
 is_barred ds d (c ∷ cs) = any_bars d c ds || is_barred ds d cs
 
 abbrev pub staying : Declaration → Declaration
-staying d = record d { how = plain; passed = []; target = scope_it_stands_in d }
+staying d = record d { how = plain; route = record { passed = []; target = scope_it_stands_in d } }
 
 abbrev pub placed_by : How → List Declaration → Declaration → Declaration
-placed_by moved ds d = if is_barred ds d (outside d.passed) then staying d else d
+placed_by moved ds d = if is_barred ds d (outside d.route.passed) then staying d else d
 placed_by _ ds d = d
 
 -- a block function stays where a namesake stands strictly between it and its target

@@ -57,15 +57,15 @@ move_symbol st c t x s None =
 
 abbrev pub hoist_by : State → Declaration → Option PassedSymbol → State
 hoist_by st d None =
-    let s : Option ℕ = found st d.target.number d.naming.name in
-    remembering (declare_in st d.target.number d s) d.passed d.naming.name (chosen st s)
+    let s : Option ℕ = found st d.route.target.number d.naming.name in
+    remembering (declare_in st d.route.target.number d s) d.route.passed d.naming.name (chosen st s)
 hoist_by st d (Some h) =
     let st' : State = note_symbol (record st { symbols = update (redeclared d.naming) st.symbols h.symbol }) d h.symbol in
-    remembering (move_symbol st' h.scope d.target.number d.naming.name h.symbol (get st'.bindings d.target.number d.naming.name)) d.passed d.naming.name h.symbol
+    remembering (move_symbol st' h.scope d.route.target.number d.naming.name h.symbol (get st'.bindings d.route.target.number d.naming.name)) d.route.passed d.naming.name h.symbol
 
 -- a `var` is the symbol of a passed scope that counts, else it is declared in its target
 abbrev pub hoist : State → Declaration → State
-hoist st d = hoist_by (against_all st d (asked_symbols st d.passed d.naming.name)) d (passed_symbol st d.passed d.naming.name)
+hoist st d = hoist_by (against_all st d (asked_symbols st d.route.passed d.naming.name)) d (passed_symbol st d.route.passed d.naming.name)
 
 -- a block function's binding moves out of block c, if the target lacks the name; the block remembers it
 abbrev pub move_out : State → ℕ → ℕ → Name → ℕ → Option ℕ → State
@@ -82,13 +82,13 @@ abbrev pub move_function : State → Declaration → State
 move_function st d =
     let c : ℕ = stands_in d in
     let s : Option ℕ = found st c d.naming.name in
-    move_out (declare_in st c d s) c d.target.number d.naming.name (chosen st s) (get st.bindings d.target.number d.naming.name)
+    move_out (declare_in st c d s) c d.route.target.number d.naming.name (chosen st s) (get st.bindings d.route.target.number d.naming.name)
 
 abbrev pub declare_by : How → State → Declaration → State
-declare_by plain st d = declare_in st d.target.number d (found st d.target.number d.naming.name)
+declare_by plain st d = declare_in st d.route.target.number d (found st d.route.target.number d.naming.name)
 declare_by hoisted st d = hoist st d
 declare_by moved st d = move_function st d
-declare_by caught st d = make st d.target.number d
+declare_by caught st d = make st d.route.target.number d
 
 abbrev pub rescoped : List Symbol → Bindings → ℕ → List Symbol
 rescoped ys [] c = ys

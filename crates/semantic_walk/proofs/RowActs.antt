@@ -174,18 +174,18 @@ module _ (ds : List Declaration) (node : Node) (row : Row) (r : binder.Row) (is_
       let ways : SameWay way (outward_to is_var chain) = subst (λ n. SameWay (way_from t n scope.Var.bits) (outward_to is_var chain)) (sym current) (way_at t scope.Var.bits chain refl shown (some_scope chain some)) in
       let told : AreTold t ds w.namesakes (outside (outward_to is_var chain).passed) =
       told_outside t ds w.namesakes (outward_to is_var chain).passed (told_passed t ds w.namesakes is_var chain (all_told t ds w.namesakes chain shown named)) in
-      let barred : stands_on t w.namesakes x.text (drop 1 (numbers way.passed)) ≡ is_barred ds d (outside d.passed) =
+      let barred : stands_on t w.namesakes x.text (drop 1 (numbers way.passed)) ≡ is_barred ds d (outside d.route.passed) =
       ap (λ ns. stands_on t w.namesakes x.text (drop 1 ns)) ways.passes ∙ ap (λ ns. stands_on t w.namesakes x.text ns) (past_numbers (outward_to is_var chain).passed)
       ∙ stands_barred t ds w.namesakes d (outside (outward_to is_var chain).passed) told
       ∙ ap (λ (q : declaration.Route). is_barred ds d (outside q.passed)) (sym is) in
       let block : w.current ≡ stands_in d = current ∙ sym (block_stands chain some) ∙ ap (λ (q : declaration.Route). (innermost (q.passed ++ q.target ∷ [])).number) (sym route) in
-      let target : way.target.number ≡ d.target.number = ways.ends ∙ ap (λ (q : declaration.Route). q.target.number) (sym is) in
+      let target : way.target.number ≡ d.route.target.number = ways.ends ∙ ap (λ (q : declaration.Route). q.target.number) (sym is) in
       ap (λ (m : WalkState). record w { made = m })
       (ap (λ n. settle_in_block w.made w.current (block_target t w.namesakes w.current x.text) n) (name_same node row r is_pure same x)
       ∙ settles_by w.made w.current way.target.number (stands_on t w.namesakes x.text (drop 1 (numbers way.passed))) d.naming
       ∙ ap (λ b. cond b (declare w.made w.current d.naming) (declare_and_move w.made w.current way.target.number d.naming)) barred
-      ∙ ap (λ n. cond (is_barred ds d (outside d.passed)) (declare w.made n d.naming) (declare_and_move w.made n way.target.number d.naming)) block
-      ∙ ap (λ n. cond (is_barred ds d (outside d.passed)) (declare w.made (stands_in d) d.naming) (declare_and_move w.made (stands_in d) n d.naming)) target
+      ∙ ap (λ n. cond (is_barred ds d (outside d.route.passed)) (declare w.made n d.naming) (declare_and_move w.made n way.target.number d.naming)) block
+      ∙ ap (λ n. cond (is_barred ds d (outside d.route.passed)) (declare w.made (stands_in d) d.naming) (declare_and_move w.made (stands_in d) n d.naming)) target
       ∙ sym (acts_move ds w.made d how))
 
   -- each is declared in its block, and moves out of it unless a namesake stands between

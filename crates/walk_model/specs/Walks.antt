@@ -16,10 +16,10 @@ abbrev pub numbers : List OpenScope → List ℕ
 numbers scopes = map (λ s. s.number) scopes
 
 abbrev pub declare_by : How → WalkState → Declaration → WalkState
-declare_by plain w d = declare w d.target.number d.naming
-declare_by hoisted w d = hoist w (numbers d.passed) d.target.number d.naming
-declare_by moved w d = declare_and_move w (stands_in d) d.target.number d.naming
-declare_by caught w d = declare_anew w d.target.number d.naming
+declare_by plain w d = declare w d.route.target.number d.naming
+declare_by hoisted w d = hoist w (numbers d.route.passed) d.route.target.number d.naming
+declare_by moved w d = declare_and_move w (stands_in d) d.route.target.number d.naming
+declare_by caught w d = declare_anew w d.route.target.number d.naming
 
 -- what one event does
 abbrev pub act : WalkState → Event → WalkState

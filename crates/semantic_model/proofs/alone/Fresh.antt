@@ -88,29 +88,29 @@ own_make table st d c h n p = record {
 own_remembering : (table : List (Option ℕ)) (d : Declaration) (s h : ℕ) (st : State) (cs : List OpenScope) (r : ℕ) → Own table d s h st → Own table d s h (remembering st cs d.naming.name r)
 own_remembering table d s h st cs r o = record { sits = o.sits; others = o.others; once = o.once; symbol = o.symbol; binds = o.binds; only = o.only }
 
-own_move_out : (table : List (Option ℕ)) (d : Declaration) (s c : ℕ) (st : State) → Own table d s c st → Own table d s d.target.number (move_out st c d.target.number d.naming.name s None)
+own_move_out : (table : List (Option ℕ)) (d : Declaration) (s c : ℕ) (st : State) → Own table d s c st → Own table d s d.route.target.number (move_out st c d.route.target.number d.naming.name s None)
 own_move_out table d s c st o = record {
   sits = at_target refl;
   others = o.others;
   once = o.once;
-  symbol = elim (eqb_tells s s) [ inl k ↦ rw (get-update (in_scope d.target.number) st.symbols s s, k.0, o.symbol) refl | inr k ↦ absurd (k.1 refl) ];
-  binds = rw (o.binds, move) (get-put_same (remove st.bindings c d.naming.name) d.target.number d.naming.name s);
-  only = rw (o.binds, move) (λ e a i. elim (among_put e (remove st.bindings c d.naming.name) d.target.number d.naming.name s a) [
+  symbol = elim (eqb_tells s s) [ inl k ↦ rw (get-update (in_scope d.route.target.number) st.symbols s s, k.0, o.symbol) refl | inr k ↦ absurd (k.1 refl) ];
+  binds = rw (o.binds, move) (get-put_same (remove st.bindings c d.naming.name) d.route.target.number d.naming.name s);
+  only = rw (o.binds, move) (λ e a i. elim (among_put e (remove st.bindings c d.naming.name) d.route.target.number d.naming.name s a) [
     | inl k ↦ (let r : Among e st.bindings × ((e.scope ≡ c) × (e.name ≡ d.naming.name) → ⊥) = among_remove e st.bindings c d.naming.name k in absurd (r.1 (o.only e r.0 i)))
     | inr k ↦ (k.0, k.1)
   ]);
 }
 
-own_by : (table : List (Option ℕ)) (how : How) (st : State) (d : Declaration) → StandsInBlock table how d → Sound table st → MeetsNone d st.made → Own table d (length st.symbols) d.target.number (declare_by how st d)
-own_by table plain st d b h n = rw (nothing_found table st d d.target.number h n (on_path table d d.target.number (at_target refl))) (own_make table st d d.target.number h n (at_target refl))
+own_by : (table : List (Option ℕ)) (how : How) (st : State) (d : Declaration) → StandsInBlock table how d → Sound table st → MeetsNone d st.made → Own table d (length st.symbols) d.route.target.number (declare_by how st d)
+own_by table plain st d b h n = rw (nothing_found table st d d.route.target.number h n (on_path table d d.route.target.number (at_target refl))) (own_make table st d d.route.target.number h n (at_target refl))
 own_by table hoisted st d b h n =
-    rw (none_asked table st d d.passed h n (passed_on_path d), no_passed_symbol table st d d.passed h n (passed_on_path d), nothing_found table st d d.target.number h n (on_path table d d.target.number (at_target refl)))
-    (own_remembering table d (length st.symbols) d.target.number (make st d.target.number d) d.passed (length st.symbols) (own_make table st d d.target.number h n (at_target refl)))
+    rw (none_asked table st d d.route.passed h n (passed_on_path d), no_passed_symbol table st d d.route.passed h n (passed_on_path d), nothing_found table st d d.route.target.number h n (on_path table d d.route.target.number (at_target refl)))
+    (own_remembering table d (length st.symbols) d.route.target.number (make st d.route.target.number d) d.route.passed (length st.symbols) (own_make table st d d.route.target.number h n (at_target refl)))
 own_by table moved st d b h n =
-    rw (nothing_found table st d (stands_in d) h n (on_path table d (stands_in d) (at_block refl b)), nothing_bound table st d d.target.number h n (on_path table d d.target.number (at_target refl)))
+    rw (nothing_found table st d (stands_in d) h n (on_path table d (stands_in d) (at_block refl b)), nothing_bound table st d d.route.target.number h n (on_path table d d.route.target.number (at_target refl)))
     (own_move_out table d (length st.symbols) (stands_in d) (make st (stands_in d) d) (own_make table st d (stands_in d) h n (at_block refl b)))
-own_by table caught st d b h n = own_make table st d d.target.number h n (at_target refl)
+own_by table caught st d b h n = own_make table st d d.route.target.number h n (at_target refl)
 
 -- a declaration that meets none before it is new
-pub own_declare : (table : List (Option ℕ)) (st : State) (d : Declaration) → StandsInBlock table d.how d → Sound table st → MeetsNone d st.made → Own table d (length st.symbols) d.target.number (act st (declares d))
+pub own_declare : (table : List (Option ℕ)) (st : State) (d : Declaration) → StandsInBlock table d.how d → Sound table st → MeetsNone d st.made → Own table d (length st.symbols) d.route.target.number (act st (declares d))
 own_declare table st d b h n = own_by table d.how st d b h n

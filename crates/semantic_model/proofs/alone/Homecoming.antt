@@ -46,7 +46,7 @@ taken_events ds c (leaving p ∷ more) h = taken_events ds c more h
 -- what is declared in a clause's scope is taken over later
 abbrev pub AllHomed : List Event → Type 0
 AllHomed [] = Unit {0}
-AllHomed (declares d ∷ es) = ((b : ℕ) → d.target.body ≡ Some b → takes d.target.number es ≡ true) × AllHomed es
+AllHomed (declares d ∷ es) = ((b : ℕ) → d.route.target.body ≡ Some b → takes d.route.target.number es ≡ true) × AllHomed es
 AllHomed (takes_over c b ∷ es) = AllHomed es
 AllHomed (ends_header c ∷ es) = AllHomed es
 
@@ -55,30 +55,30 @@ module _ (table : List (Option ℕ)) (root : slice_get table 0 ≡ Some None) wh
   stays_bodiless : (d : Declaration) → d.how ≡ moved → IsDeclaredIn table root d → (scope_it_stands_in d).body ≡ None
   stays_bodiless d e h =
       let block : slice_get table (stands_in d) ≡ Some None = subst (λ w. StandsInBlock table w d) e h.block in
-      let q : Some (scope_it_stands_in d).body ≡ Some None = sym (stands_in_table table root d.passed d refl h).entry ∙ block in cc
+      let q : Some (scope_it_stands_in d).body ≡ Some None = sym (stands_in_table table root d.route.passed d refl h).entry ∙ block in cc
 
   abbrev pub Later : Declaration → List Event → Type 0
-  Later d es = (b : ℕ) → d.target.body ≡ Some b → takes d.target.number es ≡ true
+  Later d es = (b : ℕ) → d.route.target.body ≡ Some b → takes d.route.target.number es ≡ true
 
   placed_later : (how : How) (ds : List Declaration) (d : Declaration) (es : List Event) → d.how ≡ how → IsDeclaredIn table root d → Later d es → Later (placed_by how ds d) es
   placed_later plain ds d es e h l = l
   placed_later hoisted ds d es e h l = l
   placed_later caught ds d es e h l = l
-  placed_later moved ds d es e h l = go (is_barred ds d (outside d.passed))
+  placed_later moved ds d es e h l = go (is_barred ds d (outside d.route.passed))
     where
       go : (b : Bool) → Later (if b then staying d else d) es
       go true = λ b q. (let w : None ≡ Some b = sym (stays_bodiless d e h) ∙ q in absurd cc)
       go false = l
 
   later_past : (d : Declaration) (es fs : List Event) → Later d fs → Later d (es ++ fs)
-  later_past d es fs h b e = takes_later d.target.number es fs (h b e)
+  later_past d es fs h b e = takes_later d.route.target.number es fs (h b e)
 
   -- declarations of a place whose chain is followed
   own_homed : (ds new : List Declaration) (chain : List OpenScope) (es : List Event) → AllDeclared table root new → AllOwn table chain new → ((b : ℕ) → (innermost chain).body ≡ Some b → takes (innermost chain).number es ≡ true) → AllHomed es → AllHomed (declares_all ds new ++ es)
   own_homed ds [] chain es a o f h = h
   own_homed ds (d ∷ more) chain es a o f h = (
     placed_later d.how ds d (declares_all ds more ++ es) refl a.0
-        (later_past d (declares_all ds more) es (λ b e. let q : d.target ≡ innermost chain = o.0 b e in
+        (later_past d (declares_all ds more) es (λ b e. let q : d.route.target ≡ innermost chain = o.0 b e in
         subst (λ s. takes s.number es ≡ true) (sym q) (f b (subst (λ s. s.body ≡ Some b) q e)))),
     own_homed ds more chain es a.1 o.1 f h,
   )
@@ -130,9 +130,9 @@ module _ (table : List (Option ℕ)) (root : slice_get table 0 ≡ Some None) wh
   goes_home c b (declares d ∷ es) e h t = goes_home c b es e h.1 t
   goes_home c b (ends_header d ∷ es) e h t = goes_home c b es e h.1 t
 
-  pub comes_home : (d : Declaration) (es : List Event) → IsDeclaredIn table root d → AllEventsIn table root es → Later d es → ends_at d.target.number es ≡ home d
-  comes_home d es h k l = go d.target.body refl
+  pub comes_home : (d : Declaration) (es : List Event) → IsDeclaredIn table root d → AllEventsIn table root es → Later d es → ends_at d.route.target.number es ≡ home d
+  comes_home d es h k l = go d.route.target.body refl
     where
-      go : (o : Option ℕ) → d.target.body ≡ o → ends_at d.target.number es ≡ body_or d.target.number o
-      go None e = stays d.target.number es (h.target.entry ∙ ap Some e) k
-      go (Some b) e = goes_home d.target.number b es (h.target.entry ∙ ap Some e) k (l b e)
+      go : (o : Option ℕ) → d.route.target.body ≡ o → ends_at d.route.target.number es ≡ body_or d.route.target.number o
+      go None e = stays d.route.target.number es (h.target.entry ∙ ap Some e) k
+      go (Some b) e = goes_home d.route.target.number b es (h.target.entry ∙ ap Some e) k (l b e)

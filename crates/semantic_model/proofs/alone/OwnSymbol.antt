@@ -67,8 +67,8 @@ belongs_times : (s : ℕ) (ms : List Made) → times s (map (λ b. b.number) (ma
 belongs_times s [] = refl
 belongs_times s (m ∷ ms) = omega (arith, belongs_times s ms)
 
-sits_within : (table : List (Option ℕ)) (d : Declaration) (c : ℕ) → slice_get table d.target.number ≡ Some d.target.body → Sits table d c → c < length table
-sits_within table d c t (at_target e) = subst (λ n. n < length table) e (slice_get_within table d.target.number d.target.body t)
+sits_within : (table : List (Option ℕ)) (d : Declaration) (c : ℕ) → slice_get table d.route.target.number ≡ Some d.route.target.body → Sits table d c → c < length table
+sits_within table d c t (at_target e) = subst (λ n. n < length table) e (slice_get_within table d.route.target.number d.route.target.body t)
 sits_within table d c t (at_body e k) = slice_get_within table c None k
 sits_within table d c t (at_block e k) = slice_get_within table c None k
 
@@ -88,11 +88,11 @@ lone_declaration p f d m =
     let apart_before : (e : Declaration) → Among e (declarations w.first) → Meets d e → ⊥ = λ e a. m.apart e (inl (subst (Among e) w.earlier a)) in
     let meets_none : MeetsNone d st.made = λ x a. elim (made_declared x start w.first a) [ inl k ↦ absurd k | inr k ↦ apart_before x.declaration k ] in
     let s : ℕ = length st.symbols in
-    let here : Own table d s d.target.number (act st (declares d)) = own_declare table st d right.0 sound meets_none in
+    let here : Own table d s d.route.target.number (act st (declares d)) = own_declare table st d right.0 sound meets_none in
     let apart_after : AllApart d w.rest = all_apart d w.rest (λ e a. m.apart e (inr (subst (Among e) w.later a))) in
-    let run_own : Own table d s (ends_at d.target.number w.rest) (run (act st (declares d)) w.rest) = own_run table d s d.target.number (act st (declares d)) w.rest apart_after right.1 (sound_act table st (declares d) right.0 sound) here in
+    let run_own : Own table d s (ends_at d.route.target.number w.rest) (run (act st (declares d)) w.rest) = own_run table d s d.route.target.number (act st (declares d)) w.rest apart_after right.1 (sound_act table st (declares d) right.0 sound) here in
     let whole : run start es ≡ run (act st (declares d)) w.rest = ap (run start) w.stands ∙ run-append w.first (declares d ∷ w.rest) start in
-    let own : Own table d s (home d) final = subst (λ x. Own table d s x final) (comes_home table (root_body p f) d w.rest stands_in.0 stands_in.1 at_home.0) (subst (λ x. Own table d s (ends_at d.target.number w.rest) x) (sym whole) run_own) in
+    let own : Own table d s (home d) final = subst (λ x. Own table d s x final) (comes_home table (root_body p f) d w.rest stands_in.0 stands_in.1 at_home.0) (subst (λ x. Own table d s (ends_at d.route.target.number w.rest) x) (sym whole) run_own) in
     let below : home d < length (scopes (steps p)) = omega (arith, sits_within table d (home d) stands_in.0.target.entry own.sits, scopes_length (evals (steps p)) (steps p)) in (
       s,
       record {

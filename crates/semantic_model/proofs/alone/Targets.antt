@@ -15,7 +15,7 @@ module _ (table : List (Option ℕ)) where
   IsOwn chain s = (b : ℕ) → s.body ≡ Some b → s ≡ innermost chain
 
   abbrev pub AllOwn : List OpenScope → List Declaration → Type 0
-  AllOwn chain = EachDeclared (λ d. IsOwn chain d.target)
+  AllOwn chain = EachDeclared (λ d. IsOwn chain d.route.target)
 
   here_own : (chain : List OpenScope) → IsOwn chain (here chain).target
   here_own chain b e = refl
@@ -57,7 +57,7 @@ module _ (table : List (Option ℕ)) where
   IsRouteOwn chain how r = IsOwn chain r.target
 
   pub entering_own : (k : AstType) (p : Place) → AllInTable table p.chain → AllOwn p.chain (declared_by k p)
-  entering_own k p h = each_on_entering (λ d. IsOwn p.chain d.target) (IsRouteOwn p.chain) (λ node row is_pure name o. o) k p (record {
+  entering_own k p h = each_on_entering (λ d. IsOwn p.chain d.route.target) (IsRouteOwn p.chain) (λ node row is_pure name o. o) k p (record {
     at_home = here_own p.chain;
     when_caught = here_own p.chain;
     when_hoisted = λ e. outward_own is_var p.chain var_bodiless h;
@@ -66,8 +66,8 @@ module _ (table : List (Option ℕ)) where
   })
 
   abbrev pub AllBodiless : List Declaration → Type 0
-  AllBodiless = EachDeclared (λ d. d.target.body ≡ None)
+  AllBodiless = EachDeclared (λ d. d.route.target.body ≡ None)
 
   -- an own scope in which something is declared is no clause's
   pub inside_bodiless : (k : AstType) (p : Place) (own : OpenScope) → (same_kind k kind.CatchClause ≡ false → own.body ≡ None) → AllBodiless (declared_inside k p own)
-  inside_bodiless k p own h = each_on_opening (λ d. d.target.body ≡ None) (λ how r. r.target.body ≡ None) (λ node row is_pure name o. o) k p own h
+  inside_bodiless k p own h = each_on_opening (λ d. d.route.target.body ≡ None) (λ how r. r.target.body ≡ None) (λ node row is_pure name o. o) k p own h

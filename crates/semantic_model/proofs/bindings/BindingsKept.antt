@@ -200,24 +200,24 @@ module _ (v : ℕ → ℕ) (table : List (Option ℕ)) (root : slice_get table 0
   bindings_against st d [] = refl
   bindings_against st d (s ∷ ss) = bindings_against (against st d s) d ss
 
-  kept_hoist_by : (st : State) (d : Declaration) (o : Option PassedSymbol) → AllLead v table d.passed d.target.number → ((h : PassedSymbol) → o ≡ Some h → (v h.scope ≡ d.target.number) × ((get st.bindings h.scope d.naming.name ≡ Some h.symbol) ⊎ IsBound st.bindings d.target.number d.naming.name)) → Kept st → Kept (hoist_by st d o)
+  kept_hoist_by : (st : State) (d : Declaration) (o : Option PassedSymbol) → AllLead v table d.route.passed d.route.target.number → ((h : PassedSymbol) → o ≡ Some h → (v h.scope ≡ d.route.target.number) × ((get st.bindings h.scope d.naming.name ≡ Some h.symbol) ⊎ IsBound st.bindings d.route.target.number d.naming.name)) → Kept st → Kept (hoist_by st d o)
   kept_hoist_by st d None l f h =
-      let t : ℕ = d.target.number in
+      let t : ℕ = d.route.target.number in
       let o : Option ℕ = found st t d.naming.name in
-      kept_remembering (declare_in st t d o) d.passed d.naming.name (chosen st o) t l (λ n. declared_bound st t d o refl n h) (kept_declare_in st t d o h)
+      kept_remembering (declare_in st t d o) d.route.passed d.naming.name (chosen st o) t l (λ n. declared_bound st t d o refl n h) (kept_declare_in st t d o h)
   kept_hoist_by st d (Some r) l f h =
-      let t : ℕ = d.target.number in
+      let t : ℕ = d.route.target.number in
       let got : State = note_symbol (record st { symbols = update (redeclared d.naming) st.symbols r.symbol }) d r.symbol in
       let w : Moved (move_symbol got r.scope t d.naming.name r.symbol (get st.bindings t d.naming.name)) t d.naming.name =
       kept_move_symbol got r.scope t d.naming.name r.symbol (get st.bindings t d.naming.name) refl (f r refl).1 (f r refl).0 (kept_finds (redeclared d.naming) st d r.symbol (λ y. (refl, refl)) h) in
-      kept_remembering (move_symbol got r.scope t d.naming.name r.symbol (get st.bindings t d.naming.name)) d.passed d.naming.name r.symbol t l (λ n. w.bound) w.kept
+      kept_remembering (move_symbol got r.scope t d.naming.name r.symbol (get st.bindings t d.naming.name)) d.route.passed d.naming.name r.symbol t l (λ n. w.bound) w.kept
 
-  kept_hoist : (st : State) (d : Declaration) → AllLead v table d.passed d.target.number → Kept st → Kept (hoist st d)
+  kept_hoist : (st : State) (d : Declaration) → AllLead v table d.route.passed d.route.target.number → Kept st → Kept (hoist st d)
   kept_hoist st d l h =
-      let ss : List ℕ = asked_symbols st d.passed d.naming.name in
-      kept_hoist_by (against_all st d ss) d (passed_symbol st d.passed d.naming.name) l
-      (λ r e. let w : LedPassedSymbol st d.naming.name d.target.number r = led_passed_symbol st d.naming.name d.target.number d.passed r l e in
-      (w.near, subst (λ bs. (get bs r.scope d.naming.name ≡ Some r.symbol) ⊎ IsBound bs d.target.number d.naming.name) (sym (bindings_against st d ss)) (found_leads st r.scope d.naming.name r.symbol d.target.number w.near h w.is_found)))
+      let ss : List ℕ = asked_symbols st d.route.passed d.naming.name in
+      kept_hoist_by (against_all st d ss) d (passed_symbol st d.route.passed d.naming.name) l
+      (λ r e. let w : LedPassedSymbol st d.naming.name d.route.target.number r = led_passed_symbol st d.naming.name d.route.target.number d.route.passed r l e in
+      (w.near, subst (λ bs. (get bs r.scope d.naming.name ≡ Some r.symbol) ⊎ IsBound bs d.route.target.number d.naming.name) (sym (bindings_against st d ss)) (found_leads st r.scope d.naming.name r.symbol d.route.target.number w.near h w.is_found)))
       (kept_against_all st d ss h)
 
   -- block functions
@@ -240,15 +240,15 @@ module _ (v : ℕ → ℕ) (table : List (Option ℕ)) (root : slice_get table 0
     | inr k ↦ (let q : None ≡ Some k.0 = sym g ∙ k.1 in absurd cc)
   ]
 
-  kept_by : (how : How) (st : State) (d : Declaration) → IsLed v table how d → Kept st → Kept (declare_by how st d)
-  kept_by plain st d l h = kept_declare_in st d.target.number d (found st d.target.number d.naming.name) h
+  kept_by : (how : How) (st : State) (d : Declaration) → IsLed v table how d.route → Kept st → Kept (declare_by how st d)
+  kept_by plain st d l h = kept_declare_in st d.route.target.number d (found st d.route.target.number d.naming.name) h
   kept_by hoisted st d l h = kept_hoist st d l h
   kept_by moved st d l h =
       let c : ℕ = stands_in d in
-      let t : ℕ = d.target.number in
+      let t : ℕ = d.route.target.number in
       let o : Option ℕ = found st c d.naming.name in
       kept_move_out (declare_in st c d o) c t d.naming.name (chosen st o) (get st.bindings t d.naming.name) l (λ g. bound_in_block st d c t o refl l.near g h) (kept_declare_in st c d o h)
-  kept_by caught st d l h = kept_make st d.target.number d h
+  kept_by caught st d l h = kept_make st d.route.target.number d h
 
   -- a take-over
   kept_take : (st : State) (c b : ℕ) → slice_get table c ≡ Some (Some b) → slice_get table b ≡ Some None → Kept st → Kept (act st (takes_over c b))

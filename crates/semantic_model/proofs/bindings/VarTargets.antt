@@ -1,12 +1,11 @@
 -- Where a `var` or a block function goes out: to the nearest var scope of each scope on the way, which has no body.
 use Rattle.std.proofs.Common.{◌≡◌, ℕ, List, [], ◌∷◌, ◌++◌, Option, Some, None, Bool, true, false, cond, ◌&&◌, ◌||◌, not, refl, sym, ap, ◌∙◌, flat_map, if◌then◌else◌}
 use Rattle.std.specs.Prelude.{slice_get}
-use Rattle.semantic_tree.specs.declared.node.Node.{Node}
 use Rattle.semantic_kinds.specs.declared.kind.AstType.{AstType}
 use Rattle.semantic_syntax.specs.SourceTypes.{is_typescript}
 use Rattle.semantic_model.specs.Place.{Place, OpenScope, innermost, outside, is_strict}
-use Rattle.semantic_model.specs.Declaration.{How, plain, hoisted, moved, caught, Declaration, Route, passed_before, first_with, route_from, outward_to, outward_past, stands_in}
-use Rattle.semantic_model.specs.Binder.{Row, declare, is_var, is_clause, is_special, is_block_function, declared_by, declared_on_entering, declared_inside, declared_on_opening}
+use Rattle.semantic_model.specs.Declaration.{How, plain, hoisted, moved, caught, Declaration, Route, passed_before, first_with, route_from, outward_to, outward_past}
+use Rattle.semantic_model.specs.Binder.{is_var, is_clause, is_special, is_block_function, declared_by, declared_on_entering, declared_inside, declared_on_opening}
 use Rattle.semantic_model.specs.Event.{Event, declares, takes_over, ends_header, is_barred, staying, placed_by, is_catch_body, declares_all, events_of}
 use Rattle.semantic_model.specs.Step.{Step, entering, opening, header_ending, closing, leaving}
 use Rattle.semantic_model.proofs.fold.EachDeclared.{EachDeclared, each_on_entering, each_on_opening}
@@ -26,15 +25,10 @@ module _ (v : ℕ → ℕ) (table : List (Option ℕ)) where
   AllLead (c ∷ cs) t = Leads c.number t × AllLead cs t
 
   -- what is passed on the way
-  abbrev pub IsLed : How → Declaration → Type 0
-  IsLed hoisted d = AllLead d.passed d.target.number
-  IsLed moved d = Leads (stands_in d) d.target.number
-  IsLed _ d = Unit {0}
-
-  abbrev IsRouteLed : How → Route → Type 0
-  IsRouteLed hoisted r = AllLead r.passed r.target.number
-  IsRouteLed moved r = Leads (innermost (r.passed ++ r.target ∷ [])).number r.target.number
-  IsRouteLed _ r = Unit {0}
+  abbrev pub IsLed : How → Route → Type 0
+  IsLed hoisted r = AllLead r.passed r.target.number
+  IsLed moved r = Leads (innermost (r.passed ++ r.target ∷ [])).number r.target.number
+  IsLed _ r = Unit {0}
 
   record Ends (t : ℕ) : Type 0 where
     itself : v t ≡ t
@@ -65,38 +59,29 @@ module _ (v : ℕ → ℕ) (table : List (Option ℕ)) where
       go true e q later = tt
       go false e q later = (record { near = q ∙ ap (λ o. (route_from (s ∷ ss) (s ∷ passed_before is_var ss) o).target.number) e; itself = k.itself; lasts = k.lasts }, later e)
 
-  outward_led : (chain : List OpenScope) → AllNear v chain → AllInTable table chain → IsRouteLed hoisted (outward_to is_var chain)
+  outward_led : (chain : List OpenScope) → AllNear v chain → AllInTable table chain → IsLed hoisted (outward_to is_var chain)
   outward_led chain a h = go (first_with is_var chain) refl (ends_at chain a h)
     where
-      go : (o : Option OpenScope) → first_with is_var chain ≡ o → EndsAt o → IsRouteLed hoisted (route_from chain (passed_before is_var chain) o)
+      go : (o : Option OpenScope) → first_with is_var chain ≡ o → EndsAt o → IsLed hoisted (route_from chain (passed_before is_var chain) o)
       go None e k = tt
       go (Some t) e k = passed_lead chain t e k a
 
   -- past a scope that is neither a function's nor a clause's
-  past_led : (chain : List OpenScope) → v 0 ≡ 0 → slice_get table 0 ≡ Some None → is_var (innermost chain) ≡ false → is_clause (innermost chain) ≡ false → AllNear v chain → AllInTable table chain → IsRouteLed moved (outward_past is_var chain)
+  past_led : (chain : List OpenScope) → v 0 ≡ 0 → slice_get table 0 ≡ Some None → is_var (innermost chain) ≡ false → is_clause (innermost chain) ≡ false → AllNear v chain → AllInTable table chain → IsLed moved (outward_past is_var chain)
   past_led [] z root e f a h = record { near = z; itself = z; lasts = root }
   past_led (s ∷ ss) z root e f a h = go (first_with is_var ss) (ap (λ b. (route_from (s ∷ ss) (cond b [] (s ∷ passed_before is_var ss)) (cond b (Some s) (first_with is_var ss))).target.number) e) (ends_at ss a.1 h.1)
     where
-      go : (o : Option OpenScope) → (route_from (s ∷ ss) (cond (is_var s) [] (s ∷ passed_before is_var ss)) (cond (is_var s) (Some s) (first_with is_var ss))).target.number ≡ (route_from (s ∷ ss) (s ∷ passed_before is_var ss) o).target.number → EndsAt o → IsRouteLed moved (route_from (s ∷ ss) (s ∷ passed_before is_var ss) o)
+      go : (o : Option OpenScope) → (route_from (s ∷ ss) (cond (is_var s) [] (s ∷ passed_before is_var ss)) (cond (is_var s) (Some s) (first_with is_var ss))).target.number ≡ (route_from (s ∷ ss) (s ∷ passed_before is_var ss) o).target.number → EndsAt o → IsLed moved (route_from (s ∷ ss) (s ∷ passed_before is_var ss) o)
       go None q k = record { near = a.0 ∙ q; itself = a.0 ∙ q; lasts = h.0.entry ∙ ap Some (h.0.clause f) }
       go (Some t) q k = record { near = a.0 ∙ q; itself = k.itself; lasts = k.lasts }
 
   -- declarations
   abbrev AllLed : List Declaration → Type 0
-  AllLed = EachDeclared (λ d. IsLed d.how d)
-
-  by_route : (how : How) (d : Declaration) (r : Route) → d.passed ≡ r.passed → d.target ≡ r.target → IsRouteLed how r → IsLed how d
-  by_route plain d r p t h = tt
-  by_route caught d r p t h = tt
-  by_route hoisted d r p t h = rw (p, t) h
-  by_route moved d r p t h = rw (p, t) h
-
-  name_led : (node : Node) (row : Row) (is_pure : Bool) (name : Node) → IsRouteLed row.how row.route → IsLed row.how (declare node row is_pure name)
-  name_led node row is_pure x h = by_route row.how (declare node row is_pure x) row.route refl refl h
+  AllLed = EachDeclared (λ d. IsLed d.how d.route)
 
   abbrev pub AllEventsLed : List Event → Type 0
   AllEventsLed [] = Unit {0}
-  AllEventsLed (declares d ∷ es) = IsLed d.how d × AllEventsLed es
+  AllEventsLed (declares d ∷ es) = IsLed d.how d.route × AllEventsLed es
   AllEventsLed (takes_over c b ∷ es) = AllEventsLed es
   AllEventsLed (ends_header c ∷ es) = AllEventsLed es
 
@@ -109,23 +94,23 @@ module _ (v : ℕ → ℕ) (table : List (Option ℕ)) where
     in_block : (p : Place) → is_block_function p ≡ true → (is_var (innermost p.chain) ≡ false) × (is_clause (innermost p.chain) ≡ false)
     in_block p h = neither (is_var (innermost p.chain)) (is_clause (innermost p.chain)) (second_holds (not (is_special p.node) && not (is_typescript p.source_type) && not (is_strict p.chain)) (not (is_var (innermost p.chain) || is_clause (innermost p.chain))) h)
 
-    moved_led : (p : Place) → AllNear v p.chain → AllInTable table p.chain → is_block_function p ≡ true → IsRouteLed moved (outward_past is_var p.chain)
+    moved_led : (p : Place) → AllNear v p.chain → AllInTable table p.chain → is_block_function p ≡ true → IsLed moved (outward_past is_var p.chain)
     moved_led p a h e = let q : (is_var (innermost p.chain) ≡ false) × (is_clause (innermost p.chain) ≡ false) = in_block p e in past_led p.chain z root q.0 q.1 a h
 
     entering_led : (k : AstType) (p : Place) → AllNear v p.chain → AllInTable table p.chain → AllLed (declared_by k p)
     entering_led k p a h =
-        each_on_entering (λ d. IsLed d.how d) IsRouteLed name_led k p (record { at_home = tt; when_caught = tt; when_hoisted = λ e. outward_led p.chain a h; when_moved = λ e s q. moved_led p a h q; when_inferred = tt })
+        each_on_entering (λ d. IsLed d.how d.route) IsLed (λ node row is_pure name h. h) k p (record { at_home = tt; when_caught = tt; when_hoisted = λ e. outward_led p.chain a h; when_moved = λ e s q. moved_led p a h q; when_inferred = tt })
 
     inside_led : (k : AstType) (p : Place) (own : OpenScope) → AllLed (declared_inside k p own)
-    inside_led k p own = each_on_opening (λ d. IsLed d.how d) IsRouteLed name_led k p own (λ e. tt)
+    inside_led k p own = each_on_opening (λ d. IsLed d.how d.route) IsLed (λ node row is_pure name h. h) k p own (λ e. tt)
 
-    placed_led : (how : How) (ds : List Declaration) (d : Declaration) → d.how ≡ how → IsLed d.how d → IsLed (placed_by how ds d).how (placed_by how ds d)
+    placed_led : (how : How) (ds : List Declaration) (d : Declaration) → d.how ≡ how → IsLed d.how d.route → IsLed (placed_by how ds d).how (placed_by how ds d).route
     placed_led plain ds d e h = h
     placed_led hoisted ds d e h = h
     placed_led caught ds d e h = h
-    placed_led moved ds d e h = go (is_barred ds d (outside d.passed))
+    placed_led moved ds d e h = go (is_barred ds d (outside d.route.passed))
       where
-        go : (b : Bool) → IsLed (if b then staying d else d).how (if b then staying d else d)
+        go : (b : Bool) → IsLed (if b then staying d else d).how (if b then staying d else d).route
         go true = tt
         go false = h
 

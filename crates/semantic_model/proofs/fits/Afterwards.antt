@@ -122,17 +122,17 @@ begin_move_out st c t x s None h = begin_update (in_scope t) st.symbols s (keeps
 begin_move_out st c t x s (Some r) h = h
 
 begin_hoist : (st : State) (d : Declaration) (o : Option PassedSymbol) → AllBegin st.symbols → AllBegin (hoist_by st d o).symbols
-begin_hoist st d None h = begin_declare st d.target.number d (found st d.target.number d.naming.name) h
-begin_hoist st d (Some r) h = begin_move _ r.scope d.target.number d.naming.name r.symbol (get st.bindings d.target.number d.naming.name) (begin_update (redeclared d.naming) st.symbols r.symbol (keeps_redeclared d.naming) h)
+begin_hoist st d None h = begin_declare st d.route.target.number d (found st d.route.target.number d.naming.name) h
+begin_hoist st d (Some r) h = begin_move _ r.scope d.route.target.number d.naming.name r.symbol (get st.bindings d.route.target.number d.naming.name) (begin_update (redeclared d.naming) st.symbols r.symbol (keeps_redeclared d.naming) h)
 
 begin_by : (how : How) (st : State) (d : Declaration) → AllBegin st.symbols → AllBegin (declare_by how st d).symbols
-begin_by plain st d h = begin_declare st d.target.number d (found st d.target.number d.naming.name) h
-begin_by hoisted st d h = begin_hoist (against_all st d (asked_symbols st d.passed d.naming.name)) d (passed_symbol st d.passed d.naming.name) (begin_against st d (asked_symbols st d.passed d.naming.name) h)
+begin_by plain st d h = begin_declare st d.route.target.number d (found st d.route.target.number d.naming.name) h
+begin_by hoisted st d h = begin_hoist (against_all st d (asked_symbols st d.route.passed d.naming.name)) d (passed_symbol st d.route.passed d.naming.name) (begin_against st d (asked_symbols st d.route.passed d.naming.name) h)
 begin_by moved st d h =
     let c : ℕ = stands_in d in
     let o : Option ℕ = found st c d.naming.name in
-    begin_move_out (declare_in st c d o) c d.target.number d.naming.name (chosen st o) (get st.bindings d.target.number d.naming.name) (begin_declare st c d o h)
-begin_by caught st d h = begin_push st.symbols d.target.number d.naming h
+    begin_move_out (declare_in st c d o) c d.route.target.number d.naming.name (chosen st o) (get st.bindings d.route.target.number d.naming.name) (begin_declare st c d o h)
+begin_by caught st d h = begin_push st.symbols d.route.target.number d.naming h
 
 begin_rescoped : (ys : List Symbol) (bs : Bindings) (c : ℕ) → AllBegin ys → AllBegin (rescoped ys bs c)
 begin_rescoped ys [] c h = h

@@ -29,8 +29,8 @@ all_passed : (cs : List OpenScope) (ns : List ℕ) → AllIn (map (λ s. s.numbe
 all_passed [] ns = tt
 all_passed (c ∷ cs) ns = (contains_first c.number (map (λ s. s.number) cs ++ ns), all_in_more c.number (map (λ s. s.number) cs ++ ns) cs (all_passed cs ns))
 
-pub passed_on_path : (d : Declaration) → AllIn (path d) d.passed
-passed_on_path d = all_passed d.passed (d.target.number ∷ body_list d.target.body)
+pub passed_on_path : (d : Declaration) → AllIn (path d) d.route.passed
+passed_on_path d = all_passed d.route.passed (d.route.target.number ∷ body_list d.route.target.body)
 
 pub unless_some : (st : State) (o : Option ℕ) (s : ℕ) → unless_expression (flags_of st) o ≡ Some s → o ≡ Some s
 unless_some st None s h = h
@@ -99,38 +99,38 @@ made_against_all st d (s ∷ ss) = made_against_all (against st d s) d ss
 
 changes_hoist_by : (table : List (Option ℕ)) (a st : State) (d : Declaration) → Sound table st → Changes table d a st → (o : Option PassedSymbol) → ((h : PassedSymbol) → o ≡ Some h → (contains (path d) h.scope ≡ true) × Has st.made h.scope d.naming.name h.symbol) → Changes table d a (hoist_by st d o)
 changes_hoist_by table a st d h m None e =
-    let o : Option ℕ = found st d.target.number d.naming.name in
-    changes_remembering table d a (declare_in st d.target.number d o) d.passed (chosen st o) (passed_on_path d) (among_declare_in st d d.target.number o)
-    (changes_declare_in table a st d d.target.number (at_target refl) h m o refl)
+    let o : Option ℕ = found st d.route.target.number d.naming.name in
+    changes_remembering table d a (declare_in st d.route.target.number d o) d.route.passed (chosen st o) (passed_on_path d) (among_declare_in st d d.route.target.number o)
+    (changes_declare_in table a st d d.route.target.number (at_target refl) h m o refl)
 changes_hoist_by table a st d h m (Some r) e =
     let i : (contains (path d) r.scope ≡ true) × Has st.made r.scope d.naming.name r.symbol = e r refl in
     let got : State = note_symbol (record st { symbols = update (redeclared d.naming) st.symbols r.symbol }) d r.symbol in
     let k : Among (record { declaration = d; symbol = r.symbol }) got.made = among_last (record { declaration = d; symbol = r.symbol }) st.made in
-    let o : Option ℕ = get got.bindings d.target.number d.naming.name in
-    changes_remembering table d a (move_symbol got r.scope d.target.number d.naming.name r.symbol o) d.passed r.symbol (passed_on_path d)
-    (among_move_symbol (record { declaration = d; symbol = r.symbol }) got r.scope d.target.number d.naming.name r.symbol o k)
-    (changes_move_symbol table d a got r.scope d.target.number r.symbol o i.0 (at_target refl) k
+    let o : Option ℕ = get got.bindings d.route.target.number d.naming.name in
+    changes_remembering table d a (move_symbol got r.scope d.route.target.number d.naming.name r.symbol o) d.route.passed r.symbol (passed_on_path d)
+    (among_move_symbol (record { declaration = d; symbol = r.symbol }) got r.scope d.route.target.number d.naming.name r.symbol o k)
+    (changes_move_symbol table d a got r.scope d.route.target.number r.symbol o i.0 (at_target refl) k
     (more m (finds st (redeclared d.naming) r.scope r.symbol (λ y. refl) i.0 i.1)))
 
 changes_hoist : (table : List (Option ℕ)) (st : State) (d : Declaration) → Sound table st → Changes table d st (hoist st d)
 changes_hoist table st d h =
-    let noted : State = against_all st d (asked_symbols st d.passed d.naming.name) in
-    let m : Changes table d st noted = changes_against_all table st st d (asked_symbols st d.passed d.naming.name) (none st) in
-    changes_hoist_by table st noted d (sound-changes table d m h) m (passed_symbol st d.passed d.naming.name)
-    (λ r e. let i : IsPassedSymbol st (path d) d.naming.name r = is_passed_symbol st (path d) d.naming.name d.passed r (passed_on_path d) e in
-    (i.inside, subst (λ ms. Has ms r.scope d.naming.name r.symbol) (sym (made_against_all st d (asked_symbols st d.passed d.naming.name))) (has_found table st r.scope d.naming.name r.symbol h i.is_found)))
+    let noted : State = against_all st d (asked_symbols st d.route.passed d.naming.name) in
+    let m : Changes table d st noted = changes_against_all table st st d (asked_symbols st d.route.passed d.naming.name) (none st) in
+    changes_hoist_by table st noted d (sound-changes table d m h) m (passed_symbol st d.route.passed d.naming.name)
+    (λ r e. let i : IsPassedSymbol st (path d) d.naming.name r = is_passed_symbol st (path d) d.naming.name d.route.passed r (passed_on_path d) e in
+    (i.inside, subst (λ ms. Has ms r.scope d.naming.name r.symbol) (sym (made_against_all st d (asked_symbols st d.route.passed d.naming.name))) (has_found table st r.scope d.naming.name r.symbol h i.is_found)))
 
 -- what is moved out of a block is the symbol itself, or nothing
 abbrev pub IsMovable : State → ℕ → Name → ℕ → Type 0
 IsMovable st c x s = (get st.bindings c x ≡ Some s) ⊎ (get st.bindings c x ≡ None)
 
-changes_move_out : (table : List (Option ℕ)) (d : Declaration) (a st : State) (c s : ℕ) (o : Option ℕ) → contains (path d) c ≡ true → IsMovable st c d.naming.name s → Among (record { declaration = d; symbol = s }) st.made → Changes table d a st → Changes table d a (move_out st c d.target.number d.naming.name s o)
+changes_move_out : (table : List (Option ℕ)) (d : Declaration) (a st : State) (c s : ℕ) (o : Option ℕ) → contains (path d) c ≡ true → IsMovable st c d.naming.name s → Among (record { declaration = d; symbol = s }) st.made → Changes table d a st → Changes table d a (move_out st c d.route.target.number d.naming.name s o)
 changes_move_out table d a st c s (Some r) p g k m = m
 changes_move_out table d a st c s None p (inl g) k m =
-    rw (g, move) (more (more (more m (unbinds st c p)) (binds (record st { bindings = remove st.bindings c d.naming.name }) d.target.number s (at_target refl) k))
-    (remembers (record st { bindings = put (remove st.bindings c d.naming.name) d.target.number d.naming.name s; symbols = update (in_scope d.target.number) st.symbols s }) c s p k))
+    rw (g, move) (more (more (more m (unbinds st c p)) (binds (record st { bindings = remove st.bindings c d.naming.name }) d.route.target.number s (at_target refl) k))
+    (remembers (record st { bindings = put (remove st.bindings c d.naming.name) d.route.target.number d.naming.name s; symbols = update (in_scope d.route.target.number) st.symbols s }) c s p k))
 changes_move_out table d a st c s None p (inr g) k m =
-    rw (g, move) (more (more m (rescopes st d.target.number s k)) (remembers (record st { symbols = update (in_scope d.target.number) st.symbols s }) c s p k))
+    rw (g, move) (more (more m (rescopes st d.route.target.number s k)) (remembers (record st { symbols = update (in_scope d.route.target.number) st.symbols s }) c s p k))
 
 -- a scope binds the symbol that was found in it, or remembers it
 found_movable : (st : State) (c : ℕ) (x : Name) (s : ℕ) → found st c x ≡ Some s → IsMovable st c x s
@@ -150,15 +150,15 @@ StandsInBlock table moved d = slice_get table (stands_in d) ≡ Some None
 StandsInBlock table _ d = Unit {0}
 
 changes_by : (table : List (Option ℕ)) (how : How) (st : State) (d : Declaration) → StandsInBlock table how d → Sound table st → Changes table d st (declare_by how st d)
-changes_by table plain st d b h = changes_declare_in table st st d d.target.number (at_target refl) h (none st) (found st d.target.number d.naming.name) refl
+changes_by table plain st d b h = changes_declare_in table st st d d.route.target.number (at_target refl) h (none st) (found st d.route.target.number d.naming.name) refl
 changes_by table hoisted st d b h = changes_hoist table st d h
 changes_by table moved st d b h =
     let c : ℕ = stands_in d in
     let o : Option ℕ = found st c d.naming.name in
     let sits : Sits table d c = at_block refl b in
-    changes_move_out table d st (declare_in st c d o) c (chosen st o) (get st.bindings d.target.number d.naming.name) (on_path table d c sits)
+    changes_move_out table d st (declare_in st c d o) c (chosen st o) (get st.bindings d.route.target.number d.naming.name) (on_path table d c sits)
     (declared_movable st d c o refl) (among_declare_in st d c o) (changes_declare_in table st st d c sits h (none st) o refl)
-changes_by table caught st d b h = more (none st) (makes st d.target.number (at_target refl))
+changes_by table caught st d b h = more (none st) (makes st d.route.target.number (at_target refl))
 
 pub changes_declare : (table : List (Option ℕ)) (st : State) (d : Declaration) → StandsInBlock table d.how d → Sound table st → Changes table d st (act st (declares d))
 changes_declare table st d b h = changes_by table d.how st d b h

@@ -14,23 +14,23 @@ use Rattle.semantic_model.proofs.lists.Members.{among_left, contains_right, cont
 -- Scope c may bind the name of the declaration: its target, the body of that, or a block where it stands.
 -- The table has for each scope the number of its body, if it is a catch clause's.
 pub data Sits (table : List (Option ℕ)) (d : Declaration) (c : ℕ) : Type 0 where
-  at_target : d.target.number ≡ c → Sits table d c
-  at_body : d.target.body ≡ Some c → slice_get table c ≡ Some None → Sits table d c
+  at_target : d.route.target.number ≡ c → Sits table d c
+  at_body : d.route.target.body ≡ Some c → slice_get table c ≡ Some None → Sits table d c
   at_block : stands_in d ≡ c → slice_get table c ≡ Some None → Sits table d c
 
-standing_on_path : (passed : List OpenScope) (d : Declaration) → d.passed ≡ passed → contains (path d) (stands_in d) ≡ true
-standing_on_path [] d e = rw e (contains_first d.target.number (body_list d.target.body))
-standing_on_path (s ∷ ss) d e = rw e (contains_first s.number (map (λ t. t.number) ss ++ d.target.number ∷ body_list d.target.body))
+standing_on_path : (passed : List OpenScope) (d : Declaration) → d.route.passed ≡ passed → contains (path d) (stands_in d) ≡ true
+standing_on_path [] d e = rw e (contains_first d.route.target.number (body_list d.route.target.body))
+standing_on_path (s ∷ ss) d e = rw e (contains_first s.number (map (λ t. t.number) ss ++ d.route.target.number ∷ body_list d.route.target.body))
 
 body_on_path : (n c : ℕ) → contains (n ∷ c ∷ []) c ≡ true
 body_on_path n c = grind (arith, eqb_tells n c, eqb_tells c c)
 
 pub on_path : (table : List (Option ℕ)) (d : Declaration) (c : ℕ) → Sits table d c → contains (path d) c ≡ true
 on_path table d c (at_target e) =
-    subst (λ n. contains (path d) n ≡ true) e (contains_right (map (λ t. t.number) d.passed) (d.target.number ∷ body_list d.target.body) d.target.number (contains_first d.target.number (body_list d.target.body)))
+    subst (λ n. contains (path d) n ≡ true) e (contains_right (map (λ t. t.number) d.route.passed) (d.route.target.number ∷ body_list d.route.target.body) d.route.target.number (contains_first d.route.target.number (body_list d.route.target.body)))
 on_path table d c (at_body e k) =
-    contains_right (map (λ t. t.number) d.passed) (d.target.number ∷ body_list d.target.body) c (rw e (body_on_path d.target.number c))
-on_path table d c (at_block e k) = subst (λ n. contains (path d) n ≡ true) e (standing_on_path d.passed d refl)
+    contains_right (map (λ t. t.number) d.route.passed) (d.route.target.number ∷ body_list d.route.target.body) c (rw e (body_on_path d.route.target.number c))
+on_path table d c (at_block e k) = subst (λ n. contains (path d) n ≡ true) e (standing_on_path d.route.passed d refl)
 
 -- a declaration of name x that may be bound in scope c got symbol s
 pub record Holds (table : List (Option ℕ)) (ms : List Made) (c : ℕ) (x : Name) (s : ℕ) : Type 0 where

@@ -19,8 +19,8 @@ use Rattle.semantic_model.proofs.form.Clauses.{second_holds}
 module _ (table : List (Option ℕ)) (root : slice_get table 0 ≡ Some None) where
   -- the target and the passed scopes stand in the table
   pub record IsDeclaredIn (d : Declaration) : Type 0 where
-    pub target : InTable table d.target
-    pub passed : AllInTable table d.passed
+    pub target : InTable table d.route.target
+    pub passed : AllInTable table d.route.passed
     pub block : StandsInBlock table d.how d
 
   abbrev pub AllDeclared : List Declaration → Type 0
@@ -40,14 +40,14 @@ module _ (table : List (Option ℕ)) (root : slice_get table 0 ≡ Some None) wh
     passed : AllInTable table r.passed
     begins : Begins how r
 
-  stands : (how : How) (d : Declaration) (r : Route) → d.passed ≡ r.passed → d.target ≡ r.target → Begins how r → StandsInBlock table how d
-  stands plain d r p t b = tt
-  stands hoisted d r p t b = tt
-  stands caught d r p t b = tt
-  stands moved d r p t b = rw (p, t) b
+  stands : (how : How) (d : Declaration) → Begins how d.route → StandsInBlock table how d
+  stands plain d b = tt
+  stands hoisted d b = tt
+  stands caught d b = tt
+  stands moved d b = b
 
   name_in : (node : Node) (row : Row) (is_pure : Bool) (name : Node) → IsRouteIn row.how row.route → IsDeclaredIn (declare node row is_pure name)
-  name_in node row is_pure x h = record { target = h.target; passed = h.passed; block = stands row.how (declare node row is_pure x) row.route refl refl h.begins }
+  name_in node row is_pure x h = record { target = h.target; passed = h.passed; block = stands row.how (declare node row is_pure x) h.begins }
 
   here_in : (chain : List OpenScope) → AllInTable table chain → IsRouteIn plain (here chain)
   here_in chain h = record { target = innermost_in chain h; passed = tt; begins = tt }
@@ -115,7 +115,7 @@ module _ (table : List (Option ℕ)) (root : slice_get table 0 ≡ Some None) wh
   pub inside_in : (k : AstType) (p : Place) (own : OpenScope) → InTable table own → AllDeclared (declared_inside k p own)
   inside_in k p own h = each_on_opening IsDeclaredIn IsRouteIn name_in k p own (λ e. record { target = h; passed = tt; begins = tt })
 
-  pub stands_in_table : (passed : List OpenScope) (d : Declaration) → d.passed ≡ passed → IsDeclaredIn d → InTable table (scope_it_stands_in d)
+  pub stands_in_table : (passed : List OpenScope) (d : Declaration) → d.route.passed ≡ passed → IsDeclaredIn d → InTable table (scope_it_stands_in d)
   stands_in_table [] d e h = rw e h.target
   stands_in_table (s ∷ ss) d e h = let a : AllInTable table (s ∷ ss) = subst (AllInTable table) e h.passed in rw e a.0
 
@@ -123,10 +123,10 @@ module _ (table : List (Option ℕ)) (root : slice_get table 0 ≡ Some None) wh
   placed_in plain ds d h = h
   placed_in hoisted ds d h = h
   placed_in caught ds d h = h
-  placed_in moved ds d h = go (is_barred ds d (outside d.passed))
+  placed_in moved ds d h = go (is_barred ds d (outside d.route.passed))
     where
       go : (b : Bool) → IsDeclaredIn (if b then staying d else d)
-      go true = record { target = stands_in_table d.passed d refl h; passed = tt; block = tt }
+      go true = record { target = stands_in_table d.route.passed d refl h; passed = tt; block = tt }
       go false = h
 
   abbrev pub IsEventIn : Event → Type 0

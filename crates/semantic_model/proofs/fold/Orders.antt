@@ -45,22 +45,22 @@ made_move_out st c t x s None = refl
 made_move_out st c t x s (Some r) = refl
 
 adds_hoist : (st : State) (d : Declaration) (o : Option PassedSymbol) → Adds st.made d (hoist_by st d o).made
-adds_hoist st d None = record { symbol = chosen st (found st d.target.number d.naming.name); adds = made_declare_in st d.target.number d (found st d.target.number d.naming.name) }
+adds_hoist st d None = record { symbol = chosen st (found st d.route.target.number d.naming.name); adds = made_declare_in st d.route.target.number d (found st d.route.target.number d.naming.name) }
 adds_hoist st d (Some h) =
     let got : State = note_symbol (record st { symbols = update (redeclared d.naming) st.symbols h.symbol }) d h.symbol in
-    record { symbol = h.symbol; adds = made_move_symbol got h.scope d.target.number d.naming.name h.symbol (get got.bindings d.target.number d.naming.name) }
+    record { symbol = h.symbol; adds = made_move_symbol got h.scope d.route.target.number d.naming.name h.symbol (get got.bindings d.route.target.number d.naming.name) }
 
 adds_by : (how : How) (st : State) (d : Declaration) → Adds st.made d (declare_by how st d).made
-adds_by plain st d = record { symbol = chosen st (found st d.target.number d.naming.name); adds = made_declare_in st d.target.number d (found st d.target.number d.naming.name) }
+adds_by plain st d = record { symbol = chosen st (found st d.route.target.number d.naming.name); adds = made_declare_in st d.route.target.number d (found st d.route.target.number d.naming.name) }
 adds_by hoisted st d =
-    let noted : State = against_all st d (asked_symbols st d.passed d.naming.name) in
-    subst (λ ms. Adds ms d (hoist_by noted d (passed_symbol st d.passed d.naming.name)).made) (made_against_all st d (asked_symbols st d.passed d.naming.name)) (adds_hoist noted d (passed_symbol st d.passed d.naming.name))
+    let noted : State = against_all st d (asked_symbols st d.route.passed d.naming.name) in
+    subst (λ ms. Adds ms d (hoist_by noted d (passed_symbol st d.route.passed d.naming.name)).made) (made_against_all st d (asked_symbols st d.route.passed d.naming.name)) (adds_hoist noted d (passed_symbol st d.route.passed d.naming.name))
 adds_by moved st d =
     let c : ℕ = stands_in d in
     let o : Option ℕ = found st c d.naming.name in
     record {
       symbol = chosen st o;
-      adds = made_move_out (declare_in st c d o) c d.target.number d.naming.name (chosen st o) (get st.bindings d.target.number d.naming.name) ∙ made_declare_in st c d o;
+      adds = made_move_out (declare_in st c d o) c d.route.target.number d.naming.name (chosen st o) (get st.bindings d.route.target.number d.naming.name) ∙ made_declare_in st c d o;
     }
 adds_by caught st d = record { symbol = length st.symbols; adds = refl }
 

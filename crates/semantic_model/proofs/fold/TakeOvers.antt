@@ -18,17 +18,17 @@ use Rattle.semantic_model.proofs.fold.Actions.{StandsInBlock, changes_declare}
 pub record Ready (table : List (Option ℕ)) (ms : List Made) (c b : ℕ) : Type 0 where
   pub clause : slice_get table c ≡ Some (Some b)
   pub body : slice_get table b ≡ Some None
-  pub targets : (m : Made) → Among m ms → slice_get table m.declaration.target.number ≡ Some m.declaration.target.body
+  pub targets : (m : Made) → Among m ms → slice_get table m.declaration.route.target.number ≡ Some m.declaration.route.target.body
 
 pub two : (table : List (Option ℕ)) (ms : List Made) (c b : ℕ) → Ready table ms c b → c ≡ b → ⊥
 two table ms c b r e = let q : slice_get table b ≡ Some (Some b) = subst (λ n. slice_get table n ≡ Some (Some b)) e r.clause in
     let k : Some (Some b) ≡ Some None = sym q ∙ r.body in absurd cc
 
 -- what may be bound in the clause may be bound in its body
-pub sits_closed : (table : List (Option ℕ)) (d : Declaration) (c b : ℕ) → slice_get table c ≡ Some (Some b) → slice_get table b ≡ Some None → slice_get table d.target.number ≡ Some d.target.body → Sits table d c → Sits table d b
+pub sits_closed : (table : List (Option ℕ)) (d : Declaration) (c b : ℕ) → slice_get table c ≡ Some (Some b) → slice_get table b ≡ Some None → slice_get table d.route.target.number ≡ Some d.route.target.body → Sits table d c → Sits table d b
 sits_closed table d c b e f t (at_target k) =
-    let q : Some d.target.body ≡ Some (Some b) = sym t ∙ subst (λ n. slice_get table n ≡ Some (Some b)) (sym k) e in
-    let w : d.target.body ≡ Some b = cc in
+    let q : Some d.route.target.body ≡ Some (Some b) = sym t ∙ subst (λ n. slice_get table n ≡ Some (Some b)) (sym k) e in
+    let w : d.route.target.body ≡ Some b = cc in
     at_body w f
 sits_closed table d c b e f t (at_body k h) = let q : Some (Some b) ≡ Some None = sym e ∙ h in absurd cc
 sits_closed table d c b e f t (at_block k h) = let q : Some (Some b) ≡ Some None = sym e ∙ h in absurd cc

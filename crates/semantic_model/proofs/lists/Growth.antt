@@ -53,19 +53,19 @@ move_symbol_grows st c t x s None h b =
 
 hoist_grows : (st : State) (d : Declaration) (o : Option PassedSymbol) → IsPassedSymbolBelow (length st.symbols) o → IsSound st → Grows st (hoist_by st d o)
 hoist_grows st d None h b =
-    let o : Option ℕ = found st d.target.number d.naming.name in
-    let next : State = declare_in st d.target.number d o in
-    let g : Grows st next = declare_grows st d.target.number d o b in
+    let o : Option ℕ = found st d.route.target.number d.naming.name in
+    let next : State = declare_in st d.route.target.number d o in
+    let g : Grows st next = declare_grows st d.route.target.number d o b in
     then_grows st next (hoist_by st d None) g
-    (remembering_grows next d.passed d.naming.name (chosen st o) (chosen_below st d.target.number d o (found_below (length st.symbols) st d.target.number d.naming.name b)) g.sound)
+    (remembering_grows next d.route.passed d.naming.name (chosen st o) (chosen_below st d.route.target.number d o (found_below (length st.symbols) st d.route.target.number d.naming.name b)) g.sound)
 hoist_grows st d (Some passed_symbol) h b =
     let next : State = note_symbol (record st { symbols = update (redeclared d.naming) st.symbols passed_symbol.symbol }) d passed_symbol.symbol in
     let g : Grows st next = same_grows st next (update_length (redeclared d.naming) st.symbols passed_symbol.symbol) b.bindings b.remembered in
-    let last : State = move_symbol next passed_symbol.scope d.target.number d.naming.name passed_symbol.symbol (get next.bindings d.target.number d.naming.name) in
+    let last : State = move_symbol next passed_symbol.scope d.route.target.number d.naming.name passed_symbol.symbol (get next.bindings d.route.target.number d.naming.name) in
     let there : passed_symbol.symbol < length next.symbols = omega (arith, h, g.longer) in
-    let g' : Grows next last = move_symbol_grows next passed_symbol.scope d.target.number d.naming.name passed_symbol.symbol (get next.bindings d.target.number d.naming.name) there g.sound in
+    let g' : Grows next last = move_symbol_grows next passed_symbol.scope d.route.target.number d.naming.name passed_symbol.symbol (get next.bindings d.route.target.number d.naming.name) there g.sound in
     then_grows st last (hoist_by st d (Some passed_symbol)) (then_grows st next last g g')
-    (remembering_grows last d.passed d.naming.name passed_symbol.symbol (omega (arith, there, g'.longer)) g'.sound)
+    (remembering_grows last d.route.passed d.naming.name passed_symbol.symbol (omega (arith, there, g'.longer)) g'.sound)
 
 move_out_grows : (st : State) (c t : ℕ) (x : Name) (s : ℕ) (o : Option ℕ) → s < length st.symbols → IsSound st → Grows st (move_out st c t x s o)
 move_out_grows st c t x s (Some r) h b = no_growth st b
@@ -82,20 +82,20 @@ passed_symbol_more k m None h b = tt
 passed_symbol_more k m (Some x) h b = omega (arith, h, b)
 
 declare_by_grows : (how : How) (st : State) (d : Declaration) → IsSound st → Grows st (declare_by how st d)
-declare_by_grows plain st d b = declare_grows st d.target.number d (found st d.target.number d.naming.name) b
+declare_by_grows plain st d b = declare_grows st d.route.target.number d (found st d.route.target.number d.naming.name) b
 declare_by_grows hoisted st d b =
-    let noted : State = against_all st d (asked_symbols st d.passed d.naming.name) in
-    let g : Grows st noted = against_grows st d (asked_symbols st d.passed d.naming.name) b in
+    let noted : State = against_all st d (asked_symbols st d.route.passed d.naming.name) in
+    let g : Grows st noted = against_grows st d (asked_symbols st d.route.passed d.naming.name) b in
     then_grows st noted (hoist st d) g
-    (hoist_grows noted d (passed_symbol st d.passed d.naming.name) (passed_symbol_more (length st.symbols) (length noted.symbols) (passed_symbol st d.passed d.naming.name) g.longer (passed_symbol_below (length st.symbols) st d.passed d.naming.name b)) g.sound)
+    (hoist_grows noted d (passed_symbol st d.route.passed d.naming.name) (passed_symbol_more (length st.symbols) (length noted.symbols) (passed_symbol st d.route.passed d.naming.name) g.longer (passed_symbol_below (length st.symbols) st d.route.passed d.naming.name b)) g.sound)
 declare_by_grows moved st d b =
     let c : ℕ = stands_in d in
     let o : Option ℕ = found st c d.naming.name in
     let next : State = declare_in st c d o in
     let g : Grows st next = declare_grows st c d o b in
     then_grows st next (move_function st d) g
-    (move_out_grows next c d.target.number d.naming.name (chosen st o) (get st.bindings d.target.number d.naming.name) (chosen_below st c d o (found_below (length st.symbols) st c d.naming.name b)) g.sound)
-declare_by_grows caught st d b = make_grows st d.target.number d b
+    (move_out_grows next c d.route.target.number d.naming.name (chosen st o) (get st.bindings d.route.target.number d.naming.name) (chosen_below st c d o (found_below (length st.symbols) st c d.naming.name b)) g.sound)
+declare_by_grows caught st d b = make_grows st d.route.target.number d b
 
 pub rescoped_length : (ys : List Symbol) (bs : Bindings) (c : ℕ) → length (rescoped ys bs c) ≡ length ys
 rescoped_length ys [] c = refl

@@ -85,7 +85,7 @@ module _ (f : Name → Name) (keeps : Keeps f) where
   barred_same ds d (c ∷ cs) = λ i. any_bars_same d c ds i || barred_same ds d cs i
 
   placed_same : (how : How) (ds : List Declaration) (d : Declaration) → placed_by how (ren f keeps ds) (renamed_declaration f d) ≡ renamed_declaration f (placed_by how ds d)
-  placed_same moved ds d = ap (λ b. if b then staying (renamed_declaration f d) else renamed_declaration f d) (barred_same ds d (outside d.passed)) ∙ go (is_barred ds d (outside d.passed))
+  placed_same moved ds d = ap (λ b. if b then staying (renamed_declaration f d) else renamed_declaration f d) (barred_same ds d (outside d.route.passed)) ∙ go (is_barred ds d (outside d.route.passed))
     where
       go : (b : Bool) → (if b then staying (renamed_declaration f d) else renamed_declaration f d) ≡ renamed_declaration f (if b then staying d else d)
       go true = refl

@@ -199,25 +199,25 @@ module _ (f : Name → Name) (keeps : Keeps f) where
 
   hoist_by_same : (st : State) (d : Declaration) (o : Option PassedSymbol) → hoist_by (state st) (declaration d) o ≡ state (hoist_by st d o)
   hoist_by_same st d None =
-      let t : ℕ = d.target.number in
+      let t : ℕ = d.route.target.number in
       let o : Option ℕ = found st t d.naming.name in
-      ap (λ w. remembering (declare_in (state st) t (declaration d) w) d.passed (f d.naming.name) (chosen (state st) w)) (found_same st t d.naming.name)
-      ∙ (λ i. remembering (declare_in_same st t d o i) d.passed (f d.naming.name) (chosen_same st o i))
-      ∙ remembering_same (declare_in st t d o) d.passed d.naming.name (chosen st o)
+      ap (λ w. remembering (declare_in (state st) t (declaration d) w) d.route.passed (f d.naming.name) (chosen (state st) w)) (found_same st t d.naming.name)
+      ∙ (λ i. remembering (declare_in_same st t d o i) d.route.passed (f d.naming.name) (chosen_same st o i))
+      ∙ remembering_same (declare_in st t d o) d.route.passed d.naming.name (chosen st o)
   hoist_by_same st d (Some h) =
-      let t : ℕ = d.target.number in
+      let t : ℕ = d.route.target.number in
       let got : State = note_symbol (record st { symbols = update (redeclared d.naming) st.symbols h.symbol }) d h.symbol in
       let o : Option ℕ = get st.bindings t d.naming.name in
-      ap (λ w. remembering (move_symbol w h.scope t (f d.naming.name) h.symbol (get w.bindings t (f d.naming.name))) d.passed (f d.naming.name) h.symbol) (finds_same (redeclared d.naming) (redeclared (declaration d).naming) (redeclared_same d) st d h.symbol)
-      ∙ ap (λ w. remembering (move_symbol (state got) h.scope t (f d.naming.name) h.symbol w) d.passed (f d.naming.name) h.symbol) (get_same st.bindings t d.naming.name)
-      ∙ ap (λ w. remembering w d.passed (f d.naming.name) h.symbol) (move_symbol_same got h.scope t d.naming.name h.symbol o)
-      ∙ remembering_same (move_symbol got h.scope t d.naming.name h.symbol o) d.passed d.naming.name h.symbol
+      ap (λ w. remembering (move_symbol w h.scope t (f d.naming.name) h.symbol (get w.bindings t (f d.naming.name))) d.route.passed (f d.naming.name) h.symbol) (finds_same (redeclared d.naming) (redeclared (declaration d).naming) (redeclared_same d) st d h.symbol)
+      ∙ ap (λ w. remembering (move_symbol (state got) h.scope t (f d.naming.name) h.symbol w) d.route.passed (f d.naming.name) h.symbol) (get_same st.bindings t d.naming.name)
+      ∙ ap (λ w. remembering w d.route.passed (f d.naming.name) h.symbol) (move_symbol_same got h.scope t d.naming.name h.symbol o)
+      ∙ remembering_same (move_symbol got h.scope t d.naming.name h.symbol o) d.route.passed d.naming.name h.symbol
 
   hoist_same : (st : State) (d : Declaration) → hoist (state st) (declaration d) ≡ state (hoist st d)
   hoist_same st d =
-      (λ i. hoist_by (against_all (state st) (declaration d) (asked_same st d.passed d.naming.name i)) (declaration d) (passed_symbol_same st d.passed d.naming.name i))
-      ∙ ap (λ w. hoist_by w (declaration d) (passed_symbol st d.passed d.naming.name)) (against_all_same st d (asked_symbols st d.passed d.naming.name))
-      ∙ hoist_by_same (against_all st d (asked_symbols st d.passed d.naming.name)) d (passed_symbol st d.passed d.naming.name)
+      (λ i. hoist_by (against_all (state st) (declaration d) (asked_same st d.route.passed d.naming.name i)) (declaration d) (passed_symbol_same st d.route.passed d.naming.name i))
+      ∙ ap (λ w. hoist_by w (declaration d) (passed_symbol st d.route.passed d.naming.name)) (against_all_same st d (asked_symbols st d.route.passed d.naming.name))
+      ∙ hoist_by_same (against_all st d (asked_symbols st d.route.passed d.naming.name)) d (passed_symbol st d.route.passed d.naming.name)
 
   move_out_same : (st : State) (c t : ℕ) (x : Name) (s : ℕ) (o : Option ℕ) → move_out (state st) c t (f x) s o ≡ state (move_out st c t x s o)
   move_out_same st c t x s (Some r) = refl
@@ -229,18 +229,18 @@ module _ (f : Name → Name) (keeps : Keeps f) where
 
   declare_by_same : (how : How) (st : State) (d : Declaration) → declare_by how (state st) (declaration d) ≡ state (declare_by how st d)
   declare_by_same plain st d =
-      ap (declare_in (state st) d.target.number (declaration d)) (found_same st d.target.number d.naming.name)
-      ∙ declare_in_same st d.target.number d (found st d.target.number d.naming.name)
+      ap (declare_in (state st) d.route.target.number (declaration d)) (found_same st d.route.target.number d.naming.name)
+      ∙ declare_in_same st d.route.target.number d (found st d.route.target.number d.naming.name)
   declare_by_same hoisted st d = hoist_same st d
   declare_by_same moved st d =
       let c : ℕ = stands_in d in
-      let t : ℕ = d.target.number in
+      let t : ℕ = d.route.target.number in
       let o : Option ℕ = found st c d.naming.name in
       let w : Option ℕ = get st.bindings t d.naming.name in
       (λ i. move_out (declare_in (state st) c (declaration d) (found_same st c d.naming.name i)) c t (f d.naming.name) (chosen (state st) (found_same st c d.naming.name i)) (get_same st.bindings t d.naming.name i))
       ∙ (λ i. move_out (declare_in_same st c d o i) c t (f d.naming.name) (chosen_same st o i) w)
       ∙ move_out_same (declare_in st c d o) c t d.naming.name (chosen st o) w
-  declare_by_same caught st d = make_same st d.target.number d
+  declare_by_same caught st d = make_same st d.route.target.number d
 
   -- a take-over
   rescoped_same : (ys : List Symbol) (bs : Bindings) (c : ℕ) → rescoped (symbols ys) (map (renamed_key f) bs) c ≡ symbols (rescoped ys bs c)

@@ -32,10 +32,10 @@ use Rattle.walk_model.proofs.places.Routes.{grounded, IsWay, GoesOut, AllGoOut, 
 use Rattle.walk_model.proofs.places.Grounds.{IsGrounded, IsStepGrounded, AllGrounded, all_grounded}
 
 -- where a block function stands is passed
-stands_apart : (n : ℕ) (d : Declaration) (passed : List OpenScope) (rest : List OpenScope) → d.passed ≡ passed → (passed ≡ [] → ⊥) → Descends n (passed ++ d.target ∷ rest) → (stands_in d < n) × (stands_in d ≡ d.target.number → ⊥)
+stands_apart : (n : ℕ) (d : Declaration) (passed : List OpenScope) (rest : List OpenScope) → d.route.passed ≡ passed → (passed ≡ [] → ⊥) → Descends n (passed ++ d.route.target ∷ rest) → (stands_in d < n) × (stands_in d ≡ d.route.target.number → ⊥)
 stands_apart n d [] rest e l h = absurd (l refl)
 stands_apart n d (s ∷ ss) rest e l h =
-    let below : d.target.number < s.number = target_below s.number ss d.target rest h.1 in
+    let below : d.route.target.number < s.number = target_below s.number ss d.route.target rest h.1 in
     rw e (h.0, λ q. absurd (omega (arith, below, q)))
 
 -- each passed scope is open
@@ -45,18 +45,18 @@ all_passed n (s ∷ ss) target rest h =
     let below : target.number < s.number = target_below s.number ss target rest h.1 in
     (h.0, λ e. absurd (omega (arith, below, e)), passed_apart n ss target rest s.number h.0 h.1)
 
-declare_by_as : (how : How) (n : ℕ) (chain : List OpenScope) (w : WalkState) (st : State) (d : Declaration) → IsWay chain how d.passed d.target → Descends n (grounded chain) → Represents n w st → Represents n (walk.declare_by how w d) (declare_by how st d)
+declare_by_as : (how : How) (n : ℕ) (chain : List OpenScope) (w : WalkState) (st : State) (d : Declaration) → IsWay chain how d.route.passed d.route.target → Descends n (grounded chain) → Represents n w st → Represents n (walk.declare_by how w d) (declare_by how st d)
 declare_by_as plain n chain w st d g k h =
-    represents_declare n w st d.target.number d (target_below n d.passed d.target g.rest (subst (Descends n) (sym g.is) k)) h
+    represents_declare n w st d.route.target.number d (target_below n d.route.passed d.route.target g.rest (subst (Descends n) (sym g.is) k)) h
 declare_by_as caught n chain w st d g k h =
-    represents_make n w st d.target.number d (target_below n d.passed d.target g.rest (subst (Descends n) (sym g.is) k)) h
+    represents_make n w st d.route.target.number d (target_below n d.route.passed d.route.target g.rest (subst (Descends n) (sym g.is) k)) h
 declare_by_as hoisted n chain w st d g k h =
-    let down : Descends n (d.passed ++ d.target ∷ g.rest) = subst (Descends n) (sym g.is) k in
-    hoist_as n w st d (target_below n d.passed d.target g.rest down) (all_passed n d.passed d.target g.rest down) h
+    let down : Descends n (d.route.passed ++ d.route.target ∷ g.rest) = subst (Descends n) (sym g.is) k in
+    hoist_as n w st d (target_below n d.route.passed d.route.target g.rest down) (all_passed n d.route.passed d.route.target g.rest down) h
 declare_by_as moved n chain w st d g k h =
-    let down : Descends n (d.passed ++ d.target ∷ g.rest) = subst (Descends n) (sym g.is) k in
-    let q : (stands_in d < n) × (stands_in d ≡ d.target.number → ⊥) = stands_apart n d d.passed g.rest refl g.leaves down in
-    declare_and_move_as n w st d q.0 (target_below n d.passed d.target g.rest down) q.1 h
+    let down : Descends n (d.route.passed ++ d.route.target ∷ g.rest) = subst (Descends n) (sym g.is) k in
+    let q : (stands_in d < n) × (stands_in d ≡ d.route.target.number → ⊥) = stands_apart n d d.route.passed g.rest refl g.leaves down in
+    declare_and_move_as n w st d q.0 (target_below n d.route.passed d.route.target g.rest down) q.1 h
 
 pub declares_as : (n : ℕ) (chain : List OpenScope) (w : WalkState) (st : State) (ds new : List Declaration) → AllGoOut chain new → Descends n (grounded chain) → Represents n w st
     → Represents n (walk.act_all w (declares_all ds new)) (run st (declares_all ds new))

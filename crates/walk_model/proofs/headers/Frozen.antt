@@ -152,7 +152,7 @@ opening_plain kind.TSMappedType p own = row_plain p.node (type_parameter_row (he
 opening_plain _ p own = tt
 
 plain_one : (c : ℕ) (how : How) (ds : List Declaration) (d : Declaration) → how ≡ plain → d.how ≡ how → OneSided c (declares (placed_by how ds d))
-plain_one c plain ds d q e = record { side = above c d.target.number; touches = λ side. (refl, rw e tt) }
+plain_one c plain ds d q e = record { side = above c d.route.target.number; touches = λ side. (refl, rw e tt) }
 plain_one c hoisted ds d q e = absurd cc
 plain_one c moved ds d q e = absurd cc
 plain_one c caught ds d q e = absurd cc

@@ -98,17 +98,17 @@ module _ (inside : ℕ → Bool) (side : ℕ → Bool) where
     longer = omega (arith, update_length (redeclared d.naming) st.symbols z);
   }
 
-  hoist_keeps : (st : State) (d : Declaration) (o : Option PassedSymbol) → inside d.target.number ≡ false → IsSided inside side st → ((r : PassedSymbol) → o ≡ Some r → (inside r.scope ≡ false) × (side r.symbol ≡ false)) → Keeps st (hoist_by st d o)
+  hoist_keeps : (st : State) (d : Declaration) (o : Option PassedSymbol) → inside d.route.target.number ≡ false → IsSided inside side st → ((r : PassedSymbol) → o ≡ Some r → (inside r.scope ≡ false) × (side r.symbol ≡ false)) → Keeps st (hoist_by st d o)
   hoist_keeps st d None i h q =
-      let f : Option ℕ = found st d.target.number d.naming.name in
-      let next : State = declare_in st d.target.number d f in
-      then_keeps st next (hoist_by st d None) (declare_keeps st d.target.number d f i h refl) (same_keeps next (hoist_by st d None) refl refl)
+      let f : Option ℕ = found st d.route.target.number d.naming.name in
+      let next : State = declare_in st d.route.target.number d f in
+      then_keeps st next (hoist_by st d None) (declare_keeps st d.route.target.number d f i h refl) (same_keeps next (hoist_by st d None) refl refl)
   hoist_keeps st d (Some r) i h q =
       let got : State = note_symbol (record st { symbols = update (redeclared d.naming) st.symbols r.symbol }) d r.symbol in
-      let o : Option ℕ = get got.bindings d.target.number d.naming.name in
-      let went : State = move_symbol got r.scope d.target.number d.naming.name r.symbol o in
+      let o : Option ℕ = get got.bindings d.route.target.number d.naming.name in
+      let went : State = move_symbol got r.scope d.route.target.number d.naming.name r.symbol o in
       then_keeps st went (hoist_by st d (Some r))
-      (then_keeps st got went (redeclare_keeps st d r.symbol (q r refl).1) (move_keeps got r.scope d.target.number d.naming.name r.symbol o (q r refl).0 i))
+      (then_keeps st got went (redeclare_keeps st d r.symbol (q r refl).1) (move_keeps got r.scope d.route.target.number d.naming.name r.symbol o (q r refl).0 i))
       (same_keeps went (hoist_by st d (Some r)) refl refl)
 
   moved_bindings : (bs : List Binding) (c t : ℕ) (x : Name) (s : ℕ) (y : Name) → inside c ≡ false → inside t ≡ false → inside s ≡ true → get (move bs c t x) s y ≡ get bs s y
@@ -126,22 +126,22 @@ module _ (inside : ℕ → Bool) (side : ℕ → Bool) where
     longer = omega (arith, update_length (in_scope t) st.symbols z);
   }
 
-  by_keeps : (how : How) (st : State) (d : Declaration) → inside d.target.number ≡ false → ArePassedOn inside side false how d → IsSided inside side st → Keeps st (declare_by how st d)
-  by_keeps plain st d i a h = declare_keeps st d.target.number d (found st d.target.number d.naming.name) i h refl
+  by_keeps : (how : How) (st : State) (d : Declaration) → inside d.route.target.number ≡ false → ArePassedOn inside side false how d → IsSided inside side st → Keeps st (declare_by how st d)
+  by_keeps plain st d i a h = declare_keeps st d.route.target.number d (found st d.route.target.number d.naming.name) i h refl
   by_keeps caught st d i a h = record {
-    bound = λ s x j. get-put_other st.bindings d.target.number d.naming.name (length st.symbols) s x (key_apart d.target.number s d.naming.name x i j);
-    flags = λ y j l. ap flags_or_none (get-push st.symbols (new_symbol d.target.number d.naming) y l);
-    longer = omega (arith, length-append st.symbols (new_symbol d.target.number d.naming ∷ []));
+    bound = λ s x j. get-put_other st.bindings d.route.target.number d.naming.name (length st.symbols) s x (key_apart d.route.target.number s d.naming.name x i j);
+    flags = λ y j l. ap flags_or_none (get-push st.symbols (new_symbol d.route.target.number d.naming) y l);
+    longer = omega (arith, length-append st.symbols (new_symbol d.route.target.number d.naming ∷ []));
   }
   by_keeps hoisted st d i a h =
-      let noted : State = against_all st d (asked_symbols st d.passed d.naming.name) in
-      then_keeps st noted (declare_by hoisted st d) (same_keeps st noted (against_bindings st d (asked_symbols st d.passed d.naming.name)) (against_symbols inside side false st d (asked_symbols st d.passed d.naming.name)))
-      (hoist_keeps noted d (passed_symbol st d.passed d.naming.name) i (against_sided inside side false st d (asked_symbols st d.passed d.naming.name) h) (λ r e. passed_symbol_side inside side false st d.passed d.naming.name r a h e))
+      let noted : State = against_all st d (asked_symbols st d.route.passed d.naming.name) in
+      then_keeps st noted (declare_by hoisted st d) (same_keeps st noted (against_bindings st d (asked_symbols st d.route.passed d.naming.name)) (against_symbols inside side false st d (asked_symbols st d.route.passed d.naming.name)))
+      (hoist_keeps noted d (passed_symbol st d.route.passed d.naming.name) i (against_sided inside side false st d (asked_symbols st d.route.passed d.naming.name) h) (λ r e. passed_symbol_side inside side false st d.route.passed d.naming.name r a h e))
   by_keeps moved st d i a h =
       let c : ℕ = stands_in d in
       let o : Option ℕ = found st c d.naming.name in
       then_keeps st (declare_in st c d o) (declare_by moved st d) (declare_keeps st c d o a h refl)
-      (out_keeps (declare_in st c d o) c d.target.number d.naming.name (chosen st o) (get st.bindings d.target.number d.naming.name) a i)
+      (out_keeps (declare_in st c d o) c d.route.target.number d.naming.name (chosen st o) (get st.bindings d.route.target.number d.naming.name) a i)
 
   not_taken : (c s : ℕ) → inside c ≡ false → inside s ≡ true → s ≡ c → ⊥
   not_taken c s i j e = let q : true ≡ false = sym j ∙ ap inside e ∙ i in absurd cc

@@ -51,12 +51,12 @@ module _ (inside : ℕ → Bool) (side : ℕ → Bool) where
   AllOn b (c ∷ cs) = (inside c.number ≡ b) × AllOn b cs
 
   abbrev pub ArePassedOn : Bool → How → Declaration → Type 0
-  ArePassedOn b hoisted d = AllOn b d.passed
+  ArePassedOn b hoisted d = AllOn b d.route.passed
   ArePassedOn b moved d = inside (stands_in d) ≡ b
   ArePassedOn b _ d = Unit {0}
 
   abbrev pub IsOn : Bool → Event → Type 0
-  IsOn b (declares d) = (inside d.target.number ≡ b) × ArePassedOn b d.how d
+  IsOn b (declares d) = (inside d.route.target.number ≡ b) × ArePassedOn b d.how d
   IsOn b (takes_over c d) = (inside c ≡ b) × (inside d ≡ b)
   IsOn b (ends_header c) = Unit {0}
 
@@ -105,16 +105,16 @@ module _ (inside : ℕ → Bool) (side : ℕ → Bool) where
     moved_sided st c t x y (Some r) i s h = h
     moved_sided st c t x y None i s h = record { bindings = of_put (remove st.bindings c x) t x y (i ∙ sym s) (of_remove st.bindings c x h.bindings); remembered = h.remembered }
 
-    hoisted_sided : (st : State) (d : Declaration) (o : Option PassedSymbol) → inside d.target.number ≡ b → AllOn b d.passed → side (length st.symbols) ≡ b → IsSided st → ((r : PassedSymbol) → o ≡ Some r → side r.symbol ≡ b) → IsSided (hoist_by st d o)
+    hoisted_sided : (st : State) (d : Declaration) (o : Option PassedSymbol) → inside d.route.target.number ≡ b → AllOn b d.route.passed → side (length st.symbols) ≡ b → IsSided st → ((r : PassedSymbol) → o ≡ Some r → side r.symbol ≡ b) → IsSided (hoist_by st d o)
     hoisted_sided st d None i a n h q =
-        let f : Option ℕ = found st d.target.number d.naming.name in
-        let done : IsSided (declare_in st d.target.number d f) = declared_sided st d.target.number d f i n h in
-        record { bindings = done.bindings; remembered = remembered_of (declare_in st d.target.number d f).remembered d.passed d.naming.name (chosen st f) a (chosen_side st d.target.number d f i n h refl) done.remembered }
+        let f : Option ℕ = found st d.route.target.number d.naming.name in
+        let done : IsSided (declare_in st d.route.target.number d f) = declared_sided st d.route.target.number d f i n h in
+        record { bindings = done.bindings; remembered = remembered_of (declare_in st d.route.target.number d f).remembered d.route.passed d.naming.name (chosen st f) a (chosen_side st d.route.target.number d f i n h refl) done.remembered }
     hoisted_sided st d (Some r) i a n h q =
         let got : State = note_symbol (record st { symbols = update (redeclared d.naming) st.symbols r.symbol }) d r.symbol in
-        let o : Option ℕ = get got.bindings d.target.number d.naming.name in
-        let done : IsSided (move_symbol got r.scope d.target.number d.naming.name r.symbol o) = moved_sided got r.scope d.target.number d.naming.name r.symbol o i (q r refl) (record { bindings = h.bindings; remembered = h.remembered }) in
-        record { bindings = done.bindings; remembered = remembered_of (move_symbol got r.scope d.target.number d.naming.name r.symbol o).remembered d.passed d.naming.name r.symbol a (q r refl) done.remembered }
+        let o : Option ℕ = get got.bindings d.route.target.number d.naming.name in
+        let done : IsSided (move_symbol got r.scope d.route.target.number d.naming.name r.symbol o) = moved_sided got r.scope d.route.target.number d.naming.name r.symbol o i (q r refl) (record { bindings = h.bindings; remembered = h.remembered }) in
+        record { bindings = done.bindings; remembered = remembered_of (move_symbol got r.scope d.route.target.number d.naming.name r.symbol o).remembered d.route.passed d.naming.name r.symbol a (q r refl) done.remembered }
 
     of_move : (bs : List Binding) (c t : ℕ) (x : Name) → inside c ≡ b → inside t ≡ b → AreOf bs → AreOf (move bs c t x)
     of_move bs c t x i j h = by (get bs c x) refl
@@ -127,17 +127,17 @@ module _ (inside : ℕ → Bool) (side : ℕ → Bool) where
     out_sided st c t x y (Some r) i j s h = h
     out_sided st c t x y None i j s h = record { bindings = of_move st.bindings c t x i j h.bindings; remembered = of_put st.remembered c x y (i ∙ sym s) h.remembered }
 
-    by_sided : (how : How) (st : State) (d : Declaration) → inside d.target.number ≡ b → ArePassedOn b how d → side (length st.symbols) ≡ b → IsSided st → IsSided (declare_by how st d)
-    by_sided plain st d i a n h = declared_sided st d.target.number d (found st d.target.number d.naming.name) i n h
-    by_sided caught st d i a n h = declared_sided st d.target.number d None i n h
+    by_sided : (how : How) (st : State) (d : Declaration) → inside d.route.target.number ≡ b → ArePassedOn b how d → side (length st.symbols) ≡ b → IsSided st → IsSided (declare_by how st d)
+    by_sided plain st d i a n h = declared_sided st d.route.target.number d (found st d.route.target.number d.naming.name) i n h
+    by_sided caught st d i a n h = declared_sided st d.route.target.number d None i n h
     by_sided hoisted st d i a n h =
-        let noted : State = against_all st d (asked_symbols st d.passed d.naming.name) in
-        hoisted_sided noted d (passed_symbol st d.passed d.naming.name) i a (ap (λ ys. side (length ys)) (against_symbols st d (asked_symbols st d.passed d.naming.name)) ∙ n) (against_sided st d (asked_symbols st d.passed d.naming.name) h)
-        (λ r e. (passed_symbol_side st d.passed d.naming.name r a h e).1)
+        let noted : State = against_all st d (asked_symbols st d.route.passed d.naming.name) in
+        hoisted_sided noted d (passed_symbol st d.route.passed d.naming.name) i a (ap (λ ys. side (length ys)) (against_symbols st d (asked_symbols st d.route.passed d.naming.name)) ∙ n) (against_sided st d (asked_symbols st d.route.passed d.naming.name) h)
+        (λ r e. (passed_symbol_side st d.route.passed d.naming.name r a h e).1)
     by_sided moved st d i a n h =
         let c : ℕ = stands_in d in
         let o : Option ℕ = found st c d.naming.name in
-        out_sided (declare_in st c d o) c d.target.number d.naming.name (chosen st o) (get st.bindings d.target.number d.naming.name) a i (chosen_side st c d o a n h refl) (declared_sided st c d o a n h)
+        out_sided (declare_in st c d o) c d.route.target.number d.naming.name (chosen st o) (get st.bindings d.route.target.number d.naming.name) a i (chosen_side st c d o a n h refl) (declared_sided st c d o a n h)
 
     -- an event on one side keeps what is bound on its side
     pub act_sided : (st : State) (e : Event) → IsOn b e → side (length st.symbols) ≡ b → IsSided st → IsSided (act st e)

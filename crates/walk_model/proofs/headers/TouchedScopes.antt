@@ -34,24 +34,24 @@ all_on : (inside side : ℕ → Bool) (b : Bool) (cs : List OpenScope) → Chain
 all_on inside side b [] h = tt
 all_on inside side b (c ∷ cs) h = (h.0, all_on inside side b cs h.1)
 
-stands_on : (inside : ℕ → Bool) (b : Bool) (d : Declaration) (passed : List OpenScope) → d.passed ≡ passed → ChainOn inside b passed → inside d.target.number ≡ b → inside (stands_in d) ≡ b
+stands_on : (inside : ℕ → Bool) (b : Bool) (d : Declaration) (passed : List OpenScope) → d.route.passed ≡ passed → ChainOn inside b passed → inside d.route.target.number ≡ b → inside (stands_in d) ≡ b
 stands_on inside b d [] e h t = rw e t
 stands_on inside b d (s ∷ ss) e h t = rw e h.0
 
 -- a declaration along scopes of one side
-pub way_touches : (inside : ℕ → Bool) (b : Bool) (d : Declaration) → ChainOn inside b d.passed → inside d.target.number ≡ b → Touches inside b (declares d)
+pub way_touches : (inside : ℕ → Bool) (b : Bool) (d : Declaration) → ChainOn inside b d.route.passed → inside d.route.target.number ≡ b → Touches inside b (declares d)
 way_touches inside b d h t side = (t, by d.how)
   where
     by : (how : How) → ArePassedOn inside side b how d
     by plain = tt
     by caught = tt
-    by hoisted = all_on inside side b d.passed h
-    by moved = stands_on inside b d d.passed refl h t
+    by hoisted = all_on inside side b d.route.passed h
+    by moved = stands_on inside b d d.route.passed refl h t
 
 pub chain_touches : (inside : ℕ → Bool) (b : Bool) (chain : List OpenScope) (d : Declaration) → GoesOut chain d → ChainOn inside b (grounded chain) → Touches inside b (declares d)
 chain_touches inside b chain d g h =
-    let all : ChainOn inside b (d.passed ++ d.target ∷ g.rest) = subst (ChainOn inside b) (sym g.is) h in
-    way_touches inside b d (chain_left inside b d.passed (d.target ∷ g.rest) all) (chain_right inside b d.passed (d.target ∷ g.rest) all).0
+    let all : ChainOn inside b (d.route.passed ++ d.route.target ∷ g.rest) = subst (ChainOn inside b) (sym g.is) h in
+    way_touches inside b d (chain_left inside b d.route.passed (d.route.target ∷ g.rest) all) (chain_right inside b d.route.passed (d.route.target ∷ g.rest) all).0
 
 abbrev pub AllTouch : (ℕ → Bool) → Bool → List Event → Type 0
 AllTouch inside b [] = Unit {0}
@@ -72,7 +72,7 @@ IsByVar p moved target = (is_closed p.node.kind p.node.text ≡ false) × ((t : 
 IsByVar p _ target = Unit {0}
 
 abbrev pub AllByVar : Place → List Declaration → Type 0
-AllByVar p = EachDeclared (λ d. IsByVar p d.how d.target)
+AllByVar p = EachDeclared (λ d. IsByVar p d.how d.route.target)
 
 outward_target : (chain : List OpenScope) (t : OpenScope) → first_with is_var chain ≡ Some t → (outward_to is_var chain).target ≡ t
 outward_target chain t e = rw e refl
@@ -88,7 +88,7 @@ loose_open : (p : Place) → p.node.kind ≡ kind.VariableDeclarator → is_clos
 loose_open p e = rw e refl
 
 pub entering_by_var : (k : AstType) (p : Place) → p.node.kind ≡ k → AllByVar p (declared_by k p)
-entering_by_var k p e = each_on_entering (λ d. IsByVar p d.how d.target) (λ how r. IsByVar p how r.target) (λ node row is_pure name h. h) k p (record {
+entering_by_var k p e = each_on_entering (λ d. IsByVar p d.how d.route.target) (λ how r. IsByVar p how r.target) (λ node row is_pure name h. h) k p (record {
   at_home = tt;
   when_caught = tt;
   when_hoisted = λ q. (loose_open p (e ∙ q), λ t f. outward_target p.chain t f);
@@ -128,27 +128,27 @@ chain_above c n [] target rest h l = tt
 chain_above c n (s ∷ ss) target rest h l = (above_is c s.number (omega (arith, target_below s.number ss target rest h.1, l)), chain_above c s.number ss target rest h.1 l)
 
 -- one that reaches past scopes stays above a header that holds it
-far_sided : (c n : ℕ) (p : Place) (how : How) (d : Declaration) → d.how ≡ how → GoesOut p.chain d → Descends n (grounded p.chain) → IsByVar p how d.target → (is_closed p.node.kind p.node.text ≡ true) ⊎ VarAbove c p.chain → OneSided c (declares d)
-far_sided c n p plain d e g k v s = record { side = above c d.target.number; touches = λ side. (refl, rw e tt) }
-far_sided c n p caught d e g k v s = record { side = above c d.target.number; touches = λ side. (refl, rw e tt) }
+far_sided : (c n : ℕ) (p : Place) (how : How) (d : Declaration) → d.how ≡ how → GoesOut p.chain d → Descends n (grounded p.chain) → IsByVar p how d.route.target → (is_closed p.node.kind p.node.text ≡ true) ⊎ VarAbove c p.chain → OneSided c (declares d)
+far_sided c n p plain d e g k v s = record { side = above c d.route.target.number; touches = λ side. (refl, rw e tt) }
+far_sided c n p caught d e g k v s = record { side = above c d.route.target.number; touches = λ side. (refl, rw e tt) }
 far_sided c n p hoisted d e g k v (inl q) = let w : true ≡ false = sym q ∙ v.0 in absurd cc
 far_sided c n p hoisted d e g k v (inr a) =
-    let t : d.target ≡ a.next = v.1 a.next a.is in
-    let l : c < d.target.number = subst (λ (o : OpenScope). c < o.number) (sym t) a.above in
-    record { side = true; touches = way_touches (above c) true d (chain_above c n d.passed d.target g.rest (subst (Descends n) (sym g.is) k) l) (above_is c d.target.number l) }
+    let t : d.route.target ≡ a.next = v.1 a.next a.is in
+    let l : c < d.route.target.number = subst (λ (o : OpenScope). c < o.number) (sym t) a.above in
+    record { side = true; touches = way_touches (above c) true d (chain_above c n d.route.passed d.route.target g.rest (subst (Descends n) (sym g.is) k) l) (above_is c d.route.target.number l) }
 far_sided c n p moved d e g k v (inl q) = let w : true ≡ false = sym q ∙ v.0 in absurd cc
 far_sided c n p moved d e g k v (inr a) =
-    let t : d.target ≡ a.next = v.1 a.next a.is in
-    let l : c < d.target.number = subst (λ (o : OpenScope). c < o.number) (sym t) a.above in
-    record { side = true; touches = way_touches (above c) true d (chain_above c n d.passed d.target g.rest (subst (Descends n) (sym g.is) k) l) (above_is c d.target.number l) }
+    let t : d.route.target ≡ a.next = v.1 a.next a.is in
+    let l : c < d.route.target.number = subst (λ (o : OpenScope). c < o.number) (sym t) a.above in
+    record { side = true; touches = way_touches (above c) true d (chain_above c n d.route.passed d.route.target g.rest (subst (Descends n) (sym g.is) k) l) (above_is c d.route.target.number l) }
 
-placed_by_var : (p : Place) (how : How) (ds : List Declaration) (d : Declaration) → d.how ≡ how → IsByVar p how d.target → IsByVar p (placed_by how ds d).how (placed_by how ds d).target
+placed_by_var : (p : Place) (how : How) (ds : List Declaration) (d : Declaration) → d.how ≡ how → IsByVar p how d.route.target → IsByVar p (placed_by how ds d).how (placed_by how ds d).route.target
 placed_by_var p plain ds d e v = rw e tt
 placed_by_var p caught ds d e v = rw e tt
 placed_by_var p hoisted ds d e v = rw e v
-placed_by_var p moved ds d e v = go (is_barred ds d (outside d.passed))
+placed_by_var p moved ds d e v = go (is_barred ds d (outside d.route.passed))
   where
-    go : (b : Bool) → IsByVar p (if b then staying d else d).how (if b then staying d else d).target
+    go : (b : Bool) → IsByVar p (if b then staying d else d).how (if b then staying d else d).route.target
     go true = tt
     go false = rw e v
 

@@ -18,7 +18,7 @@ placed_same : (how : How) (ds : List Declaration) (d : Declaration) → (placed_
 placed_same plain ds d = refl
 placed_same hoisted ds d = refl
 placed_same caught ds d = refl
-placed_same moved ds d = by (is_barred ds d (outside d.passed))
+placed_same moved ds d = by (is_barred ds d (outside d.route.passed))
   where
     by : (b : Bool) → (if b then staying d else d).naming.identifier ≡ d.naming.identifier
     by true = refl

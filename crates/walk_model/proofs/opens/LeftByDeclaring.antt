@@ -123,13 +123,13 @@ declare_untouched w s d =
     then_untouched w (writes.with_symbol_in w s d) (writes.declare w s d) (symbol_untouched w s d (writes.found w s d.name)) (note_symbol_untouched (writes.with_symbol_in w s d) (writes.symbol_in w s d) d)
 
 by_untouched : (how : How) (w : WalkState) (d : Declaration) → Untouched w (walk.declare_by how w d)
-by_untouched plain w d = declare_untouched w d.target.number d.naming
-by_untouched hoisted w d = hoist_untouched w (walk.numbers d.passed) d.target.number d.naming
+by_untouched plain w d = declare_untouched w d.route.target.number d.naming
+by_untouched hoisted w d = hoist_untouched w (walk.numbers d.route.passed) d.route.target.number d.naming
 by_untouched moved w d =
     then_untouched w (writes.declare w (stands_in d) d.naming) (walk.declare_by moved w d) (declare_untouched w (stands_in d) d.naming)
-    (out_untouched (writes.declare w (stands_in d) d.naming) (stands_in d) d.target.number (writes.symbol_in w (stands_in d) d.naming) d.naming.name)
+    (out_untouched (writes.declare w (stands_in d) d.naming) (stands_in d) d.route.target.number (writes.symbol_in w (stands_in d) d.naming) d.naming.name)
 by_untouched caught w d =
-    then_untouched w (writes.make w d.target.number d.naming) (walk.declare_by caught w d) (make_untouched w d.target.number d.naming) (note_symbol_untouched (writes.make w d.target.number d.naming) _ d.naming)
+    then_untouched w (writes.make w d.route.target.number d.naming) (walk.declare_by caught w d) (make_untouched w d.route.target.number d.naming) (note_symbol_untouched (writes.make w d.route.target.number d.naming) _ d.naming)
 
 -- an event that ends no header
 abbrev pub Declares : Event → Type 0

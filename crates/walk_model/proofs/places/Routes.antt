@@ -1,11 +1,10 @@
 -- Each declaration goes out along the chain of the place where it is written.
 use Rattle.std.proofs.Common.{◌≡◌, ℕ, ◌<◌, List, [], ◌∷◌, ◌++◌, Option, Some, None, Bool, true, false, cond, ◌&&◌, ◌||◌, not, refl, sym, ap, if◌then◌else◌, arith}
-use Rattle.semantic_tree.specs.declared.node.Node.{Node}
 use Rattle.semantic_kinds.specs.declared.kind.AstType.{AstType}
 use Rattle.semantic_syntax.specs.SourceTypes.{is_typescript}
 use Rattle.semantic_model.specs.Place.{Place, OpenScope, no_scope, innermost, outside, is_strict}
 use Rattle.semantic_model.specs.Declaration.{How, plain, hoisted, moved, caught, Declaration, Route, here, passed_before, first_with, route_from, outward_to, outward_past, scope_it_stands_in}
-use Rattle.semantic_model.specs.Binder.{Row, declare, is_var, is_clause, is_conditional, is_special, is_block_function, declared_by, declared_inside}
+use Rattle.semantic_model.specs.Binder.{is_var, is_clause, is_conditional, is_special, is_block_function, declared_by, declared_inside}
 use Rattle.semantic_model.proofs.fold.EachDeclared.{EachDeclared, each_on_entering, each_on_opening}
 use Rattle.semantic_model.specs.Event.{is_barred, staying, placed_by}
 use Rattle.semantic_model.proofs.form.Clauses.{second_holds}
@@ -28,17 +27,14 @@ pub record IsWay (chain : List OpenScope) (how : How) (passed : List OpenScope) 
   pub is : passed ++ target ∷ rest ≡ grounded chain
   pub leaves : Leaves how passed
 
+abbrev pub IsRoute : List OpenScope → How → Route → Type 0
+IsRoute chain how r = IsWay chain how r.passed r.target
+
 abbrev pub GoesOut : List OpenScope → Declaration → Type 0
-GoesOut chain d = IsWay chain d.how d.passed d.target
+GoesOut chain d = IsRoute chain d.how d.route
 
 abbrev pub AllGoOut : List OpenScope → List Declaration → Type 0
 AllGoOut chain = EachDeclared (GoesOut chain)
-
-abbrev IsRoute : List OpenScope → How → Route → Type 0
-IsRoute chain how r = IsWay chain how r.passed r.target
-
-name_goes : (chain : List OpenScope) (node : Node) (row : Row) (is_pure : Bool) (name : Node) → IsRoute chain row.how row.route → GoesOut chain (declare node row is_pure name)
-name_goes chain node row is_pure name h = record { rest = h.rest; is = h.is; leaves = h.leaves }
 
 here_is : (chain : List OpenScope) → IsRoute chain plain (here chain)
 here_is [] = record { rest = []; is = refl; leaves = tt }
@@ -93,7 +89,7 @@ caught_is [] = record { rest = []; is = refl; leaves = tt }
 caught_is (s ∷ ss) = record { rest = ss; is = refl; leaves = tt }
 
 pub entering_goes : (k : AstType) (p : Place) → HasVar p.chain → AllGoOut p.chain (declared_by k p)
-entering_goes k p v = each_on_entering (GoesOut p.chain) (IsRoute p.chain) (name_goes p.chain) k p (record {
+entering_goes k p v = each_on_entering (GoesOut p.chain) (IsRoute p.chain) (λ node row is_pure name h. h) k p (record {
   at_home = here_is p.chain;
   when_caught = caught_is p.chain;
   when_hoisted = λ e. outward_is is_var p.chain hoisted (λ xs. tt);
@@ -105,7 +101,7 @@ own_is : (s : OpenScope) (chain : List OpenScope) → IsRoute (s ∷ chain) plai
 own_is s chain = record { rest = chain; is = refl; leaves = tt }
 
 pub opening_goes : (k : AstType) (p : Place) (own : OpenScope) → AllGoOut (own ∷ p.chain) (declared_inside k p own)
-opening_goes k p own = each_on_opening (GoesOut (own ∷ p.chain)) (IsRoute (own ∷ p.chain)) (name_goes (own ∷ p.chain)) k p own (λ e. own_is own p.chain)
+opening_goes k p own = each_on_opening (GoesOut (own ∷ p.chain)) (IsRoute (own ∷ p.chain)) (λ node row is_pure name h. h) k p own (λ e. own_is own p.chain)
 
 stays_is : (chain passed : List OpenScope) (target : OpenScope) (rest : List OpenScope) → passed ++ target ∷ rest ≡ grounded chain → IsWay chain plain [] (innermost (passed ++ target ∷ []))
 stays_is chain [] target rest e = record { rest = rest; is = e; leaves = tt }
@@ -116,10 +112,10 @@ pub placed_goes : (chain : List OpenScope) (how : How) (ds : List Declaration) (
 placed_goes chain plain ds d h = h
 placed_goes chain hoisted ds d h = h
 placed_goes chain caught ds d h = h
-placed_goes chain moved ds d h = go (is_barred ds d (outside d.passed))
+placed_goes chain moved ds d h = go (is_barred ds d (outside d.route.passed))
   where
     go : (b : Bool) → GoesOut chain (if b then staying d else d)
-    go true = let w : IsWay chain plain [] (scope_it_stands_in d) = stays_is chain d.passed d.target h.rest h.is in record { rest = w.rest; is = w.is; leaves = tt }
+    go true = let w : IsWay chain plain [] (scope_it_stands_in d) = stays_is chain d.route.passed d.route.target h.rest h.is in record { rest = w.rest; is = w.is; leaves = tt }
     go false = h
 
 -- along a chain that descends, the target is below what is passed

@@ -91,29 +91,29 @@ move_then_note_symbol w from to y d = by d.naming.is_pure (bound_in w.tables to 
     by false None e = rw e refl
     by false (Some z) e = rw e refl
 
-hoist_none : (n : ℕ) (w : WalkState) (st : State) (d : Declaration) → d.target.number < n → Represents n w st
-    → Represents n (reaches.remember_all (writes.note_symbol (writes.with_symbol_in w d.target.number d.naming) (writes.symbol_in w d.target.number d.naming) d.naming) (numbers d.passed) d.naming.name (writes.symbol_in w d.target.number d.naming))
+hoist_none : (n : ℕ) (w : WalkState) (st : State) (d : Declaration) → d.route.target.number < n → Represents n w st
+    → Represents n (reaches.remember_all (writes.note_symbol (writes.with_symbol_in w d.route.target.number d.naming) (writes.symbol_in w d.route.target.number d.naming) d.naming) (numbers d.route.passed) d.naming.name (writes.symbol_in w d.route.target.number d.naming))
     (hoist_by st d None)
 hoist_none n w st d l h =
-    let o : Option ℕ = found st d.target.number d.naming.name in
-    rw (found_as n w st d.target.number d.naming.name h.shows)
-    (subst (λ y. Represents n (reaches.remember_all (writes.note_symbol (writes.symbol_by w d.target.number d.naming o) (unwrap_or o (length w.tables.symbols)) d.naming) (numbers d.passed) d.naming.name y) (hoist_by st d None))
+    let o : Option ℕ = found st d.route.target.number d.naming.name in
+    rw (found_as n w st d.route.target.number d.naming.name h.shows)
+    (subst (λ y. Represents n (reaches.remember_all (writes.note_symbol (writes.symbol_by w d.route.target.number d.naming o) (unwrap_or o (length w.tables.symbols)) d.naming) (numbers d.route.passed) d.naming.name y) (hoist_by st d None))
     (sym (chosen_as n w st o h.shows))
-    (remember_all_as n (writes.note_symbol (writes.symbol_by w d.target.number d.naming o) (unwrap_or o (length w.tables.symbols)) d.naming) (declare_in st d.target.number d o) d.passed d.naming.name (chosen st o)
-    (represents_declare_in n w st d.target.number d o l h)))
+    (remember_all_as n (writes.note_symbol (writes.symbol_by w d.route.target.number d.naming o) (unwrap_or o (length w.tables.symbols)) d.naming) (declare_in st d.route.target.number d o) d.route.passed d.naming.name (chosen st o)
+    (represents_declare_in n w st d.route.target.number d o l h)))
 
-hoist_some : (n : ℕ) (w : WalkState) (st : State) (d : Declaration) (r : PassedSymbol) → r.scope < n → d.target.number < n → (r.scope ≡ d.target.number → ⊥) → Represents n w st
-    → Represents n (reaches.remember_all (writes.note_symbol (reaches.move_symbol (writes.redeclare w r.symbol d.naming) r.scope d.target.number r.symbol d.naming.name) r.symbol d.naming) (numbers d.passed) d.naming.name r.symbol)
+hoist_some : (n : ℕ) (w : WalkState) (st : State) (d : Declaration) (r : PassedSymbol) → r.scope < n → d.route.target.number < n → (r.scope ≡ d.route.target.number → ⊥) → Represents n w st
+    → Represents n (reaches.remember_all (writes.note_symbol (reaches.move_symbol (writes.redeclare w r.symbol d.naming) r.scope d.route.target.number r.symbol d.naming.name) r.symbol d.naming) (numbers d.route.passed) d.naming.name r.symbol)
     (hoist_by st d (Some r))
 hoist_some n w st d r l k apart h =
     let redone : State = record st { symbols = update (redeclared d.naming) st.symbols r.symbol } in
     let again : WalkState = writes.redeclare w r.symbol d.naming in
     let got_it : Represents n (writes.note_symbol again r.symbol d.naming) (note_symbol redone d r.symbol) = represents_note_symbol n again redone r.symbol d (represents_redeclare n w st r.symbol d h) in
-    let went : Represents n (reaches.move_symbol (writes.note_symbol again r.symbol d.naming) r.scope d.target.number r.symbol d.naming.name) (move_symbol (note_symbol redone d r.symbol) r.scope d.target.number d.naming.name r.symbol (get st.bindings d.target.number d.naming.name)) =
-    move_symbol_as n (writes.note_symbol again r.symbol d.naming) (note_symbol redone d r.symbol) r.scope d.target.number r.symbol d.naming.name l k apart got_it in
-    remember_all_as n (writes.note_symbol (reaches.move_symbol again r.scope d.target.number r.symbol d.naming.name) r.symbol d.naming)
-    (move_symbol (note_symbol redone d r.symbol) r.scope d.target.number d.naming.name r.symbol (get st.bindings d.target.number d.naming.name)) d.passed d.naming.name r.symbol
-    (subst (λ v. Represents n v (move_symbol (note_symbol redone d r.symbol) r.scope d.target.number d.naming.name r.symbol (get st.bindings d.target.number d.naming.name))) (sym (move_then_note_symbol again r.scope d.target.number r.symbol d)) went)
+    let went : Represents n (reaches.move_symbol (writes.note_symbol again r.symbol d.naming) r.scope d.route.target.number r.symbol d.naming.name) (move_symbol (note_symbol redone d r.symbol) r.scope d.route.target.number d.naming.name r.symbol (get st.bindings d.route.target.number d.naming.name)) =
+    move_symbol_as n (writes.note_symbol again r.symbol d.naming) (note_symbol redone d r.symbol) r.scope d.route.target.number r.symbol d.naming.name l k apart got_it in
+    remember_all_as n (writes.note_symbol (reaches.move_symbol again r.scope d.route.target.number r.symbol d.naming.name) r.symbol d.naming)
+    (move_symbol (note_symbol redone d r.symbol) r.scope d.route.target.number d.naming.name r.symbol (get st.bindings d.route.target.number d.naming.name)) d.route.passed d.naming.name r.symbol
+    (subst (λ v. Represents n v (move_symbol (note_symbol redone d r.symbol) r.scope d.route.target.number d.naming.name r.symbol (get st.bindings d.route.target.number d.naming.name))) (sym (move_then_note_symbol again r.scope d.route.target.number r.symbol d)) went)
 
 -- the scopes are open, and apart from the target
 abbrev pub ArePassed : ℕ → List OpenScope → ℕ → Type 0
@@ -135,20 +135,20 @@ passed_symbol_passed n st (c ∷ cs) t x r a e = by (passed_symbol_passed n st c
         scope_or (Some g) = g.scope
     by rest false o q = rest q
 
-pub hoist_as : (n : ℕ) (w : WalkState) (st : State) (d : Declaration) → d.target.number < n → ArePassed n d.passed d.target.number → Represents n w st
-    → Represents n (reaches.hoist w (numbers d.passed) d.target.number d.naming) (hoist st d)
-hoist_as n w st d l a h = rw (passed_symbol_as n w st d.passed d.naming.name h.shows) (by (passed_symbol st d.passed d.naming.name) refl)
+pub hoist_as : (n : ℕ) (w : WalkState) (st : State) (d : Declaration) → d.route.target.number < n → ArePassed n d.route.passed d.route.target.number → Represents n w st
+    → Represents n (reaches.hoist w (numbers d.route.passed) d.route.target.number d.naming) (hoist st d)
+hoist_as n w st d l a h = rw (passed_symbol_as n w st d.route.passed d.naming.name h.shows) (by (passed_symbol st d.route.passed d.naming.name) refl)
   where
-    noted : Represents n (reaches.against_way w d.naming (numbers d.passed)) (against_all st d (asked_symbols st d.passed d.naming.name))
-    noted = against_way_as n w st d d.passed h
+    noted : Represents n (reaches.against_way w d.naming (numbers d.route.passed)) (against_all st d (asked_symbols st d.route.passed d.naming.name))
+    noted = against_way_as n w st d d.route.passed h
 
-    by : (o : Option PassedSymbol) → passed_symbol st d.passed d.naming.name ≡ o
-        → Represents n (reaches.remember_all (writes.note_symbol (reaches.hoisted_by (reaches.against_way w d.naming (numbers d.passed)) d.target.number d.naming o) (reaches.hoisted_symbol (reaches.against_way w d.naming (numbers d.passed)) d.target.number d.naming o) d.naming) (numbers d.passed) d.naming.name (reaches.hoisted_symbol (reaches.against_way w d.naming (numbers d.passed)) d.target.number d.naming o))
-        (hoist_by (against_all st d (asked_symbols st d.passed d.naming.name)) d o)
-    by None e = hoist_none n (reaches.against_way w d.naming (numbers d.passed)) (against_all st d (asked_symbols st d.passed d.naming.name)) d l noted
+    by : (o : Option PassedSymbol) → passed_symbol st d.route.passed d.naming.name ≡ o
+        → Represents n (reaches.remember_all (writes.note_symbol (reaches.hoisted_by (reaches.against_way w d.naming (numbers d.route.passed)) d.route.target.number d.naming o) (reaches.hoisted_symbol (reaches.against_way w d.naming (numbers d.route.passed)) d.route.target.number d.naming o) d.naming) (numbers d.route.passed) d.naming.name (reaches.hoisted_symbol (reaches.against_way w d.naming (numbers d.route.passed)) d.route.target.number d.naming o))
+        (hoist_by (against_all st d (asked_symbols st d.route.passed d.naming.name)) d o)
+    by None e = hoist_none n (reaches.against_way w d.naming (numbers d.route.passed)) (against_all st d (asked_symbols st d.route.passed d.naming.name)) d l noted
     by (Some r) e =
-        let q : (r.scope < n) × (r.scope ≡ d.target.number → ⊥) = passed_symbol_passed n st d.passed d.target.number d.naming.name r a e in
-        hoist_some n (reaches.against_way w d.naming (numbers d.passed)) (against_all st d (asked_symbols st d.passed d.naming.name)) d r q.0 l q.1 noted
+        let q : (r.scope < n) × (r.scope ≡ d.route.target.number → ⊥) = passed_symbol_passed n st d.route.passed d.route.target.number d.naming.name r a e in
+        hoist_some n (reaches.against_way w d.naming (numbers d.route.passed)) (against_all st d (asked_symbols st d.route.passed d.naming.name)) d r q.0 l q.1 noted
 
 move_some : (bs : List Binding) (c t y : ℕ) (x : Name) → get bs c x ≡ Some y → move bs c t x ≡ put (remove bs c x) t x y
 move_some bs c t y x g = rw (move, g) refl
@@ -185,15 +185,15 @@ target_kept st c t d None apart = elim (same_key_tells c t d.naming.name d.namin
 ]
 target_kept st c t d (Some y) apart = refl
 
-pub declare_and_move_as : (n : ℕ) (w : WalkState) (st : State) (d : Declaration) → stands_in d < n → d.target.number < n → (stands_in d ≡ d.target.number → ⊥) → Represents n w st
-    → Represents n (reaches.declare_and_move w (stands_in d) d.target.number d.naming) (move_function st d)
+pub declare_and_move_as : (n : ℕ) (w : WalkState) (st : State) (d : Declaration) → stands_in d < n → d.route.target.number < n → (stands_in d ≡ d.route.target.number → ⊥) → Represents n w st
+    → Represents n (reaches.declare_and_move w (stands_in d) d.route.target.number d.naming) (move_function st d)
 declare_and_move_as n w st d l k apart h =
     let c : ℕ = stands_in d in
     let o : Option ℕ = found st c d.naming.name in
     let done : Represents n (writes.note_symbol (writes.symbol_by w c d.naming o) (unwrap_or o (length w.tables.symbols)) d.naming) (declare_in st c d o) = represents_declare_in n w st c d o l h in
     rw (found_as n w st c d.naming.name h.shows)
-    (subst (λ y. Represents n (reaches.move_out (writes.note_symbol (writes.symbol_by w c d.naming o) y d.naming) c d.target.number y d.naming.name) (move_function st d)) (sym (chosen_as n w st o h.shows))
-    (subst (λ p. Represents n (reaches.move_out (writes.note_symbol (writes.symbol_by w c d.naming o) (chosen st o) d.naming) c d.target.number (chosen st o) d.naming.name) (move_out (declare_in st c d o) c d.target.number d.naming.name (chosen st o) p))
-    (target_kept st c d.target.number d o apart)
-    (move_out_as n (writes.note_symbol (writes.symbol_by w c d.naming o) (chosen st o) d.naming) (declare_in st c d o) c d.target.number (chosen st o) d.naming.name l k apart (declared_movable st d c o refl)
+    (subst (λ y. Represents n (reaches.move_out (writes.note_symbol (writes.symbol_by w c d.naming o) y d.naming) c d.route.target.number y d.naming.name) (move_function st d)) (sym (chosen_as n w st o h.shows))
+    (subst (λ p. Represents n (reaches.move_out (writes.note_symbol (writes.symbol_by w c d.naming o) (chosen st o) d.naming) c d.route.target.number (chosen st o) d.naming.name) (move_out (declare_in st c d o) c d.route.target.number d.naming.name (chosen st o) p))
+    (target_kept st c d.route.target.number d o apart)
+    (move_out_as n (writes.note_symbol (writes.symbol_by w c d.naming o) (chosen st o) d.naming) (declare_in st c d o) c d.route.target.number (chosen st o) d.naming.name l k apart (declared_movable st d c o refl)
     (subst (λ y. Represents n (writes.note_symbol (writes.symbol_by w c d.naming o) y d.naming) (declare_in st c d o)) (chosen_as n w st o h.shows) done))))

@@ -20,10 +20,10 @@ acts-append w (e ∷ es) fs = acts-append (act w e) es fs
 -- a block function is declared where it stands, and moves on to its target unless a namesake bars the way
 pub acts_move : (ds : List Declaration) (w : WalkState) (d : Declaration) → d.how ≡ moved
     → act w (declares (placed ds d))
-    ≡ cond (is_barred ds d (outside d.passed)) (writes.declare w (stands_in d) d.naming) (reaches.declare_and_move w (stands_in d) d.target.number d.naming)
-acts_move ds w d e = ap (λ h. act w (declares (placed_by h ds d))) e ∙ by (is_barred ds d (outside d.passed))
+    ≡ cond (is_barred ds d (outside d.route.passed)) (writes.declare w (stands_in d) d.naming) (reaches.declare_and_move w (stands_in d) d.route.target.number d.naming)
+acts_move ds w d e = ap (λ h. act w (declares (placed_by h ds d))) e ∙ by (is_barred ds d (outside d.route.passed))
   where
-    by : (b : Bool) → act w (declares (if b then staying d else d)) ≡ cond b (writes.declare w (stands_in d) d.naming) (reaches.declare_and_move w (stands_in d) d.target.number d.naming)
+    by : (b : Bool) → act w (declares (if b then staying d else d)) ≡ cond b (writes.declare w (stands_in d) d.naming) (reaches.declare_and_move w (stands_in d) d.route.target.number d.naming)
     by true = refl
     by false = ap (λ h. declare_by h w d) e
 

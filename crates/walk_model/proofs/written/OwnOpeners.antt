@@ -87,7 +87,7 @@ all_listed program =
 
 -- where a declaration stands
 standing_is : (chain : List OpenScope) (d : Declaration) → GoesOut chain d → scope_it_stands_in d ≡ innermost (grounded chain)
-standing_is chain d w = go d.passed d.target w.rest w.is
+standing_is chain d w = go d.route.passed d.route.target w.rest w.is
   where
     go : (passed : List OpenScope) (target : OpenScope) (rest : List OpenScope) → passed ++ target ∷ rest ≡ grounded chain → innermost (passed ++ target ∷ []) ≡ innermost (grounded chain)
     go [] target rest e = ap innermost e
