@@ -13,7 +13,7 @@ use Rattle.class_table.specs.Lists.{ClassLists, IsInside}
 use Rattle.class_table.specs.Outward.{parent_in, StandBefore, outward_from}
 use Rattle.class_table.specs.Told.{parents_from, told}
 use Rattle.class_table.proofs.Parents.{stand_before}
-use Rattle.class_table.proofs.Every.{every-append, every-more}
+use Rattle.semantic_syntax.proofs.Every.{every-append, every-more}
 use Rattle.class_table.proofs.Entering.{outward_kept}
 use Rattle.class_table.proofs.Fitting.{length_told}
 use Rattle.check_model.specs.Context.{seen_class, classes_from}

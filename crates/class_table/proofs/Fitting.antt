@@ -11,7 +11,7 @@ use Rattle.semantic_model.specs.Class.{Class, PrivateUse}
 use Rattle.class_table.specs.Lists.{ClassLists, with_class}
 use Rattle.class_table.specs.Outward.{parent_in}
 use Rattle.class_table.specs.Told.{parents_from, with_uses, told, FitCurrent, current_elements}
-use Rattle.class_table.proofs.Every.{every-append, every-more}
+use Rattle.semantic_syntax.proofs.Every.{every-append, every-more}
 
 -- a class that stands inside another one is below n
 abbrev Below : ℕ → ℕ × ℕ → Type 0

@@ -6,7 +6,7 @@ use Rattle.std.proofs.Math.ListN.{length-set}
 use Rattle.semantic_model.specs.Element.{Element}
 use Rattle.semantic_model.specs.Class.{PrivateUse}
 use Rattle.class_table.specs.Lists.{ClassLists, IsClassLists, IsInside, with_class, with_element, elements_in}
-use Rattle.class_table.proofs.Every.{every-push, every-set, every-at, every-more}
+use Rattle.semantic_syntax.proofs.Every.{every-push, every-set, every-at, every-more}
 
 -- a class has an id for each of its elements
 abbrev Fits : List Element → Type 0

@@ -196,7 +196,10 @@ count_filled (x ∷ xs) = by x (count_filled xs)
 
 -- what slots are empty, as one is written, and as the last ones go
 module _ (empty : ℕ) (xs : SlotList) (is : empty + length (filled xs) ≡ length xs) where
-  module _ (i count : ℕ) (within : i < length xs) (was : count ≡ length (option_to_list (get_or xs i None))) where
+  module _ (i count : ℕ) (slot : Option (ℕ × ℕ)) (within : i < length xs) (counted : count ≡ length (option_to_list slot)) (read : slot ≡ get_or xs i None) where
+    was : count ≡ length (option_to_list (get_or xs i None))
+    was = counted ∙ ap (λ x. length (option_to_list x)) read
+
     pub empty-clear : empty + count + length (filled (set xs i None)) ≡ length (set xs i None)
     empty-clear = omega (arith, is, was, count_set xs i None within, length-set xs i None)
 

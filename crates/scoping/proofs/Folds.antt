@@ -1,7 +1,8 @@
 -- Symbols, as several of them change.
 use Rattle.std.proofs.Common.{◌≡◌, ℕ, ◌<◌, List, [], ◌∷◌, length, get_or, map, fold, refl, ap, ◌∙◌}
 use Rattle.std.specs.List.{AllByRecursion}
-use Rattle.std.proofs.lemmas.List.{length-set, get_or_default}
+use Rattle.std.proofs.Math.ListN.{set}
+use Rattle.std.proofs.lemmas.List.{length-set, get_or-set_same, get_or_default}
 use Rattle.semantic_syntax.specs.Tables.{Name}
 use Rattle.scoping.specs.Names.{name_at}
 use Rattle.scoping.specs.Row.{Row, symbol_of_row, no_row, row_named, row_moved}
@@ -9,8 +10,8 @@ use Rattle.scoping.specs.Writing.{with_name, with_home}
 use Rattle.std.specs.Map.{values_of}
 use Rattle.scoping.specs.Flat.{Numbered}
 use Rattle.scoping.specs.View.{IsBoundWithin}
-use Rattle.scoping.proofs.Every.{every-more, every-at, every-set}
-use Rattle.scoping.proofs.Shown.{AreNamed, symbol_changed}
+use Rattle.semantic_syntax.proofs.Every.{every-more, every-at, every-set}
+use Rattle.scoping.proofs.Shown.{AreBound, AreNamed, bound_at, symbol_changed}
 
 abbrev pub AreRows : List Row → List ℕ → Type 0
 AreRows ys ids = AllByRecursion (λ i. i < length ys) ids
@@ -61,3 +62,12 @@ module _ (names : List Name) where
 pub rows_bound : (names : ℕ) (ys : List Row) (b : Numbered) → AllByRecursion (IsBoundWithin names (length ys)) b → AreRows ys (values_of b)
 rows_bound names ys [] h = tt
 rows_bound names ys (e ∷ b) h = (h.0.1, rows_bound names ys b h.1)
+
+-- the symbols of the bindings that the scope `to` takes over from the scope `from`
+module _ (names : ℕ) (ys : List Row) (bs : List Numbered) (bound : AreBound names (length ys) bs) (from to : ℕ) (within : to < length bs)
+    (taken : List Numbered) (is : taken ≡ set (set bs from []) to (get_or bs from [])) (ids : List ℕ) (read : ids ≡ values_of (get_or taken to [])) where
+  pub ids_taken_over : ids ≡ values_of (get_or bs from [])
+  ids_taken_over = read ∙ ap (λ x. values_of (get_or x to [])) is ∙ ap values_of (get_or-set_same (set bs from []) to (get_or bs from []) [] (rw length-set within))
+
+  pub rows_taken_over : AreRows ys ids
+  rows_taken_over = rw ids_taken_over (rows_bound names ys (get_or bs from []) (bound_at names (length ys) bs from bound))

@@ -14,10 +14,12 @@ use Rattle.scoping.specs.Names.{name_at, named, IsUnknown, IsNumberOf, IsInterne
 use Rattle.scoping.specs.Row.{Row, symbol_of_row}
 use Rattle.std.proofs.Math.Seq.{map-set_same}
 use Rattle.scoping.specs.declared.scoping.ScopeRow.{ScopeRow}
-use Rattle.semantic_syntax.specs.Reading.{no_symbol, no_scope}
+use Rattle.semantic_syntax.specs.Reading.{no_symbol, no_scope, IsForest}
 use Rattle.scoping.proofs.Forests.{parents}
+use Rattle.scoping.proofs.Rows.{rows}
 use Rattle.scoping.specs.View.{IsBoundWithin, IsListedWithin, IsSound, tables, scope_of_row}
-use Rattle.scoping.proofs.Every.{every-more, every-at, every-or, every-set, every-push, every-insert, every-remove}
+use Rattle.semantic_syntax.proofs.Every.{every-more, every-at, every-or, every-set, every-push}
+use Rattle.scoping.proofs.Every.{every-insert, every-remove}
 use Rattle.scoping.proofs.Named.{AreKnown, named-grown, lookup-unknown, lookup-named, insert-named, remove-named}
 
 -- tables that have equal parts
@@ -207,7 +209,7 @@ pub names_of_rows : (names : List Name) (ys : List Row) → map (λ (y : Symbol)
 names_of_rows names [] = refl
 names_of_rows names (y ∷ ys) = ap (λ t. name_at names y.name ∷ t) (names_of_rows names ys)
 
--- fields with other bindings, or other rows for the symbols
+-- fields with others in the place of some
 module _ (a : Inside) (sound : IsSound a) where
   pub sound_bindings : (bs : List Numbered) → length bs ≡ length a.bindings → AreBound (length a.names) (length a.symbols.items) bs → IsSound (record a { bindings = bs })
   sound_bindings bs same h = record {
@@ -233,6 +235,48 @@ module _ (a : Inside) (sound : IsSound a) where
     free = sound.free;
     forest = sound.forest;
     symbols_fit = rw same sound.symbols_fit;
+    scopes_fit = sound.scopes_fit;
+    references_fit = sound.references_fit;
+  }
+
+  pub sound_scopes : (v : Vec ScopeRow) → length v.items ≡ length a.scopes.items → IsForest (map scope_of_row v.items) → IsSound (record a { scopes = v })
+  sound_scopes v same h = record {
+    counted = sound.counted ∙ sym same;
+    bound = sound.bound;
+    named = sound.named;
+    used = sound.used;
+    uses = sound.uses;
+    free = sound.free;
+    forest = h;
+    symbols_fit = sound.symbols_fit;
+    scopes_fit = rw same sound.scopes_fit;
+    references_fit = sound.references_fit;
+  }
+
+  pub sound_uses : (v : Vec (Vec ℕ)) → length v.items ≡ length a.uses.items → AllByRecursion (AllByRecursion (λ r. r < length a.references.items)) (rows v.items) → IsSound (record a { uses = v })
+  sound_uses v same h = record {
+    counted = sound.counted;
+    bound = sound.bound;
+    named = sound.named;
+    used = same ∙ sound.used;
+    uses = h;
+    free = sound.free;
+    forest = sound.forest;
+    symbols_fit = sound.symbols_fit;
+    scopes_fit = sound.scopes_fit;
+    references_fit = sound.references_fit;
+  }
+
+  pub sound_free : (es : List (ℕ × List ℕ)) → AllByRecursion (IsListedWithin (length a.names) (length a.references.items)) es → IsSound (record a { free = es })
+  sound_free es h = record {
+    counted = sound.counted;
+    bound = sound.bound;
+    named = sound.named;
+    used = sound.used;
+    uses = sound.uses;
+    free = h;
+    forest = sound.forest;
+    symbols_fit = sound.symbols_fit;
     scopes_fit = sound.scopes_fit;
     references_fit = sound.references_fit;
   }

@@ -1,5 +1,5 @@
 use Rattle.std.proofs.Common.{map, take}
-use Rattle.scoping.proofs.Results.{on_err}
+use Rattle.semantic_syntax.proofs.Results.{on_err}
 use Rattle.semantic_syntax.specs.Outcome.{last_probes}
 use Rattle.resolver.specs.Terms.{pending_of}
 use Rattle.resolver.proofs.Asking.{asked_within}

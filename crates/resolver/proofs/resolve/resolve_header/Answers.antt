@@ -1,5 +1,5 @@
 use Rattle.std.proofs.Common.{drop}
-use Rattle.scoping.proofs.Results.{on_err}
+use Rattle.semantic_syntax.proofs.Results.{on_err}
 use Rattle.semantic_syntax.specs.Outcome.{header_probes}
 use Rattle.resolver.proofs.Asking.{asked_within}
 use Rattle.resolver.proofs.resolve.resolve_header.Goals as goal

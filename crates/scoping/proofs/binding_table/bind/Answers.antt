@@ -2,7 +2,7 @@ use Rattle.std.proofs.Common.{Some, length, sym, subst, arith}
 use Rattle.scoping.specs.Flat.{StandsAt, Retells}
 use Rattle.scoping.proofs.Filled.{filled-fill, filled-push}
 use Rattle.scoping.proofs.Indexed.{position_within, stands-again, stands-push, told_here, told_elsewhere}
-use Rattle.scoping.proofs.Results.{from_ok}
+use Rattle.semantic_syntax.proofs.Results.{from_ok}
 use Rattle.scoping.proofs.binding_table.bind.Goals as goal
 
 pub fill-requires : goal.fill-requires

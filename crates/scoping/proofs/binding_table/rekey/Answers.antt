@@ -1,7 +1,7 @@
 use Rattle.std.proofs.Common.{◌<◌, ◌≤◌, ◌+◌, length, sym, ◌∙◌, arith}
 use Rattle.indexmap.specs.IndexMap.{spare}
 use Rattle.scoping.proofs.Indexed.{rekeyed_none, rekeyed_past, rekeyed_more}
-use Rattle.scoping.proofs.Results.{from_ok}
+use Rattle.semantic_syntax.proofs.Results.{from_ok}
 use Rattle.scoping.proofs.binding_table.rekey.Goals.{in-Some, in_default}
 use Rattle.scoping.proofs.binding_table.rekey.Goals as goal
 

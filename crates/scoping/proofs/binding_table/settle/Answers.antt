@@ -2,7 +2,7 @@ use Rattle.std.proofs.Common.{◌≡◌, None, Some, get_or, sym, ap, arith}
 use Rattle.scoping.specs.Kept.{stays, rows_without_types}
 use Rattle.scoping.proofs.Filled.{filled-move, kept-clear}
 use Rattle.scoping.proofs.Indexed.{position_told, free_slot, stands-clear, stands-move, told_here, told_elsewhere}
-use Rattle.scoping.proofs.Results.{where_present}
+use Rattle.semantic_syntax.proofs.Results.{where_present}
 use Rattle.scoping.proofs.binding_table.settle.Goals as goal
 
 pub returns-then-not-stays-clause-positions : goal.returns-then-not-stays-clause-positions

@@ -1,22 +1,12 @@
-use Rattle.std.proofs.Common.{◌≡◌, ◌<◌, [], length, sym, ap, ◌∙◌, arith}
-use Rattle.std.proofs.lemmas.List.{map-set, get_or-map, length-map}
+use Rattle.std.proofs.Common.{length, ap, ◌∙◌, arith}
 use Rattle.scoping.specs.Kept.{without_type_uses}
-use Rattle.scoping.proofs.Rows.{rows}
-use Rattle.scoping.proofs.Sweeps.{swept_more, swept_map, whole}
+use Rattle.scoping.proofs.Sweeps.{swept_row, swept_rows}
 use Rattle.scoping.proofs.kept.retain_values_in_each.Goals as goal
 
 pub loop-list-preserved : goal.loop-list-preserved
-loop-list-preserved c =
-    let lists = c.loop-list.list-items in
-    let i = c.loop-list.list-index in
-    let within : i < length lists = omega arith in
-    let is = c.retain_values.ensures ∙ ap (without_type_uses c.args.references.now) (sym (get_or-map (λ v. v.items) lists i c.list-item.result [] within)) in
-    rw map-set (swept_more _ _ (rows lists) i c.retain_values.new.list.items (omega (arith, length-map lists (λ v. v.items), c.loop-list.invariant.count)) is c.loop-list.invariant)
+loop-list-preserved c = swept_row (without_type_uses c.args.references.now) _ c.loop-list.list-items c.loop-list.list-index c.list-item.result c.retain_values.new.list (omega arith) c.retain_values.ensures c.loop-list.invariant
 
 pub returns : goal.returns
 returns c =
-    let lists = c.loop-list.list-items in
-    let was = c.args.lists.now.items in
-    let count : length lists ≡ length was = c.loop-list.auto.list-items ∙ ap length c.deref_mut-list-items.ensures.value in
-    rw (whole c.args.lists.now.len was lists (omega (arith, c.deref_mut-list-items.ensures.len)) count, ← c.deref_mut-list-items.ensures.value)
-    (swept_map (without_type_uses c.args.references.now) _ _ c.loop-list.list-index (omega (arith, length-map c.deref_mut-list-items.result.now (λ v. v.items))) c.loop-list.invariant)
+    swept_rows (without_type_uses c.args.references.now) c.args.lists.now.items _ c.loop-list.list-items c.args.lists.now.len c.loop-list.list-index c.deref_mut-list-items.ensures.value
+    (omega (arith, c.deref_mut-list-items.ensures.len)) (c.loop-list.auto.list-items ∙ ap length c.deref_mut-list-items.ensures.value) (omega (arith, ap length c.deref_mut-list-items.ensures.value)) c.loop-list.invariant

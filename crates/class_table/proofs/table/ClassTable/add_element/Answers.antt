@@ -4,7 +4,7 @@ use Rattle.class_table.specs.Seen.{element_seen}
 use Rattle.class_table.specs.View.{lists_of}
 use Rattle.class_table.specs.Lists.{with_element}
 use Rattle.class_table.specs.Meanings.{meanings_of}
-use Rattle.class_table.proofs.Every.{on_err}
+use Rattle.semantic_syntax.proofs.Results.{on_err}
 use Rattle.class_table.proofs.Named.{names_set, names_kept}
 use Rattle.class_table.proofs.Pushed.{pushed, kept, read_at}
 use Rattle.class_table.proofs.Sound.{sound_with_element, within_elements}

@@ -2,7 +2,7 @@ use Rattle.std.proofs.Common.{ap, length, ◌<◌}
 use Rattle.class_table.specs.Seen.{use_seen}
 use Rattle.class_table.specs.View.{lists_of}
 use Rattle.class_table.specs.Lists.{with_use}
-use Rattle.class_table.proofs.Every.{on_err}
+use Rattle.semantic_syntax.proofs.Results.{on_err}
 use Rattle.class_table.proofs.Pushed.{pushed, kept}
 use Rattle.class_table.proofs.Sound.{within_uses}
 use Rattle.class_table.proofs.table.ClassTable.add_private_identifier_reference.Goals as goal

@@ -2,7 +2,7 @@ use Rattle.std.proofs.Common.{nat_eq, ◌∙◌}
 use Rattle.std.proofs.lemmas.List.{length-map}
 use Rattle.indexmap.specs.IndexMap.{insert_entry}
 use Rattle.scoping.proofs.Indexed.{row_changed, row_kept}
-use Rattle.scoping.proofs.Results.{on_ok_then, on_err_then}
+use Rattle.semantic_syntax.proofs.Results.{on_ok_then, on_err_then}
 use Rattle.scoping.proofs.binding_table.BindingTable.insert.Goals as goal
 
 pub returns-clause-ok : goal.returns-clause-ok

@@ -1,6 +1,6 @@
 use Rattle.std.proofs.Common.{◌++◌, ◌∷◌, [], nat_eq, sym, ◌∙◌, ap}
 use Rattle.indexmap.specs.IndexMap.{insert_entry}
-use Rattle.scoping.proofs.Results.{on_err}
+use Rattle.semantic_syntax.proofs.Results.{on_err}
 use Rattle.scoping.proofs.Entries.{by_value, lookup-by_value, insert-by_value, set_value-kept, set_value-inserts}
 use Rattle.scoping.proofs.free_table.FreeTable.push.Goals as goal
 

@@ -3,7 +3,7 @@ use Rattle.std.specs.List.{AllByRecursion}
 use Rattle.std.specs.Slice.Iter.{iter_rest}
 use Rattle.std.proofs.lemmas.List.{map-append, get_or_read}
 use Rattle.semantic_syntax.specs.Reading.{no_reference}
-use Rattle.scoping.proofs.Every.{every-last}
+use Rattle.semantic_syntax.proofs.Every.{every-last}
 use Rattle.scoping.proofs.reference_iterators.ReferencesIterDoubleEndedIterator.next_back.Goals as goal
 
 pub returns-clause-steps : goal.returns-clause-steps

@@ -4,8 +4,8 @@ use Rattle.std.proofs.Math.ListN.{set}
 use Rattle.std.proofs.lemmas.List.{length-set}
 use Rattle.indexmap.specs.IndexMap.{insert_entry}
 use Rattle.scoping.specs.Names.{name_of}
-use Rattle.scoping.proofs.Results.{on_err}
-use Rattle.scoping.proofs.Shown.{tables_eq, bound_insert, shown_insert, scope_within, symbol_within, tables_interned, sound_interned, bindings_interned, symbols_interned, free_interned}
+use Rattle.semantic_syntax.proofs.Results.{on_err}
+use Rattle.scoping.proofs.Shown.{tables_eq, bound_insert, shown_insert, scope_within, symbol_within, sound_bindings, tables_interned, sound_interned, bindings_interned, symbols_interned, free_interned}
 use Rattle.scoping.proofs.scoping.Scoping.add_binding.Goals as goal
 
 pub invariant_of-self-in_err-insert : goal.invariant_of-self-in_err-insert
@@ -21,18 +21,9 @@ invariant_of-self-2 c =
     let interned = c.in_ok-number.ensures.ok in
     let sound = sound_interned c.self.inside c.self.invariant _ _ _ interned in
     let symbol = symbol_within c.self.inside c.self.invariant c.args.symbol (rw (← c.self.view_is) at c.requires.symbol) in
-    record {
-      counted = rw (c.in_ok-insert.ensures.ok, length-set) sound.counted;
-      bound = rw c.in_ok-insert.ensures.ok (bound_insert _ _ c.args.scope c.in_ok-number.number c.args.symbol c.self.inside.bindings interned.number.within symbol sound.bound);
-      named = sound.named;
-      used = sound.used;
-      uses = sound.uses;
-      free = sound.free;
-      forest = sound.forest;
-      symbols_fit = sound.symbols_fit;
-      scopes_fit = sound.scopes_fit;
-      references_fit = sound.references_fit;
-    }
+    rw c.in_ok-insert.ensures.ok
+    (sound_bindings _ sound _ (length-set c.self.inside.bindings c.args.scope _)
+    (bound_insert _ _ c.args.scope c.in_ok-number.number c.args.symbol c.self.inside.bindings interned.number.within symbol sound.bound))
 
 pub returns-clause-ok : goal.returns-clause-ok
 returns-clause-ok c =

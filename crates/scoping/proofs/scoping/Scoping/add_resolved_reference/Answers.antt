@@ -1,10 +1,10 @@
-use Rattle.std.proofs.Common.{◌++◌, ◌∷◌, [], ◌<◌, ℕ, length, refl, ◌∙◌}
+use Rattle.std.proofs.Common.{◌++◌, ◌∷◌, [], ◌<◌, ℕ, length, refl}
 use Rattle.std.specs.List.{AllByRecursion}
 use Rattle.std.proofs.lemmas.List.{length-set}
-use Rattle.scoping.proofs.Every.{every-push, every-set, every-or}
-use Rattle.scoping.proofs.Results.{on_err}
+use Rattle.semantic_syntax.proofs.Every.{every-push, every-set, every-or}
+use Rattle.semantic_syntax.proofs.Results.{on_err}
 use Rattle.scoping.proofs.Rows.{rows, rows_kept, rows_changed}
-use Rattle.scoping.proofs.Shown.{tables_eq, uses_within}
+use Rattle.scoping.proofs.Shown.{tables_eq, uses_within, sound_uses}
 use Rattle.scoping.proofs.scoping.Scoping.add_resolved_reference.Goals as goal
 
 pub invariant_of-self : goal.invariant_of-self
@@ -12,18 +12,7 @@ invariant_of-self c =
     let before = c.self.invariant in
     let within = uses_within c.self.inside before c.args.symbol (rw (← c.self.view_is) at c.requires.symbol) in
     let kept = rows_kept c.self.inside.uses.items c.args.symbol c.index.result c.index_mut.result.now c.push.new.self c.index.ensures within c.index_mut.ensures.value c.in_err-push.ensures.items in
-    record {
-      counted = before.counted;
-      bound = before.bound;
-      named = before.named;
-      used = length-set c.self.inside.uses.items c.index.result c.push.new.self ∙ before.used;
-      uses = rw kept before.uses;
-      free = before.free;
-      forest = before.forest;
-      symbols_fit = before.symbols_fit;
-      scopes_fit = before.scopes_fit;
-      references_fit = before.references_fit;
-    }
+    sound_uses c.self.inside before _ (length-set c.self.inside.uses.items c.index.result c.push.new.self) (rw kept before.uses)
 
 pub returns-in_err-push-clause-err : goal.returns-in_err-push-clause-err
 returns-in_err-push-clause-err c =
@@ -40,19 +29,9 @@ invariant_of-self-2 c =
     let within = uses_within c.self.inside before c.args.symbol (rw (← c.self.view_is) at c.requires.symbol) in
     let changed = rows_changed c.self.inside.uses.items c.args.symbol c.index.result c.index_mut.result.now c.push.new.self c.index.ensures within c.index_mut.ensures.value (λ rs. rs ++ c.args.reference ∷ []) c.in_ok-push.ensures.items in
     let known : ℕ → Type 0 = λ r. r < length c.self.inside.references.items in
-    record {
-      counted = before.counted;
-      bound = before.bound;
-      named = before.named;
-      used = length-set c.self.inside.uses.items c.index.result c.push.new.self ∙ before.used;
-      uses = rw changed (every-set (AllByRecursion known) _ (rows c.self.inside.uses.items) c.args.symbol before.uses
-          (every-push known c.args.reference _ (every-or (AllByRecursion known) [] (rows c.self.inside.uses.items) c.args.symbol before.uses tt) (rw (← c.self.view_is) at c.requires.reference)));
-      free = before.free;
-      forest = before.forest;
-      symbols_fit = before.symbols_fit;
-      scopes_fit = before.scopes_fit;
-      references_fit = before.references_fit;
-    }
+    sound_uses c.self.inside before _ (length-set c.self.inside.uses.items c.index.result c.push.new.self)
+    (rw changed (every-set (AllByRecursion known) _ (rows c.self.inside.uses.items) c.args.symbol before.uses
+    (every-push known c.args.reference _ (every-or (AllByRecursion known) [] (rows c.self.inside.uses.items) c.args.symbol before.uses tt) (rw (← c.self.view_is) at c.requires.reference))))
 
 pub returns-clause-ok : goal.returns-clause-ok
 returns-clause-ok c =

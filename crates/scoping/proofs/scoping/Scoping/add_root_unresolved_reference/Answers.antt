@@ -4,8 +4,8 @@ use Rattle.std.specs.Str.{bytes_eq}
 use Rattle.indexmap.specs.IndexMap.{insert_entry}
 use Rattle.scoping.specs.Names.{named, name_of}
 use Rattle.scoping.proofs.Named.{insert-named, lookup-named}
-use Rattle.scoping.proofs.Results.{on_err}
-use Rattle.scoping.proofs.Shown.{tables_eq, known_listed, listed_push, tables_interned, sound_interned, bindings_interned, symbols_interned, free_interned}
+use Rattle.semantic_syntax.proofs.Results.{on_err}
+use Rattle.scoping.proofs.Shown.{tables_eq, known_listed, listed_push, sound_free, tables_interned, sound_interned, bindings_interned, symbols_interned, free_interned}
 use Rattle.scoping.proofs.scoping.Scoping.add_root_unresolved_reference.Goals as goal
 
 pub invariant_of-self-in_err-push : goal.invariant_of-self-in_err-push
@@ -20,18 +20,8 @@ pub invariant_of-self-2 : goal.invariant_of-self-2
 invariant_of-self-2 c =
     let interned = c.in_ok-number.ensures.ok in
     let sound = sound_interned c.self.inside c.self.invariant _ _ _ interned in
-    record {
-      counted = sound.counted;
-      bound = sound.bound;
-      named = sound.named;
-      used = sound.used;
-      uses = sound.uses;
-      free = rw c.in_ok-push.ensures.ok (listed_push _ _ c.in_ok-number.number c.args.reference c.self.inside.free interned.number.within (rw (← c.self.view_is) at c.requires) sound.free);
-      forest = sound.forest;
-      symbols_fit = sound.symbols_fit;
-      scopes_fit = sound.scopes_fit;
-      references_fit = sound.references_fit;
-    }
+    rw c.in_ok-push.ensures.ok
+    (sound_free _ sound _ (listed_push _ _ c.in_ok-number.number c.args.reference c.self.inside.free interned.number.within (rw (← c.self.view_is) at c.requires) sound.free))
 
 pub returns-clause-ok : goal.returns-clause-ok
 returns-clause-ok c =

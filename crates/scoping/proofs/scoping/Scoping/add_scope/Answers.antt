@@ -1,6 +1,6 @@
 use Rattle.std.proofs.Common.{◌++◌, ◌∷◌, [], ap, ◌∙◌, arith, length-append}
 use Rattle.std.proofs.lemmas.List.{length-map, map-append}
-use Rattle.scoping.proofs.Every.{every-push}
+use Rattle.semantic_syntax.proofs.Every.{every-push}
 use Rattle.scoping.proofs.Parents.{IsForest-push}
 use Rattle.scoping.proofs.scoping.Scoping.add_scope.Goals as goal
 

@@ -1,10 +1,11 @@
-use Rattle.std.proofs.Common.{ℕ, ◌<◌, nat_eq, [], length, refl, ◌∙◌}
+use Rattle.std.proofs.Common.{ℕ, ◌<◌, nat_eq, [], length, refl}
 use Rattle.std.specs.List.{AllByRecursion}
 use Rattle.std.proofs.lemmas.List.{length-set}
 use Rattle.indexmap.specs.IndexMap.{swap_remove_by}
-use Rattle.scoping.proofs.Every.{every-set, every-or, every-swapped}
+use Rattle.semantic_syntax.proofs.Every.{every-set, every-or}
+use Rattle.scoping.proofs.Every.{every-swapped}
 use Rattle.scoping.proofs.Rows.{rows, rows_changed}
-use Rattle.scoping.proofs.Shown.{tables_eq, uses_within}
+use Rattle.scoping.proofs.Shown.{tables_eq, uses_within, sound_uses}
 use Rattle.scoping.proofs.scoping.Scoping.delete_resolved_reference.Goals as goal
 
 pub invariant_of-self : goal.invariant_of-self
@@ -13,19 +14,9 @@ invariant_of-self c =
     let within = uses_within c.self.inside before c.args.symbol (rw (← c.self.view_is) at c.requires) in
     let changed = rows_changed c.self.inside.uses.items c.args.symbol c.index.result c.index_mut.result.now c.take_out.new.references c.index.ensures within c.index_mut.ensures.value (swap_remove_by (nat_eq c.args.reference)) c.take_out.ensures in
     let known : ℕ → Type 0 = λ r. r < length c.self.inside.references.items in
-    record {
-      counted = before.counted;
-      bound = before.bound;
-      named = before.named;
-      used = length-set c.self.inside.uses.items c.index.result c.take_out.new.references ∙ before.used;
-      uses = rw changed (every-set (AllByRecursion known) _ (rows c.self.inside.uses.items) c.args.symbol before.uses
-          (every-swapped known (nat_eq c.args.reference) _ (every-or (AllByRecursion known) [] (rows c.self.inside.uses.items) c.args.symbol before.uses tt)));
-      free = before.free;
-      forest = before.forest;
-      symbols_fit = before.symbols_fit;
-      scopes_fit = before.scopes_fit;
-      references_fit = before.references_fit;
-    }
+    sound_uses c.self.inside before _ (length-set c.self.inside.uses.items c.index.result c.take_out.new.references)
+    (rw changed (every-set (AllByRecursion known) _ (rows c.self.inside.uses.items) c.args.symbol before.uses
+    (every-swapped known (nat_eq c.args.reference) _ (every-or (AllByRecursion known) [] (rows c.self.inside.uses.items) c.args.symbol before.uses tt))))
 
 pub returns : goal.returns
 returns c =

@@ -1,25 +1,14 @@
 use Rattle.std.proofs.Common.{refl, sym, length, nat_eq}
 use Rattle.scoping.specs.Names.{name_of}
 use Rattle.scoping.proofs.Keeping.{delisted_unknown, delisted-named, delisted_within}
-use Rattle.scoping.proofs.Shown.{tables_eq, known_listed}
+use Rattle.scoping.proofs.Shown.{tables_eq, known_listed, sound_free}
 use Rattle.scoping.proofs.scoping.Scoping.delete_root_unresolved_reference.Goals as goal
 
 pub invariant_of-self : goal.invariant_of-self
 invariant_of-self c =
     let a = c.self.inside in
-    let sound = c.self.invariant in
-    record {
-      counted = sound.counted;
-      bound = sound.bound;
-      named = sound.named;
-      used = sound.used;
-      uses = sound.uses;
-      free = rw c.remove.ensures (delisted_within (length a.names) (length a.references.items) (nat_eq c.in-Some.number) c.args.reference a.free sound.free);
-      forest = sound.forest;
-      symbols_fit = sound.symbols_fit;
-      scopes_fit = sound.scopes_fit;
-      references_fit = sound.references_fit;
-    }
+    rw c.remove.ensures
+    (sound_free a c.self.invariant _ (delisted_within (length a.names) (length a.references.items) (nat_eq c.in-Some.number) c.args.reference a.free c.self.invariant.free))
 
 pub returns-in-Some : goal.returns-in-Some
 returns-in-Some c =

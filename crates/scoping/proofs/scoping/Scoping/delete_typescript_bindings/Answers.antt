@@ -6,7 +6,7 @@ use Rattle.scoping.specs.Names.{named}
 use Rattle.scoping.specs.View.{IsBoundWithin, IsListedWithin}
 use Rattle.scoping.proofs.Keeping.{every-filter, every-map}
 use Rattle.scoping.proofs.Rows.{rows}
-use Rattle.scoping.proofs.Shown.{tables_eq}
+use Rattle.scoping.proofs.Shown.{tables_eq, sound_bindings, sound_uses, sound_free}
 use Rattle.scoping.proofs.Typeless.{shown_typeless, shown_lists}
 use Rattle.scoping.proofs.scoping.Scoping.delete_typescript_bindings.Goals as goal
 
@@ -21,19 +21,15 @@ invariant_of-self c =
     let pair = IsBoundWithin (length a.names) (length a.symbols.items) in
     let listed = IsListedWithin (length a.names) (length a.references.items) in
     let after = c.retain_values_in_each.new.lists.items in
-    record {
-      counted = ap length c.retain_values.ensures ∙ length-map a.bindings (rows_without_types ys) ∙ sound.counted;
-      bound = rw c.retain_values.ensures (every-map (AllByRecursion pair) (AllByRecursion pair) (rows_without_types ys) (λ b h. every-filter pair (λ e. stays ys e.1) b h) a.bindings sound.bound);
-      named = sound.named;
-      used = sym (length-map after (λ v. v.items)) ∙ ap length c.retain_values_in_each.ensures ∙ length-map (rows a.uses.items) uses_of_values ∙ length-map a.uses.items (λ v. v.items) ∙ sound.used;
-      uses = rw c.retain_values_in_each.ensures (every-map (AllByRecursion known) (AllByRecursion known) uses_of_values (λ rs h. every-filter known (is_used_by_value c.deref-2.result.now) rs h) (rows a.uses.items) sound.uses);
-      free = rw c.retain_values-2.ensures (every-filter listed (λ e. not (length e.1 == 0)) _
-          (every-map listed listed (λ e. (e.0, free_of_values e.1)) (λ e h. (h.0, every-filter known (is_used_by_value c.deref-3.result.now) e.1 h.1)) a.free sound.free));
-      forest = sound.forest;
-      symbols_fit = sound.symbols_fit;
-      scopes_fit = sound.scopes_fit;
-      references_fit = sound.references_fit;
-    }
+    let lists = sound_free a sound c.retain_values-2.new.self
+    (rw c.retain_values-2.ensures (every-filter listed (λ e. not (length e.1 == 0)) _
+    (every-map listed listed (λ e. (e.0, free_of_values e.1)) (λ e h. (h.0, every-filter known (is_used_by_value c.deref-3.result.now) e.1 h.1)) a.free sound.free))) in
+    let used = sound_uses _ lists c.retain_values_in_each.new.lists
+    (sym (length-map after (λ v. v.items)) ∙ ap length c.retain_values_in_each.ensures ∙ length-map (rows a.uses.items) uses_of_values ∙ length-map a.uses.items (λ v. v.items))
+    (rw c.retain_values_in_each.ensures (every-map (AllByRecursion known) (AllByRecursion known) uses_of_values (λ rs h. every-filter known (is_used_by_value c.deref-2.result.now) rs h) (rows a.uses.items) sound.uses)) in
+    sound_bindings _ used _
+    (ap length c.retain_values.ensures ∙ length-map a.bindings (rows_without_types ys))
+    (rw c.retain_values.ensures (every-map (AllByRecursion pair) (AllByRecursion pair) (rows_without_types ys) (λ b h. every-filter pair (λ e. stays ys e.1) b h) a.bindings sound.bound))
 
 pub returns : goal.returns
 returns c =

@@ -1,6 +1,6 @@
 use Rattle.std.proofs.Common.{ℕ, ◌<◌, [], length, subst}
 use Rattle.std.specs.List.{AllByRecursion}
-use Rattle.scoping.proofs.Every.{every-or}
+use Rattle.semantic_syntax.proofs.Every.{every-or}
 use Rattle.scoping.proofs.Rows.{rows, row_at}
 use Rattle.scoping.proofs.Shown.{uses_within}
 use Rattle.scoping.proofs.scoping.Scoping.get_resolved_references.Goals as goal

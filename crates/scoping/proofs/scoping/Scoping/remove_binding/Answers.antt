@@ -5,24 +5,14 @@ use Rattle.std.specs.Str.{bytes_eq}
 use Rattle.indexmap.specs.IndexMap.{shift_remove_entry}
 use Rattle.scoping.specs.Names.{name_of}
 use Rattle.scoping.proofs.Named.{remove-unknown}
-use Rattle.scoping.proofs.Shown.{tables_eq, bound_remove, known_at, shown_at, shown_remove, scope_within}
+use Rattle.scoping.proofs.Shown.{tables_eq, bound_remove, known_at, shown_at, shown_remove, scope_within, sound_bindings}
 use Rattle.scoping.proofs.scoping.Scoping.remove_binding.Goals as goal
 
 pub invariant_of-self : goal.invariant_of-self
 invariant_of-self c =
-    let sound = c.self.invariant in
-    record {
-      counted = rw (c.remove.ensures, length-set) sound.counted;
-      bound = rw c.remove.ensures (bound_remove _ _ c.args.scope c.in-Some.number c.self.inside.bindings sound.bound);
-      named = sound.named;
-      used = sound.used;
-      uses = sound.uses;
-      free = sound.free;
-      forest = sound.forest;
-      symbols_fit = sound.symbols_fit;
-      scopes_fit = sound.scopes_fit;
-      references_fit = sound.references_fit;
-    }
+    rw c.remove.ensures
+    (sound_bindings c.self.inside c.self.invariant _ (length-set c.self.inside.bindings c.args.scope _)
+    (bound_remove _ _ c.args.scope c.in-Some.number c.self.inside.bindings c.self.invariant.bound))
 
 pub returns-in-Some : goal.returns-in-Some
 returns-in-Some c =

@@ -4,6 +4,7 @@ use Rattle.std.proofs.lemmas.List.{length-map}
 use Rattle.scoping.specs.Kept.{without_marked, is_unmarked}
 use Rattle.scoping.proofs.Keeping.{every-filter, every-map}
 use Rattle.scoping.proofs.Rows.{rows}
+use Rattle.scoping.proofs.Shown.{sound_uses}
 use Rattle.scoping.proofs.scoping.Scoping.retain_resolved_references_excluding.Goals as goal
 
 pub invariant_of-self : goal.invariant_of-self
@@ -12,15 +13,6 @@ invariant_of-self c =
     let sound = c.self.invariant in
     let known : ℕ → Type 0 = λ r. r < length a.references.items in
     let after = c.retain_unmarked_in_each.new.lists.items in
-    record {
-      counted = sound.counted;
-      bound = sound.bound;
-      named = sound.named;
-      used = sym (length-map after (λ v. v.items)) ∙ ap length c.retain_unmarked_in_each.ensures ∙ length-map (rows a.uses.items) (without_marked c.args.excluded.now) ∙ length-map a.uses.items (λ v. v.items) ∙ sound.used;
-      uses = rw c.retain_unmarked_in_each.ensures (every-map (AllByRecursion known) (AllByRecursion known) (without_marked c.args.excluded.now) (λ rs h. every-filter known (is_unmarked c.args.excluded.now) rs h) (rows a.uses.items) sound.uses);
-      free = sound.free;
-      forest = sound.forest;
-      symbols_fit = sound.symbols_fit;
-      scopes_fit = sound.scopes_fit;
-      references_fit = sound.references_fit;
-    }
+    sound_uses a sound _
+    (sym (length-map after (λ v. v.items)) ∙ ap length c.retain_unmarked_in_each.ensures ∙ length-map (rows a.uses.items) (without_marked c.args.excluded.now) ∙ length-map a.uses.items (λ v. v.items))
+    (rw c.retain_unmarked_in_each.ensures (every-map (AllByRecursion known) (AllByRecursion known) (without_marked c.args.excluded.now) (λ rs h. every-filter known (is_unmarked c.args.excluded.now) rs h) (rows a.uses.items) sound.uses))

@@ -1,8 +1,8 @@
-use Rattle.std.proofs.Common.{refl, ap, ◌∙◌, sym}
+use Rattle.std.proofs.Common.{refl, ap, sym}
 use Rattle.std.proofs.lemmas.List.{length-set}
 use Rattle.semantic_syntax.specs.Tables.{Scope}
 use Rattle.scoping.proofs.Forests.{IsForest-same}
-use Rattle.scoping.proofs.Shown.{tables_eq, scope_at, scope_changed, parents_kept, row_within}
+use Rattle.scoping.proofs.Shown.{tables_eq, scope_at, scope_changed, parents_kept, row_within, sound_scopes}
 use Rattle.scoping.proofs.scoping.Scoping.scope_flags_mut.Goals as goal
 
 pub invariant_of-self-lent : goal.invariant_of-self-lent
@@ -10,19 +10,8 @@ invariant_of-self-lent c = λ w.
     let before = c.self.invariant in
     let within = row_within c.self.inside before c.args.scope (rw (← c.self.view_is) at c.requires) in
     let row = record c.index_mut-row.result.now { flags = w } in
-    let same = length-set c.self.inside.scopes.items c.index.result row in
-    record {
-      counted = before.counted ∙ sym same;
-      bound = before.bound;
-      named = before.named;
-      used = before.used;
-      uses = before.uses;
-      free = before.free;
-      forest = IsForest-same _ _ (parents_kept c.self.inside.scopes.items c.args.scope c.index.result c.index_mut-row.result.now row c.index.ensures within c.index_mut-row.ensures.value refl) before.forest;
-      symbols_fit = before.symbols_fit;
-      scopes_fit = rw same before.scopes_fit;
-      references_fit = before.references_fit;
-    }
+    sound_scopes _ before _ (length-set c.self.inside.scopes.items c.index.result row)
+    (IsForest-same _ _ (parents_kept c.self.inside.scopes.items c.args.scope c.index.result c.index_mut-row.result.now row c.index.ensures within c.index_mut-row.ensures.value refl) before.forest)
 
 pub returns : goal.returns
 returns c =

@@ -1,7 +1,7 @@
-use Rattle.std.proofs.Common.{refl, ◌∙◌, sym}
+use Rattle.std.proofs.Common.{refl}
 use Rattle.std.proofs.lemmas.List.{length-set}
 use Rattle.scoping.proofs.Reparent.{IsForest-reparent}
-use Rattle.scoping.proofs.Shown.{tables_eq, scope_changed, row_within}
+use Rattle.scoping.proofs.Shown.{tables_eq, scope_changed, row_within, sound_scopes}
 use Rattle.scoping.proofs.scoping.Scoping.set_scope_parent_id.Goals as goal
 
 pub invariant_of-self : goal.invariant_of-self
@@ -10,20 +10,9 @@ invariant_of-self c =
     let requires = rw (← c.self.view_is) at c.requires.scope in
     let within = row_within c.self.inside before c.args.scope requires in
     let row = record c.index_mut-row.result.now { parent = c.args.parent } in
-    let same = length-set c.self.inside.scopes.items c.index.result row in
-    record {
-      counted = before.counted ∙ sym same;
-      bound = before.bound;
-      named = before.named;
-      used = before.used;
-      uses = before.uses;
-      free = before.free;
-      forest = rw (scope_changed c.self.inside.scopes.items c.args.scope c.index.result c.index_mut-row.result.now row c.index.ensures within c.index_mut-row.ensures.value (λ x. record x { parent = c.args.parent }) refl)
-          (IsForest-reparent _ c.args.scope c.args.parent before.forest requires (rw (← c.self.view_is) at c.requires.parent) (rw (← c.self.view_is) at c.requires.acyclic));
-      symbols_fit = before.symbols_fit;
-      scopes_fit = rw same before.scopes_fit;
-      references_fit = before.references_fit;
-    }
+    sound_scopes _ before _ (length-set c.self.inside.scopes.items c.index.result row)
+    (rw (scope_changed c.self.inside.scopes.items c.args.scope c.index.result c.index_mut-row.result.now row c.index.ensures within c.index_mut-row.ensures.value (λ x. record x { parent = c.args.parent }) refl)
+    (IsForest-reparent _ c.args.scope c.args.parent before.forest requires (rw (← c.self.view_is) at c.requires.parent) (rw (← c.self.view_is) at c.requires.acyclic)))
 
 pub returns : goal.returns
 returns c =

@@ -1,6 +1,6 @@
 use Rattle.std.proofs.Common.{ap, ◌∙◌}
 use Rattle.scoping.specs.Names.{name_of}
-use Rattle.scoping.proofs.Results.{on_err}
+use Rattle.semantic_syntax.proofs.Results.{on_err}
 use Rattle.semantic_model.specs.Binding.{put}
 use Rattle.table_building.proofs.Numbered.{interned_same, interned_numbered, numbered_insert, put_numbered}
 use Rattle.table_building.proofs.hoisting_variables.HoistingVariables.put.Goals as goal

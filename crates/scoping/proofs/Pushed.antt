@@ -1,0 +1,54 @@
+-- Tables with one symbol more.
+use Rattle.std.proofs.Common.{◌≡◌, ℕ, ◌<◌, ◌+◌, List, [], ◌∷◌, ◌++◌, length, map, refl, ap, ◌∙◌, arith, length-append}
+use Rattle.std.specs.Global.{Vec}
+use Rattle.std.proofs.lemmas.List.{length-map, map-append}
+use Rattle.semantic_syntax.specs.Tables.{Name}
+use Rattle.semantic_syntax.proofs.Every.{every-push}
+use Rattle.scoping.specs.declared.scoping.Scoping.TheInside.{Inside}
+use Rattle.scoping.specs.Names.{IsInterned}
+use Rattle.scoping.specs.Row.{Row, symbol_of_row}
+use Rattle.scoping.specs.View.{IsSound, tables}
+use Rattle.scoping.proofs.Rows.{rows}
+use Rattle.scoping.proofs.Shown.{tables_eq, bound_more, symbols_pushed, sound_interned, bindings_interned, symbols_interned, free_interned}
+
+-- the row is pushed, and an empty list of uses for it, where room was made for each
+module _ (a : Inside) (sound : IsSound a) (names : List Name) (name : Name) (row : Row) (interned : IsInterned a.names names name row.name)
+    (symbols : Vec Row) (had : List Row) (y : Row) (pushed : symbols.items ≡ had ++ y ∷ []) (kept : had ≡ a.symbols.items) (is : y ≡ row)
+    (uses : Vec (Vec ℕ)) (had_uses : List (Vec ℕ)) (none : Vec ℕ) (pushed_uses : uses.items ≡ had_uses ++ none ∷ []) (kept_uses : had_uses ≡ a.uses.items) (empty : none.items ≡ []) where
+  made : symbols.items ≡ a.symbols.items ++ row ∷ []
+  made = pushed ∙ (λ j. kept j ++ is j ∷ [])
+
+  lists : uses.items ≡ a.uses.items ++ none ∷ []
+  lists = pushed_uses ∙ ap (λ us. us ++ none ∷ []) kept_uses
+
+  pub count_pushed : length symbols.items ≡ length a.symbols.items + 1
+  count_pushed = ap length made ∙ length-append a.symbols.items (row ∷ [])
+
+  pub tables_pushed : tables (record a { names = names; symbols = symbols; uses = uses })
+      ≡ record (tables a) { symbols = (tables a).symbols ++ record (symbol_of_row names row) { name = name } ∷ []; uses = (tables a).uses ++ [] ∷ [] }
+  tables_pushed =
+      tables_eq _ _ refl
+      (bindings_interned a sound names name row.name interned)
+      (ap (map (symbol_of_row names)) made
+      ∙ symbols_pushed names row (record (symbol_of_row names row) { name = name }) (λ j. record (symbol_of_row names row) { name = interned.number.named j }) a.symbols.items
+      ∙ ap (λ ys. ys ++ record (symbol_of_row names row) { name = name } ∷ []) (symbols_interned a sound names name row.name interned))
+      refl
+      (ap rows lists ∙ map-append (λ v. v.items) a.uses.items (none ∷ []) ∙ ap (λ us. rows a.uses.items ++ us ∷ []) empty)
+      (free_interned a sound names name row.name interned)
+      refl
+
+  pub sound_pushed : length (tables a).symbols < 4294967295 → IsSound (record a { names = names; symbols = symbols; uses = uses })
+  sound_pushed room =
+      let before = sound_interned a sound names name row.name interned in
+      record {
+        counted = before.counted;
+        bound = bound_more _ _ _ _ (omega arith) (omega (arith, count_pushed)) a.bindings before.bound;
+        named = rw made (every-push _ row a.symbols.items before.named interned.number.within);
+        used = omega (arith, count_pushed, ap length lists, length-append a.uses.items (none ∷ []), before.used);
+        uses = rw (lists, map-append) (every-push _ none.items (rows a.uses.items) before.uses (rw empty tt));
+        free = before.free;
+        forest = before.forest;
+        symbols_fit = omega (arith, count_pushed, rw length-map at room);
+        scopes_fit = before.scopes_fit;
+        references_fit = before.references_fit;
+      }
