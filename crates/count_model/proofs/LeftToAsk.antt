@@ -11,9 +11,8 @@ use Rattle.semantic_model.specs.Reference.{Occurrence}
 use Rattle.semantic_model.specs.Event.{Event}
 use Rattle.semantic_model.specs.Fold.{State}
 use Rattle.semantic_syntax.specs.Lookup.{probes_in}
-use Rattle.semantic_syntax.specs.Outcome.{Pending, Outcome, means, is_free, waits}
+use Rattle.semantic_syntax.specs.Outcome.{Pending, Outcome, means, is_free, waits, staying, waiting_on, looked_up_from}
 use Rattle.semantic_model.specs.Tie.{Tie, ties, answer}
-use Rattle.walk_model.specs.Settles.{staying, waiting_on}
 use Rattle.walk_model.proofs.places.Nested.{Descends}
 use Rattle.walk_model.proofs.refers.Settling.{Tracks, none, is_done, is_open, AreNumbered}
 
@@ -63,7 +62,7 @@ all_pay left pays outcome [] h = refl
 all_pay left pays outcome (e ∷ es) h = by (all_pay left pays outcome es h.1) (outcome e) h.0
   where
     by : sum_by left es ≡ sum_by pays es + sum_by left (staying es (map outcome es)) → (o : Outcome) → left e ≡ pays e + left_then left e o
-        → sum_by left (e ∷ es) ≡ sum_by pays (e ∷ es) + sum_by left (waiting_on e o (staying es (map outcome es)))
+        → sum_by left (e ∷ es) ≡ sum_by pays (e ∷ es) + sum_by left (waiting_on looked_up_from e o (staying es (map outcome es)))
     by rest (means y) q = omega (arith, q, rest, sum_by-cons left e es, sum_by-cons pays e es)
     by rest is_free q = omega (arith, q, rest, sum_by-cons left e es, sum_by-cons pays e es)
     by rest (waits s) q = omega (arith, q, rest, sum_by-cons left e es, sum_by-cons pays e es, sum_by-cons left (record e { lookup_scope = s }) (staying es (map outcome es)))

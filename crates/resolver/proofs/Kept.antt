@@ -4,7 +4,7 @@ use Rattle.std.proofs.lemmas.List.{append_assoc, take_more_set, drop-set-lt, dro
 use Rattle.resolver.specs.declared.outcomes.Outcome.{Outcome}
 use Rattle.resolver.specs.declared.outcomes.Outcome.TheVariants.{Tied, Free, Pending}
 use Rattle.resolver.specs.declared.pending.UnresolvedReference.{UnresolvedReference}
-use Rattle.resolver.specs.Staying.{staying}
+use Rattle.resolver.specs.Terms.{staying}
 
 one_of : (us : List UnresolvedReference) → 0 < length us → UnresolvedReference
 one_of [] some = absurd (omega arith)

@@ -1,5 +1,5 @@
 -- References that wait and their outcomes, in the terms of the definitions.
-use Rattle.std.specs.Prelude.{◌≡◌, ℕ, ◌==◌, Bool, true, false, List, Option, None, Some}
+use Rattle.std.specs.Prelude.{◌≡◌, ℕ, ◌==◌, Bool, true, false, List, Option, None, Some, map}
 use Rattle.std.specs.Option.{option_map}
 use Rattle.semantic_syntax.specs.Tables.{Name}
 use Rattle.semantic_syntax.specs.Lookup.{tied, tied_by}
@@ -17,6 +17,14 @@ outcome_of (Pending s) = model.waits s
 
 abbrev pub pending_of : UnresolvedReference → model.Pending
 pending_of u = record { name = name_of u.name; reference = u.reference_id; lookup_scope = u.lookup_scope_id }
+
+-- the reference, to be looked up from the scope
+abbrev pub looked_up_from : UnresolvedReference → ℕ → UnresolvedReference
+looked_up_from u scope = record u { lookup_scope_id = scope }
+
+-- the references that wait on, each with its new scope
+abbrev pub staying : List UnresolvedReference → List Outcome → List UnresolvedReference
+staying us outcomes = model.staying_by looked_up_from us (map outcome_of outcomes)
 
 -- whether the outcome lets nothing wait on
 abbrev pub is_settled : Outcome → Bool

@@ -1,6 +1,6 @@
 //! References that wait for their symbol.
 ghost use Rattle.std.specs.Prelude.{◌≡◌, ◌+◌, [], ◌∷◌, ◌++◌, length, take, drop, slice_get, OnOk, OnErr};
-ghost use Rattle.resolver.specs.Staying.{staying};
+ghost use Rattle.resolver.specs.Terms.{staying};
 
 use crate::outcomes::{Outcome, Outcomes};
 use semantic_syntax::{Ident, ReferenceId, ScopeId};

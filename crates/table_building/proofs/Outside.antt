@@ -3,9 +3,9 @@ use Rattle.std.proofs.Common.{◌≡◌, ℕ, zero, suc, false, List, [], ◌∷
 use Rattle.semantic_syntax.specs.Tables.{Tables}
 use Rattle.semantic_syntax.specs.Source.{Source}
 use Rattle.semantic_syntax.specs.Told.{source_of}
-use Rattle.semantic_syntax.specs.Outcome.{Pending, waits, is_below, header_outcome}
+use Rattle.semantic_syntax.specs.Outcome.{Pending, waits, is_below, header_outcome, staying}
 use Rattle.walk_model.specs.WalkState.{WalkState}
-use Rattle.walk_model.specs.Settles.{settle, staying, end_header}
+use Rattle.walk_model.specs.Settles.{settle, end_header}
 use Rattle.table_building.specs.Settled.{settled_from, AreOutside}
 
 module _ (source : Source) (c : ℕ) where

@@ -5,8 +5,7 @@ use Rattle.std.proofs.Math.Seq.{drop-cons}
 use Rattle.semantic_syntax.specs.Tables.{Tables}
 use Rattle.resolver.specs.declared.outcomes.Outcome.{Outcome}
 use Rattle.resolver.specs.declared.pending.UnresolvedReference.{UnresolvedReference}
-use Rattle.resolver.specs.Staying.{staying}
-use Rattle.resolver.specs.Terms.{outcome_of, pending_of}
+use Rattle.resolver.specs.Terms.{outcome_of, pending_of, staying}
 use Rattle.semantic_syntax.specs.Outcome as model
 use Rattle.walk_model.specs.WalkState.{WalkState}
 use Rattle.walk_model.specs.Settles.{settle, settle_one}

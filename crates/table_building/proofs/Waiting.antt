@@ -8,11 +8,9 @@ use Rattle.semantic_syntax.specs.Tables.{Tables}
 use Rattle.resolver.specs.declared.outcomes.Outcome.{Outcome}
 use Rattle.resolver.specs.declared.outcomes.Outcome.TheVariants.{Tied, Free, Pending}
 use Rattle.resolver.specs.declared.pending.UnresolvedReference.{UnresolvedReference}
-use Rattle.resolver.specs.Staying.{staying as staying_of}
-use Rattle.resolver.specs.Terms.{outcome_of, pending_of}
-use Rattle.semantic_syntax.specs.Outcome.{Pending as Waiting, header_outcome, last_outcome}
+use Rattle.resolver.specs.Terms.{outcome_of, pending_of, staying as staying_of}
+use Rattle.semantic_syntax.specs.Outcome.{Pending as Waiting, header_outcome, last_outcome, staying}
 use Rattle.semantic_syntax.specs.Outcome as model
-use Rattle.walk_model.specs.Settles.{staying}
 use Rattle.table_building.specs.Growth.{Grows}
 use Rattle.table_building.specs.Settled.{IsOutcomeWithin, no_pending}
 use Rattle.table_building.specs.Waiting.{AreWaiting}

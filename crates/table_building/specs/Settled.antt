@@ -3,9 +3,9 @@ use Rattle.std.specs.Prelude.{◌≡◌, ℕ, ◌<◌, false, List, [], ◌++◌
 use Rattle.std.specs.List.{AllByRecursion, sum_by}
 use Rattle.semantic_syntax.specs.Source.{Source}
 use Rattle.semantic_syntax.specs.Told.{source_of}
-use Rattle.semantic_syntax.specs.Outcome.{Pending, Outcome, means, is_free, waits, is_below, header_probes}
+use Rattle.semantic_syntax.specs.Outcome.{Pending, Outcome, means, is_free, waits, is_below, header_probes, staying}
 use Rattle.walk_model.specs.WalkState.{WalkState}
-use Rattle.walk_model.specs.Settles.{settle, staying}
+use Rattle.walk_model.specs.Settles.{settle}
 
 -- the symbol, or the scope, is one of so many
 abbrev pub IsOutcomeWithin : ℕ → ℕ → Outcome → Type 0

@@ -8,7 +8,7 @@ use Rattle.semantic_syntax.specs.Tables.{Tables, Symbol}
 use Rattle.semantic_syntax.specs.Reading.{symbol_of, reference_of, uses_of, free_of}
 use Rattle.semantic_syntax.specs.Told.{source_of}
 use Rattle.scoping.specs.Writing.{with_uses, with_reference}
-use Rattle.semantic_syntax.specs.Outcome.{Pending, Outcome, means, is_free, waits, header_outcome, last_outcome}
+use Rattle.semantic_syntax.specs.Outcome.{Pending, Outcome, means, is_free, waits, header_outcome, last_outcome, staying}
 use Rattle.walk_model.specs.WalkState.{WalkState}
 
 abbrev pub tied_to : ℕ → Symbol → Reference → Reference
@@ -34,17 +34,6 @@ abbrev pub settle : Tables → List Pending → List Outcome → Tables
 settle t [] outcomes = t
 settle t (e ∷ es) [] = t
 settle t (e ∷ es) (o ∷ os) = settle (settle_one t e o) es os
-
-abbrev pub waiting_on : Pending → Outcome → List Pending → List Pending
-waiting_on e (means y) later = later
-waiting_on e is_free later = later
-waiting_on e (waits s) later = record e { lookup_scope = s } ∷ later
-
--- those that wait on, each with its new scope
-abbrev pub staying : List Pending → List Outcome → List Pending
-staying [] outcomes = []
-staying (e ∷ es) [] = []
-staying (e ∷ es) (o ∷ os) = waiting_on e o (staying es os)
 
 abbrev pub settle_by : WalkState → (Pending → Outcome) → WalkState
 settle_by w outcome =

@@ -15,13 +15,13 @@ use Rattle.semantic_model.specs.Event.{Event, events_of, events, written_declara
 use Rattle.semantic_model.specs.Fold.{State, start}
 use Rattle.semantic_model.specs.Hoist.{run}
 use Rattle.semantic_model.specs.Tie.{Tie, ties, moment, is_last, settled_at, in_order}
-use Rattle.semantic_syntax.specs.Outcome.{Pending, last_outcome}
+use Rattle.semantic_syntax.specs.Outcome.{Pending, last_outcome, staying}
 use Rattle.semantic_model.specs.TablesOf.{entry_of, tables_of}
 use Rattle.semantic_model.specs.NodeTable.{numbered_from}
 use Rattle.semantic_model.proofs.lists.Growth.{start_is_sound}
 use Rattle.semantic_model.proofs.steps.Compose.{run-append}
 use Rattle.walk_model.specs.WalkState.{WalkState, nothing_made}
-use Rattle.walk_model.specs.Settles.{settle, staying}
+use Rattle.walk_model.specs.Settles.{settle}
 use Rattle.walk_model.specs.Noted.{entries_of}
 use Rattle.walk_model.specs.Agreement.{HasDeclared, HasOpened, HasReferred}
 use Rattle.walk_model.specs.Walks as walk

@@ -21,13 +21,13 @@ use Rattle.semantic_model.specs.Event.{Event, ends_header, events_of}
 use Rattle.semantic_model.specs.Fold.{State, start}
 use Rattle.semantic_model.specs.Hoist.{run}
 use Rattle.semantic_model.specs.Tie.{Tie, ties, until_end_of, moment, is_at, settled_at}
-use Rattle.semantic_syntax.specs.Outcome.{Pending, header_outcome}
+use Rattle.semantic_syntax.specs.Outcome.{Pending, header_outcome, staying}
 use Rattle.semantic_model.specs.TablesOf.{is_direct_eval}
 use Rattle.semantic_model.proofs.lists.Growth.{run_grows}
 use Rattle.semantic_model.proofs.steps.Compose.{run-append, flat-append}
 use Rattle.walk_model.specs.WalkState.{WalkState}
 use Rattle.walk_model.specs.Opens.{note_reference, refer, close_scope}
-use Rattle.walk_model.specs.Settles.{settle, staying}
+use Rattle.walk_model.specs.Settles.{settle}
 use Rattle.walk_model.specs.Walks as walk
 use Rattle.walk_model.proofs.shows.Represents.{Represents}
 use Rattle.walk_model.proofs.declares.Simulated.{step_as}

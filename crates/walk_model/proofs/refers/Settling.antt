@@ -14,10 +14,10 @@ use Rattle.semantic_syntax.specs.Tables.{Name, Tables, Symbol, FreeLists}
 use Rattle.semantic_syntax.specs.Reading.{no_symbol, no_reference, reference_of}
 use Rattle.semantic_model.specs.FreeNames.{add_free}
 use Rattle.semantic_model.specs.Place.{innermost}
-use Rattle.semantic_syntax.specs.Outcome.{Pending, Outcome, means, is_free, waits}
+use Rattle.semantic_syntax.specs.Outcome.{Pending, Outcome, means, is_free, waits, staying, waiting_on, looked_up_from}
 use Rattle.semantic_model.specs.Tie.{Tie, symbol_of as symbol_tied, final_flags}
 use Rattle.semantic_model.specs.TablesOf.{entry_of, is_symbol, uses_of, with_tie, free_of}
-use Rattle.walk_model.specs.Settles.{tie, set_free, settle_one, settle, staying, waiting_on}
+use Rattle.walk_model.specs.Settles.{tie, set_free, settle_one, settle}
 
 -- a reference that waits
 abbrev pub open_entry : Tie → Reference
@@ -228,7 +228,7 @@ module _ (D DoneThen : Tie → Type 0) (W WaitsThen : Tie → Pending → Type 0
       number : x.reference ≡ n
       number = (named t x w).1 ∙ k.0
 
-      by : (o : Outcome) → IsRight WaitsThen ys now t x o → Rest → Settled DoneThen WaitsThen before done (filter now (t ∷ ts2)) (t ∷ ts2) m (waiting_on x o (staying es2 (map outcome es2))) (settle (settle_one u x o) es2 (map outcome es2))
+      by : (o : Outcome) → IsRight WaitsThen ys now t x o → Rest → Settled DoneThen WaitsThen before done (filter now (t ∷ ts2)) (t ∷ ts2) m (waiting_on looked_up_from x o (staying es2 (map outcome es2))) (settle (settle_one u x o) es2 (map outcome es2))
       by o (ties y a q within f) rest =
           let v : Tables = tie u x.reference y in
           let refs : v.references ≡ (before ++ entry_of t ∷ []) ++ rs2 =

@@ -21,9 +21,9 @@ use Rattle.semantic_model.specs.Step.{Step, entering, opening, header_ending, cl
 use Rattle.semantic_model.specs.Event.{events_of}
 use Rattle.semantic_syntax.specs.Lookup.{Lookup, tied, barred, unanswered}
 use Rattle.semantic_model.specs.TablesOf.{is_direct_eval}
-use Rattle.semantic_syntax.specs.Outcome.{Pending, Outcome, means, is_free, waits, outcome_or, waits_outside, is_below, lookup_along, up_to, header_outcome}
+use Rattle.semantic_syntax.specs.Outcome.{Pending, Outcome, means, is_free, waits, outcome_or, waits_outside, is_below, lookup_along, up_to, header_outcome, staying, waiting_on, looked_up_from}
 use Rattle.walk_model.specs.WalkState.{WalkState}
-use Rattle.walk_model.specs.Settles.{settle, staying, waiting_on, end_header}
+use Rattle.walk_model.specs.Settles.{settle, end_header}
 use Rattle.walk_model.specs.Opens.{number_of, with_eval, add_eval, note_eval, refer, note_reference, open_scope}
 use Rattle.walk_model.specs.Walks.{prepare, after, after_all}
 use Rattle.walk_model.proofs.opens.LeftByDeclaring.{Untouched, acts_untouched}
@@ -192,7 +192,7 @@ staying_within : (n : ℕ) (outcome : Pending → Outcome) (es : List Pending) �
 staying_within n outcome [] f h = tt
 staying_within n outcome (e ∷ es) f h = by (outcome e) (f e h.0) (staying_within n outcome es f h.1)
   where
-    by : (o : Outcome) → IsWithin n o → AllByRecursion (WaitsBelow n) (staying es (map outcome es)) → AllByRecursion (WaitsBelow n) (waiting_on e o (staying es (map outcome es)))
+    by : (o : Outcome) → IsWithin n o → AllByRecursion (WaitsBelow n) (staying es (map outcome es)) → AllByRecursion (WaitsBelow n) (waiting_on looked_up_from e o (staying es (map outcome es)))
     by (means y) k rest = rest
     by is_free k rest = rest
     by (waits s) k rest = (k, rest)

@@ -16,10 +16,10 @@ use Rattle.semantic_model.specs.Place.{Place, OpenScope, at, innermost, outside}
 use Rattle.semantic_model.specs.Inside.{opens, is_inside, any_inside, header_roles, is_in_header, is_parameter_decorator}
 use Rattle.semantic_model.specs.ScopeKind.{opened_scope, flags_of_kind, strict_if}
 use Rattle.semantic_model.specs.Declaration.{Declaration}
-use Rattle.semantic_syntax.specs.Outcome.{Outcome, header_outcome}
+use Rattle.semantic_syntax.specs.Outcome.{Outcome, header_outcome, staying}
 use Rattle.semantic_model.specs.Step.{opening, header_ending, closing, opening_at, ending_after, opening_last, child_place, chain_within}
 use Rattle.walk_model.specs.WalkState.{WalkState}
-use Rattle.walk_model.specs.Settles.{settle, staying, end_header}
+use Rattle.walk_model.specs.Settles.{settle, end_header}
 use Rattle.walk_model.specs.Opens.{number_of, open_scope, close_scope}
 use Rattle.walk_model.specs.Walks.{after, after_all}
 use Rattle.walk_model.proofs.turns.ChainWays.{flags_at}
