@@ -1,5 +1,5 @@
 -- What the tables show, as their parts change.
-use Rattle.std.proofs.Common.{◌≡◌, ℕ, ◌<◌, ◌≤◌, nat_eq, Bool, true, false, cond, unwrap_or, List, [], ◌∷◌, ◌++◌, None, Some, IfSome, length, get_or, map, refl, sym, ap, subst, ◌∙◌, arith, length-append}
+use Rattle.std.proofs.Common.{◌≡◌, ℕ, ◌<◌, ◌≤◌, nat_eq, Bool, true, false, cond, unwrap_or, List, [], ◌∷◌, ◌++◌, None, Some, IfSome, Result, OnErr, length, get_or, map, refl, sym, ap, subst, ◌∙◌, arith, length-append}
 use Rattle.std.specs.List.{AllByRecursion}
 use Rattle.std.specs.Global.{Vec}
 use Rattle.std.specs.Map.{lookup}
@@ -18,6 +18,7 @@ use Rattle.semantic_syntax.specs.Reading.{no_symbol, no_scope, IsForest}
 use Rattle.scoping.proofs.Forests.{parents}
 use Rattle.scoping.proofs.Rows.{rows}
 use Rattle.scoping.specs.View.{IsBoundWithin, IsListedWithin, IsSound, tables, scope_of_row}
+use Rattle.semantic_syntax.proofs.Results.{on_err}
 use Rattle.semantic_syntax.proofs.Every.{every-more, every-at, every-or, every-set, every-push}
 use Rattle.scoping.proofs.Every.{every-insert, every-remove}
 use Rattle.scoping.proofs.Named.{AreKnown, named-grown, lookup-unknown, lookup-named, insert-named, remove-named}
@@ -119,6 +120,9 @@ module _ (a : Inside) (sound : IsSound a) (names : List Name) (name : Name) (n :
 
   pub tables_interned : tables (record a { names = names }) ≡ tables a
   tables_interned = tables_eq _ _ refl bindings_interned symbols_interned refl refl free_interned refl
+
+  pub err_interned : {T E : Type 0} (r : Result T E) (t : Tables) → tables a ≡ t → OnErr r (tables (record a { names = names }) ≡ t)
+  err_interned r t is = on_err r (tables_interned ∙ is)
 
   pub sound_interned : IsSound (record a { names = names })
   sound_interned = record {

@@ -1,4 +1,4 @@
-use Rattle.std.proofs.Common.{◌≡◌, None, Some, get_or, sym, ap, arith}
+use Rattle.std.proofs.Common.{None, Some, sym, ap, arith}
 use Rattle.scoping.specs.Kept.{stays, rows_without_types}
 use Rattle.scoping.proofs.Filled.{filled-move, kept-clear}
 use Rattle.scoping.proofs.Indexed.{position_told, free_slot, stands-clear, stands-move, told_here, told_elsewhere}
@@ -7,12 +7,8 @@ use Rattle.scoping.proofs.binding_table.settle.Goals as goal
 
 pub returns-then-not-stays-clause-positions : goal.returns-then-not-stays-clause-positions
 returns-then-not-stays-clause-positions c =
-    let xs = c.args.slots.now in
-    let es = c.args.positions.now.entries in
-    let n = c.in-Some.bound.0 in
-    let is : get_or xs c.args.position None ≡ Some c.in-Some.bound = sym c.in-Some.ensures in
-    let at = position_told xs _ c.requires.positions n c.in-Some.bound.1 c.args.position is in
-    rw c.clear.ensures (stands-clear xs _ c.requires.positions n _ c.args.position at (told_here es c.swap_remove-position.new.self.entries c.args.scope n None c.swap_remove-position.ensures.updates.0))
+    let at = position_told c.args.slots.now _ c.requires.positions c.in-Some.bound.0 c.in-Some.bound.1 c.args.position (sym c.in-Some.ensures) in
+    rw c.clear.ensures (stands-clear c.args.slots.now _ c.requires.positions c.in-Some.bound.0 _ c.args.position at (told_here c.args.positions.now.entries c.swap_remove-position.new.self.entries c.args.scope c.in-Some.bound.0 None c.swap_remove-position.ensures.updates.0))
 
 pub returns-then-not-stays-clause-elsewhere : goal.returns-then-not-stays-clause-elsewhere
 returns-then-not-stays-clause-elsewhere c = told_elsewhere c.args.positions.now.entries c.swap_remove-position.new.self.entries c.args.scope c.in-Some.bound.0 None c.swap_remove-position.ensures.updates.0
@@ -22,26 +18,18 @@ returns-then-not-stays-clause-kept c = rw c.clear.ensures (kept-clear (λ b. sta
 
 pub returns-clause-positions : goal.returns-clause-positions
 returns-clause-positions c =
-    let xs = c.args.slots.now in
-    let es = c.args.positions.now.entries in
-    let n = c.in-Some.bound.0 in
-    let is : get_or xs c.args.position None ≡ Some c.in-Some.bound = sym c.in-Some.ensures in
-    let at = position_told xs _ c.requires.positions n c.in-Some.bound.1 c.args.position is in
+    let at = position_told c.args.slots.now _ c.requires.positions c.in-Some.bound.0 c.in-Some.bound.1 c.args.position (sym c.in-Some.ensures) in
     let told = where_present c.insert-previous.result _ c.args.position c.insert-previous.ensures.absent at c.insert-previous.ensures.updates in
     rw (c.fill.ensures, c.clear.ensures)
-    (stands-move xs _ c.requires.positions n _ c.args.position c.args.packed c.in-Some.bound.1 at (omega (arith, c.requires.within, c.requires.packed.behind))
-    (free_slot xs c.args.position c.args.packed c.requires.packed.behind c.requires.packed.gap)
-    (told_here es c.insert-previous.new.self.entries c.args.scope n (Some c.args.packed) told.0))
+    (stands-move c.args.slots.now _ c.requires.positions c.in-Some.bound.0 _ c.args.position c.args.packed c.in-Some.bound.1 at (omega (arith, c.requires.within, c.requires.packed.behind))
+    (free_slot c.args.slots.now c.args.position c.args.packed c.requires.packed.behind c.requires.packed.gap)
+    (told_here c.args.positions.now.entries c.insert-previous.new.self.entries c.args.scope c.in-Some.bound.0 (Some c.args.packed) told.0))
 
 pub returns-clause-elsewhere : goal.returns-clause-elsewhere
 returns-clause-elsewhere c =
-    let xs = c.args.slots.now in
-    let es = c.args.positions.now.entries in
-    let n = c.in-Some.bound.0 in
-    let is : get_or xs c.args.position None ≡ Some c.in-Some.bound = sym c.in-Some.ensures in
-    let at = position_told xs _ c.requires.positions n c.in-Some.bound.1 c.args.position is in
+    let at = position_told c.args.slots.now _ c.requires.positions c.in-Some.bound.0 c.in-Some.bound.1 c.args.position (sym c.in-Some.ensures) in
     let told = where_present c.insert-previous.result _ c.args.position c.insert-previous.ensures.absent at c.insert-previous.ensures.updates in
-    told_elsewhere es c.insert-previous.new.self.entries c.args.scope n (Some c.args.packed) told.0
+    told_elsewhere c.args.positions.now.entries c.insert-previous.new.self.entries c.args.scope c.in-Some.bound.0 (Some c.args.packed) told.0
 
 pub returns-clause-kept : goal.returns-clause-kept
 returns-clause-kept c =

@@ -4,17 +4,14 @@ use Rattle.std.proofs.Math.ListN.{set}
 use Rattle.std.proofs.lemmas.List.{length-set}
 use Rattle.indexmap.specs.IndexMap.{insert_entry}
 use Rattle.scoping.specs.Names.{name_of}
-use Rattle.semantic_syntax.proofs.Results.{on_err}
-use Rattle.scoping.proofs.Shown.{tables_eq, bound_insert, shown_insert, scope_within, symbol_within, sound_bindings, tables_interned, sound_interned, bindings_interned, symbols_interned, free_interned}
+use Rattle.scoping.proofs.Shown.{tables_eq, bound_insert, shown_insert, scope_within, symbol_within, sound_bindings, err_interned, sound_interned, bindings_interned, symbols_interned, free_interned}
 use Rattle.scoping.proofs.scoping.Scoping.add_binding.Goals as goal
 
 pub invariant_of-self-in_err-insert : goal.invariant_of-self-in_err-insert
 invariant_of-self-in_err-insert c = rw c.in_err-insert.ensures.err (sound_interned c.self.inside c.self.invariant _ _ _ c.in_ok-number.ensures.ok)
 
 pub returns-in_err-insert-clause-err : goal.returns-in_err-insert-clause-err
-returns-in_err-insert-clause-err c =
-    rw c.in_err-insert.ensures.err
-    (on_err c.from_residual-in_err-insert.result (tables_interned c.self.inside c.self.invariant _ _ _ c.in_ok-number.ensures.ok ∙ c.self.view_is))
+returns-in_err-insert-clause-err c = rw c.in_err-insert.ensures.err (err_interned c.self.inside c.self.invariant _ _ _ c.in_ok-number.ensures.ok c.from_residual-in_err-insert.result _ c.self.view_is)
 
 pub invariant_of-self-2 : goal.invariant_of-self-2
 invariant_of-self-2 c =

@@ -4,17 +4,14 @@ use Rattle.std.specs.Str.{bytes_eq}
 use Rattle.indexmap.specs.IndexMap.{insert_entry}
 use Rattle.scoping.specs.Names.{named, name_of}
 use Rattle.scoping.proofs.Named.{insert-named, lookup-named}
-use Rattle.semantic_syntax.proofs.Results.{on_err}
-use Rattle.scoping.proofs.Shown.{tables_eq, known_listed, listed_push, sound_free, tables_interned, sound_interned, bindings_interned, symbols_interned, free_interned}
+use Rattle.scoping.proofs.Shown.{tables_eq, known_listed, listed_push, sound_free, err_interned, sound_interned, bindings_interned, symbols_interned, free_interned}
 use Rattle.scoping.proofs.scoping.Scoping.add_root_unresolved_reference.Goals as goal
 
 pub invariant_of-self-in_err-push : goal.invariant_of-self-in_err-push
 invariant_of-self-in_err-push c = rw c.in_err-push.ensures.err (sound_interned c.self.inside c.self.invariant _ _ _ c.in_ok-number.ensures.ok)
 
 pub returns-in_err-push-clause-err : goal.returns-in_err-push-clause-err
-returns-in_err-push-clause-err c =
-    rw c.in_err-push.ensures.err
-    (on_err c.from_residual-in_err-push.result (tables_interned c.self.inside c.self.invariant _ _ _ c.in_ok-number.ensures.ok ∙ c.self.view_is))
+returns-in_err-push-clause-err c = rw c.in_err-push.ensures.err (err_interned c.self.inside c.self.invariant _ _ _ c.in_ok-number.ensures.ok c.from_residual-in_err-push.result _ c.self.view_is)
 
 pub invariant_of-self-2 : goal.invariant_of-self-2
 invariant_of-self-2 c =

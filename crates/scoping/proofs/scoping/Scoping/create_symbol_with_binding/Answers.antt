@@ -3,17 +3,16 @@ use Rattle.std.specs.Str.{bytes_eq}
 use Rattle.std.proofs.Math.ListN.{set}
 use Rattle.std.proofs.lemmas.List.{length-set, length-map}
 use Rattle.indexmap.specs.IndexMap.{insert_entry}
-use Rattle.semantic_syntax.proofs.Results.{on_err}
 use Rattle.scoping.specs.Names.{name_of}
 use Rattle.scoping.specs.Row.{symbol_of_row}
 use Rattle.scoping.proofs.Pushed.{count_pushed, tables_pushed, sound_pushed}
-use Rattle.scoping.proofs.Shown.{bound_insert, shown_insert, scope_within, tables_interned, sound_interned, sound_bindings, bindings_interned}
+use Rattle.scoping.proofs.Shown.{bound_insert, shown_insert, scope_within, err_interned, sound_interned, sound_bindings, bindings_interned}
 use Rattle.scoping.proofs.scoping.Scoping.create_symbol_with_binding.Goals as goal
 
 pub returns-in_err-insert-clause-err : goal.returns-in_err-insert-clause-err
 returns-in_err-insert-clause-err c =
     rw (c.in_err-insert.ensures.err, c.reserve.ensures.items, c.reserve-2.ensures.items)
-    (on_err c.from_residual-in_err-insert.result (tables_interned c.self.inside c.self.invariant _ _ _ c.in_ok-number.ensures.ok ∙ c.self.view_is))
+    (err_interned c.self.inside c.self.invariant _ _ _ c.in_ok-number.ensures.ok c.from_residual-in_err-insert.result _ c.self.view_is)
 
 pub invariant_of-self-2 : goal.invariant_of-self-2
 invariant_of-self-2 c =

@@ -1,10 +1,9 @@
 use Rattle.std.proofs.Common.{◌≡◌, None, sym, ap, ◌∙◌, map, get_or, []}
 use Rattle.std.specs.Map.{lookup}
 use Rattle.std.specs.Str.{bytes_eq}
-use Rattle.semantic_syntax.proofs.Results.{on_err}
 use Rattle.scoping.specs.Names.{named, name_of}
 use Rattle.scoping.proofs.Renamed.{sound_renamed, same_renamed, other_renamed}
-use Rattle.scoping.proofs.Shown.{scope_within, sound_interned, tables_interned, shown_lookup_unknown, bindings_interned}
+use Rattle.scoping.proofs.Shown.{scope_within, sound_interned, err_interned, shown_lookup_unknown, bindings_interned}
 use Rattle.scoping.proofs.scoping.Scoping.rename_binding.Goals as goal
 
 pub returns-in-None-clause-ok : goal.returns-in-None-clause-ok
@@ -32,9 +31,7 @@ pub invariant_of-self-in_err-rename : goal.invariant_of-self-in_err-rename
 invariant_of-self-in_err-rename c = rw c.in_err-rename.ensures.err (sound_interned c.self.inside c.self.invariant _ _ _ c.in_ok-new_number.ensures.ok)
 
 pub returns-in_err-rename-clause-err : goal.returns-in_err-rename-clause-err
-returns-in_err-rename-clause-err c =
-    rw c.in_err-rename.ensures.err
-    (on_err c.from_residual-in_err-rename.result (tables_interned c.self.inside c.self.invariant _ _ _ c.in_ok-new_number.ensures.ok ∙ c.self.view_is))
+returns-in_err-rename-clause-err c = rw c.in_err-rename.ensures.err (err_interned c.self.inside c.self.invariant _ _ _ c.in_ok-new_number.ensures.ok c.from_residual-in_err-rename.result _ c.self.view_is)
 
 pub invariant_of-self-2 : goal.invariant_of-self-2
 invariant_of-self-2 c =

@@ -1,10 +1,9 @@
 use Rattle.std.proofs.Common.{ap, ◌∙◌}
 use Rattle.std.proofs.lemmas.List.{length-set}
-use Rattle.semantic_syntax.proofs.Results.{on_err}
 use Rattle.scoping.specs.Names.{name_of}
 use Rattle.scoping.specs.Row.{symbol_of_row}
 use Rattle.scoping.proofs.Renamed.{sound_renamed, own_number, same_symbol_renamed, other_symbol_renamed}
-use Rattle.scoping.proofs.Shown.{symbol_within, sound_rows, sound_interned, tables_interned, named_set, symbol_changed}
+use Rattle.scoping.proofs.Shown.{symbol_within, sound_rows, sound_interned, err_interned, named_set, symbol_changed}
 use Rattle.scoping.proofs.scoping.Scoping.rename_symbol.Goals as goal
 
 pub returns-then-new_number-old_number-clause-ok : goal.returns-then-new_number-old_number-clause-ok
@@ -18,9 +17,7 @@ pub invariant_of-self-in_err-rename : goal.invariant_of-self-in_err-rename
 invariant_of-self-in_err-rename c = rw c.in_err-rename.ensures.err (sound_interned c.self.inside c.self.invariant _ _ _ c.in_ok-new_number.ensures.ok)
 
 pub returns-in_err-rename-clause-err : goal.returns-in_err-rename-clause-err
-returns-in_err-rename-clause-err c =
-    rw c.in_err-rename.ensures.err
-    (on_err c.from_residual-in_err-rename.result (tables_interned c.self.inside c.self.invariant _ _ _ c.in_ok-new_number.ensures.ok ∙ c.self.view_is))
+returns-in_err-rename-clause-err c = rw c.in_err-rename.ensures.err (err_interned c.self.inside c.self.invariant _ _ _ c.in_ok-new_number.ensures.ok c.from_residual-in_err-rename.result _ c.self.view_is)
 
 pub invariant_of-self-2 : goal.invariant_of-self-2
 invariant_of-self-2 c =
