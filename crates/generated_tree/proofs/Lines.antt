@@ -5,11 +5,12 @@ use Rattle.std.proofs.lemmas.Bool.Decides.{leb_tells}
 use Rattle.std.proofs.lemmas.Str.{IsAscii-append, chars-IsAscii}
 use Rattle.std.proofs.lemmas.Fmt.{length-decimal-le}
 use Rattle.std.proofs.Math.Numerals.{add-one}
+use Rattle.semantic_syntax.proofs.Ascii.{ascii_text}
 use Rattle.semantic_kinds.specs.declared.role.Role.TheVariants as role
 use Rattle.semantic_tree.specs.Children.{single}
 use Rattle.semantic_tree.specs.Forest.{join}
 use Rattle.generated_tree.specs.Generated.{function_name, line, lines, function, functions, most_functions}
-use Rattle.generated_tree.proofs.Ascii.{is_ascii, name_is_ascii}
+use Rattle.generated_tree.proofs.Ascii.{name_is_ascii}
 
 -- a line that is added piece by piece
 pub pushed : (old name a b c : List ℕ) → a ≡ old ++ codes "function " → b ≡ a ++ name → c ≡ b ++ codes "(a = x) { var x; x = a; }\n" → c ≡ old ++ line name
@@ -62,11 +63,11 @@ line_within i (suc n) h = elim (leb_tells n i) [
 ]
 
 pub lines_are_ascii : (n : ℕ) → n ≤ most_functions → IsAscii (lines n)
-lines_are_ascii zero h = is_ascii [] refl
+lines_are_ascii zero h = ascii_text [] refl
 lines_are_ascii (suc i) h =
     IsAscii-append (lines i) (line (function_name i)) (lines_are_ascii i (omega (arith, h)))
-    (IsAscii-append (codes "function ") (function_name i ++ codes "(a = x) { var x; x = a; }\n") (is_ascii (codes "function ") refl)
-    (IsAscii-append (function_name i) (codes "(a = x) { var x; x = a; }\n") (name_is_ascii i (omega (arith, h))) (is_ascii (codes "(a = x) { var x; x = a; }\n") refl)))
+    (IsAscii-append (codes "function ") (function_name i ++ codes "(a = x) { var x; x = a; }\n") (ascii_text (codes "function ") refl)
+    (IsAscii-append (function_name i) (codes "(a = x) { var x; x = a; }\n") (name_is_ascii i (omega (arith, h))) (ascii_text (codes "(a = x) { var x; x = a; }\n") refl)))
 
 -- the characters of the lines
 pub lines_chars : (n : ℕ) → n ≤ most_functions → chars (lines n) ≡ lines n

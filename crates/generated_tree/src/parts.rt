@@ -11,7 +11,7 @@ use semantic_tree::{AstType, Marks, Node, Role};
 use std::alloc::{AllocError, Global};
 
 /// A node without children.
-#[tactic(auto, using(crate::proofs::Ascii::ascii_texts))]
+#[tactic(auto, using(semantic_syntax::proofs::Ascii::ascii_texts))]
 pub fn leaf(
     alloc: Global,
     kind: AstType,

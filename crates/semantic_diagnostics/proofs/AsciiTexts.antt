@@ -1,32 +1,15 @@
--- ASCII texts are their characters.
-use Rattle.std.proofs.Common.{◌≡◌, ℕ, zero, suc, List, [], ◌∷◌, ◌++◌, Bool, true, false, ◌&&◌, IsTrue, refl, nat_lt, arith, append-nil, ltb-true}
+-- The characters of texts with ASCII parts.
+use Rattle.std.proofs.Common.{◌≡◌, ℕ, List, [], ◌∷◌, ◌++◌, IsTrue, refl, append-nil}
 use lib.Utf8.{encode}
 use Rattle.std.specs.Char.{IsScalar}
 use Rattle.std.specs.List.{concat}
-use Rattle.std.specs.Str.{chars, IsUtf8, IsAscii}
-use Rattle.std.proofs.lemmas.Str.{chars-append, chars-IsAscii, chars_past_char, IsUtf8-from_ascii, IsUtf8-append, IsUtf8-encode}
+use Rattle.std.specs.Str.{chars, IsUtf8}
+use Rattle.std.proofs.lemmas.Str.{chars-append, chars_past_char, IsUtf8-from_ascii, IsUtf8-append, IsUtf8-encode}
+use Rattle.semantic_syntax.proofs.Ascii.{ascii_text, ascii_chars}
 use Rattle.semantic_diagnostics.specs.Ascii.{is_ascii}
-
-left : (a b : Bool) → (a && b) ≡ true → a ≡ true
-left true b h = refl
-left false b h = h
-
-right : (a b : Bool) → (a && b) ≡ true → b ≡ true
-right true b h = h
-right false true h = refl
-right false false h = h
-
-ascii_text : (text : List ℕ) → IsTrue (is_ascii text) → IsAscii text
-ascii_text [] h i = omega arith
-ascii_text (byte ∷ rest) h zero = ltb-true byte 128 (left (nat_lt byte 128) (is_ascii rest) h)
-ascii_text (byte ∷ rest) h (suc i) = ascii_text rest (right (nat_lt byte 128) (is_ascii rest) h) i
 
 utf8_text : (text : List ℕ) → IsTrue (is_ascii text) → IsUtf8 text
 utf8_text text h = IsUtf8-from_ascii text (ascii_text text h)
-
--- the characters of an ASCII text are its bytes
-pub ascii_chars : (text : List ℕ) → IsTrue (is_ascii text) → chars text ≡ text
-ascii_chars text h = chars-IsAscii text (ascii_text text h)
 
 pub chars_around : (before name after : List ℕ) → IsTrue (is_ascii before) → IsTrue (is_ascii after) → IsUtf8 name → chars (before ++ (name ++ after)) ≡ concat (before ∷ chars name ∷ after ∷ [])
 chars_around before name after h k u = rw (chars-append before (name ++ after) (utf8_text before h), ascii_chars before h, chars-append name after u, ascii_chars after k, append-nil after) refl

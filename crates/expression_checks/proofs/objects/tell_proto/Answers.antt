@@ -1,6 +1,6 @@
 use Rattle.std.proofs.Common.{codes, refl, ap, ◌∙◌}
 use Rattle.semantic_diagnostics.specs.Names.{redeclaration}
-use Rattle.semantic_diagnostics.proofs.AsciiTexts.{ascii_chars}
+use Rattle.semantic_syntax.proofs.Ascii.{ascii_chars}
 use Rattle.check_context.proofs.Telling.{pushed}
 use Rattle.expression_checks.proofs.objects.tell_proto.Goals as goal
 
