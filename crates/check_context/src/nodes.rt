@@ -12,7 +12,7 @@ use semantic_syntax::{NodeId, Span};
 use semantic_tree::{AstKind, Role};
 
 /// Whether two nodes have the same text.
-#[tactic(auto, using(semantic_tree::proofs::SameTexts::texts))]
+#[tactic(auto, using(semantic_syntax::proofs::SameTexts::texts))]
 pub fn is_same(one: AstKind<'_>, other: AstKind<'_>) -> bool
     ensures { result ≡ bytes_eq one.entry.node.now.text other.entry.node.now.text }
 {

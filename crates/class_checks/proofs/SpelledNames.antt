@@ -1,11 +1,11 @@
 -- Names that are texts are equal where their characters are.
-use Rattle.std.proofs.Common.{◌≡◌, ℕ, List, [], ◌∷◌, Bool, true, false, cond, if◌then◌else◌, Some, map, option_map, refl, sym, ap, ◌∙◌}
+use Rattle.std.proofs.Common.{◌≡◌, ℕ, List, [], ◌∷◌, Bool, true, false, if◌then◌else◌, map, option_map, refl, sym, ap, ◌∙◌}
 use Rattle.std.specs.Borrow.{Bor}
 use Rattle.std.specs.List.{AllByRecursion}
 use Rattle.std.specs.Map.{lookup}
 use Rattle.std.specs.Str.{chars, bytes_eq, IsUtf8}
 use Rattle.indexmap.specs.IndexMap.{insert_entry}
-use Rattle.semantic_tree.proofs.SameTexts.{same_texts}
+use Rattle.semantic_syntax.proofs.SameTexts.{same_texts, lookup_text}
 use Rattle.class_table.specs.Seen.{element_seen}
 use Rattle.class_table.specs.declared.element.Element.{Element as StoredElement}
 use Rattle.class_checks.specs.Entries.{Stored, entry_seen, IsSpelled}
@@ -16,15 +16,7 @@ text_eq k l = bytes_eq k.now l.now
 
 pub lookup_seen : (q : List ℕ) → IsUtf8 q → (es : List Stored) → AllByRecursion IsSpelled es
     → lookup (bytes_eq (chars q)) (map entry_seen es) ≡ option_map element_behind (lookup (λ k. bytes_eq q k.now) es)
-lookup_seen q u [] h = refl
-lookup_seen q u (e ∷ es) h =
-    ap (λ b. cond b (Some (element_behind e.1)) (lookup (bytes_eq (chars q)) (map entry_seen es))) (same_texts q e.0.now u h.0)
-    ∙ by (bytes_eq q e.0.now) (lookup_seen q u es h.1)
-  where
-    by : (b : Bool) → lookup (bytes_eq (chars q)) (map entry_seen es) ≡ option_map element_behind (lookup (λ k. bytes_eq q k.now) es)
-        → cond b (Some (element_behind e.1)) (lookup (bytes_eq (chars q)) (map entry_seen es)) ≡ option_map element_behind (cond b (Some e.1) (lookup (λ k. bytes_eq q k.now) es))
-    by true rest = refl
-    by false rest = rest
+lookup_seen = lookup_text element_behind
 
 pub insert_seen : (k : Bor (List ℕ)) (v : Bor StoredElement) → IsUtf8 k.now → (es : List Stored) → AllByRecursion IsSpelled es
     → map entry_seen (insert_entry text_eq es k v) ≡ insert_entry bytes_eq (map entry_seen es) (chars k.now) (element_seen v.now)

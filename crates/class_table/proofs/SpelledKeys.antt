@@ -6,7 +6,7 @@ use Rattle.std.specs.List.{AllByRecursion}
 use Rattle.std.specs.Map.{lookup}
 use Rattle.std.specs.Str.{chars, bytes_eq, IsUtf8}
 use Rattle.indexmap.specs.IndexMap.{insert_entry}
-use Rattle.semantic_tree.proofs.SameTexts.{same_texts}
+use Rattle.semantic_syntax.proofs.SameTexts.{same_texts}
 use Rattle.class_table.specs.declared.meant_names.Meaning.{Meaning}
 use Rattle.class_table.specs.declared.meant_names.Meaning.TheVariants.{Alone, Half, Both}
 use Rattle.class_table.specs.Meanings.{Key, entry_seen, IsMeant, AreIds, ids_in, ids_meant, with_more, key_eq}

@@ -8,7 +8,7 @@ use Rattle.std.proofs.lemmas.List.{reverse-append}
 use Rattle.std.proofs.lemmas.Map.Text.{hash_map_updates_str}
 use Rattle.semantic_syntax.specs.declared.spans.Span.{Span}
 use Rattle.semantic_tree.specs.declared.node.Node.{Node}
-use Rattle.semantic_tree.proofs.SameTexts.{same_texts}
+use Rattle.semantic_syntax.proofs.SameTexts.{same_texts}
 use Rattle.semantic_diagnostics.specs.Names.{redeclaration}
 use Rattle.check_model.specs.Methods.{repeated_rows}
 use Rattle.check_model.specs.Search.{find_last, rows_of_some}

@@ -29,7 +29,7 @@ fn member_name<'a>(member: AstKind<'a>) -> Option<StaticPropertyName<'a>>
 }
 
 /// Whether two members have the same static name, or none both.
-#[tactic(auto, using(semantic_tree::proofs::SameTexts::texts))]
+#[tactic(auto, using(semantic_syntax::proofs::SameTexts::texts))]
 fn is_same_name(one: AstKind<'_>, other: AstKind<'_>) -> bool
     ensures { result ≡ rows.same_name (rows.member_name one.entry.node.now) (rows.member_name other.entry.node.now) }
 {

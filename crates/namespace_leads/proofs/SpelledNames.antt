@@ -5,7 +5,7 @@ use Rattle.std.specs.List.{AllByRecursion}
 use Rattle.std.specs.Map.{lookup}
 use Rattle.std.specs.Str.{chars, bytes_eq, IsUtf8}
 use Rattle.indexmap.specs.IndexMap.{insert_entry}
-use Rattle.semantic_tree.proofs.SameTexts.{same_texts}
+use Rattle.semantic_syntax.proofs.SameTexts.{lookup_text}
 use Rattle.semantic_tree.specs.ChildIter.{shown}
 use Rattle.semantic_tree.specs.declared.node.Node.{Node}
 use Rattle.semantic_tree.specs.declared.view.AstKind.{AstKind}
@@ -17,15 +17,7 @@ text_eq k l = bytes_eq k.now l.now
 
 pub lookup_shown : (q : List ℕ) → IsUtf8 q → (es : List Stored) → AllByRecursion IsSpelled es
     → lookup (bytes_eq (chars q)) (map entry_shown es) ≡ option_map shown (lookup (λ k. bytes_eq q k.now) es)
-lookup_shown q u [] h = refl
-lookup_shown q u (e ∷ es) h =
-    ap (λ b. cond b (Some e.1.node.now) (lookup (bytes_eq (chars q)) (map entry_shown es))) (same_texts q e.0.now u h.0)
-    ∙ by (bytes_eq q e.0.now) (lookup_shown q u es h.1)
-  where
-    by : (b : Bool) → lookup (bytes_eq (chars q)) (map entry_shown es) ≡ option_map shown (lookup (λ k. bytes_eq q k.now) es)
-        → cond b (Some e.1.node.now) (lookup (bytes_eq (chars q)) (map entry_shown es)) ≡ option_map shown (cond b (Some e.1) (lookup (λ k. bytes_eq q k.now) es))
-    by true rest = refl
-    by false rest = rest
+lookup_shown = lookup_text shown
 
 none_there : {X : Type 0} (o : Option X) → is_some o ≡ false → o ≡ None
 none_there None h = refl

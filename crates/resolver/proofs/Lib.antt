@@ -1,5 +1,5 @@
 pub mod Chain
 pub mod Asking
-pub mod SameTexts
+pub mod NamedArguments
 pub mod Kept
 pub mod NonePending

@@ -66,7 +66,7 @@ pub trait IsGlobalReferenceName {
 impl IsGlobalReferenceName for AstKind<'_> {
     ghost is_global_name = { λ k name t nodes. is_free_named name t nodes k.node.now };
 
-    #[tactic(auto, using(semantic_tree::proofs::SameTexts::texts))]
+    #[tactic(auto, using(semantic_syntax::proofs::SameTexts::texts))]
     fn is_global_reference_name(
         &self,
         name: Ident<'_>,

@@ -10,7 +10,7 @@ pub mod Wrappers
 pub mod NullName
 pub mod Rising
 pub mod Preorder
-pub mod SameTexts
+pub mod SomeCharacters
 pub mod Swapped
 pub mod RenamedKinds
 pub mod RenamedShape

@@ -68,7 +68,7 @@ impl Setting {
 }
 
 /// The second name for the first, the first for the second, and any other for itself.
-#[tactic(auto, using(crate::proofs::SameTexts::texts))]
+#[tactic(auto, using(semantic_syntax::proofs::SameTexts::texts))]
 fn swapped<'a>(name: &'a str, a: &'a str, b: &'a str) -> &'a str
     ensures { chars result.now ≡ swap (chars a.now) (chars b.now) (chars name.now) }
 {

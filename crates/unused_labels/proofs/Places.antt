@@ -3,7 +3,7 @@ use Rattle.std.proofs.Common.{◌≡◌, ℕ, suc, ◌+◌, Bool, true, false, L
 use Rattle.std.specs.Borrow.{Bor}
 use Rattle.std.specs.Str.{chars, bytes_eq, IsUtf8}
 use Rattle.std.proofs.lemmas.Slice.Eq.{bytes_eq-Decides}
-use Rattle.semantic_tree.proofs.SameTexts.{same_texts}
+use Rattle.semantic_syntax.proofs.SameTexts.{same_texts}
 use Rattle.unused_labels.specs.declared.open_labels.OpenLabel.{OpenLabel}
 use Rattle.unused_labels.specs.OpenNames.{next_or_first, last_place}
 use Rattle.unused_labels.specs.OpenPlaces.{Places, nowhere, with_place, names_of, AreKnown}

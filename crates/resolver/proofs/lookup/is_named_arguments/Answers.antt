@@ -1,5 +1,5 @@
 use Rattle.std.proofs.Common.{sym, ◌∙◌}
-use Rattle.resolver.proofs.SameTexts.{named_arguments}
+use Rattle.resolver.proofs.NamedArguments.{named_arguments}
 use Rattle.resolver.proofs.lookup.is_named_arguments.Goals as goal
 
 pub returns : goal.returns

@@ -7,7 +7,7 @@ use Rattle.semantic_tree.specs.Tree.{Tree, IsNumbered}
 use Rattle.semantic_tree.specs.Faults.{first_fault}
 use Rattle.semantic_tree.specs.Renamed.{swap, setting_below}
 use Rattle.semantic_tree.specs.declared.swap.Setting.TheVariants.{Elsewhere}
-use Rattle.semantic_tree.proofs.SameTexts.{has_chars}
+use Rattle.semantic_tree.proofs.SomeCharacters.{has_chars}
 use Rattle.semantic_tree.proofs.RenamedKinds.{KeepsEmpty, swap_keeps_empty}
 use Rattle.semantic_tree.proofs.RenamedShape.{count-renamed, numbers_kept, faults_kept}
 use Rattle.semantic_tree.proofs.KindCounting.{kinds-renamed}
