@@ -13,7 +13,7 @@ use Rattle.indexmap.specs.IndexSet.{insert_key}
 use Rattle.std.specs.String.{string_bytes}
 use Rattle.std.specs.Str.{chars, IsUtf8, encode_utf8_all}
 use Rattle.std.proofs.lemmas.Str.{encodes-chars, IsUtf8-string_bytes}
-use Rattle.std.proofs.lemmas.Bool.Decides.{same_from_decides}
+use Rattle.semantic_syntax.proofs.SameTexts.{same_texts}
 use Rattle.semantic_syntax.specs.Tables.{Name}
 use Rattle.scoping.specs.Names.{name_at, IsUnknown, IsNumberOf, IsInterned}
 
@@ -119,27 +119,19 @@ module _ {X : Type 0} (text : X → Name) where
             (interned_last (map text old) name (apart_texts old distinct) unknown));
       }
 
--- texts are equal where their characters are
-pub same_text : (a b : List ℕ) → IsUtf8 a → IsUtf8 b → bytes_eq a b ≡ bytes_eq (chars a) (chars b)
-same_text a b u v = same_from_decides (bytes_eq a b) (bytes_eq (chars a) (chars b)) (bytes_eq-Decides a b)
-    (λ t. back ((bytes_eq-Decides (chars a) (chars b)).0 t), λ e. (bytes_eq-Decides (chars a) (chars b)).1 (ap chars e))
-  where
-    back : chars a ≡ chars b → a ≡ b
-    back e = sym (encodes-chars a u) ∙ ap encode_utf8_all e ∙ encodes-chars b v
-
 -- what a search among texts finds, told by their characters
 module _ {Z : Type 0} (keys : List (String Z)) where
   abbrev pub texts : List Name
   texts = map (λ k. chars (string_bytes k)) keys
 
   by_characters : ◌≡◌ {A = String Z → String Z → Bool} (λ a b. bytes_eq (string_bytes a) (string_bytes b)) (λ a b. bytes_eq (chars (string_bytes a)) (chars (string_bytes b)))
-  by_characters = λ j a b. same_text (string_bytes a) (string_bytes b) (IsUtf8-string_bytes a) (IsUtf8-string_bytes b) j
+  by_characters = λ j a b. sym (same_texts (string_bytes a) (string_bytes b) (IsUtf8-string_bytes a) (IsUtf8-string_bytes b)) j
 
   pub find_text : (name : List ℕ) → IsUtf8 name → IsDistinct (λ a b. bytes_eq (string_bytes a) (string_bytes b)) keys
       → MatchOption (position (λ k. bytes_eq name (string_bytes k)) keys) (IsUnknown texts (chars name)) (λ n. IsNumberOf texts (chars name) n)
   find_text name utf8 distinct =
       let test : ◌≡◌ {A = String Z → Bool} (λ k. bytes_eq name (string_bytes k)) (λ k. bytes_eq (chars name) (chars (string_bytes k))) =
-      λ j k. same_text name (string_bytes k) utf8 (IsUtf8-string_bytes k) j in
+      λ j k. sym (same_texts name (string_bytes k) utf8 (IsUtf8-string_bytes k)) j in
       subst (λ t. MatchOption (position t keys) (IsUnknown texts (chars name)) (λ n. IsNumberOf texts (chars name) n)) (sym test)
       (find_spec (λ k. chars (string_bytes k)) keys (chars name) (subst (λ e. IsDistinct e keys) by_characters distinct))
 
