@@ -1,27 +1,20 @@
 -- What bytes say: a set of modules, or the first refusal.
-use Rattle.std.specs.Prelude.{◌≡◌, ◌⊎◌, ℕ, ◌+◌, List, [], ◌∷◌, Result, Ok, Err, if◌then◌else◌}
-use Rattle.std.specs.Str.{is_utf8}
-use Rattle.serde_json.specs.Data.{Data}
-use Rattle.serde_json.specs.Read.{read}
+use Rattle.std.specs.Prelude.{◌≡◌, ◌⊎◌, ℕ, ◌+◌, List, [], ◌∷◌, Result, Ok, Err, ok_or}
 use Rattle.semantic_tree.specs.Tree.{IsNumbered}
 use Rattle.semantic_tree.specs.Shaped.{IsShaped}
 use Rattle.semantic_tree.specs.declared.error.TreeError.{TreeError}
 use Rattle.semantic_tree.specs.declared.error.TreeError.TheVariants as tree
-use Rattle.tree_json.specs.Outcome.{IsWantOfMemory}
-use Rattle.tree_json.specs.Reading.{reading, Refuses}
+use Rattle.tree_json.specs.Outcome.{◌>>=◌, IsWantOfMemory}
+use Rattle.tree_json.specs.Reading.{value_in, reading, Refuses}
 use Rattle.tree_json.specs.WrittenForm.{AreWrittenForm}
 use Rattle.module_set.specs.declared.error.LinkError.{LinkError}
 use Rattle.module_set.specs.declared.error.LinkError.TheVariants.{NotJson, Shape, Tree, Memory}
 use Rattle.module_set.specs.declared.modules.Module.{Module}
-use Rattle.module_set.specs.Outcome.{◌>>=◌, or_refusal}
 use Rattle.module_set.specs.SetForm.{Written, set_of_data}
-
-unfoldable pub value_in : List ℕ → Result Data LinkError
-value_in bytes = if is_utf8 bytes then or_refusal NotJson (read bytes) else Err NotJson
 
 -- the modules as they are written, or why there are none
 abbrev pub written_modules : List ℕ → Result (List Written) LinkError
-written_modules bytes = value_in bytes >>= λ d. or_refusal Shape (set_of_data d)
+written_modules bytes = value_in NotJson bytes >>= λ d. ok_or (set_of_data d) Shape
 
 -- the module is the one that is written so: its program is the shaped one whose written form the tree is
 pub record IsRead (w : Written) (m : Module) : Type 0 where

@@ -1,10 +1,10 @@
 //! The form of a set of modules in JSON: an object with the one key `modules`, a list of objects with a name and the text
 //! of a tree.
-ghost use Rattle.std.specs.Prelude.{◌≡◌, ◌≤◌, length, map, option_map, IfOk, IfSome};
+ghost use Rattle.std.specs.Prelude.{◌≡◌, ◌≤◌, length, map, ok_or, option_map, IfOk, IfSome};
 ghost use Rattle.serde_json.specs.View.{view as data_of, items_view};
 ghost use Rattle.module_set.specs.declared.error.LinkError.TheVariants.{Shape};
 ghost use Rattle.module_set.specs.Views.{written};
-ghost use Rattle.module_set.specs.Outcome.{Gives, or_refusal};
+ghost use Rattle.module_set.specs.Outcome.{Gives};
 ghost use Rattle.module_set.specs.SetForm.{written_in, list_in, set_of_data};
 
 use crate::error::LinkError;
@@ -52,7 +52,7 @@ fn list_of(value: &Value) -> Option<&[Value]>
 
 /// The modules that a value says, each as its text.
 pub(crate) fn texts_of(alloc: Global, value: &Value) -> Result<Vec<ModuleText<'_>>, LinkError>
-    ensures said { Gives (λ texts. map written texts.items) result (or_refusal Shape (set_of_data (data_of value.now))) }
+    ensures said { Gives (λ texts. map written texts.items) result (ok_or (set_of_data (data_of value.now)) Shape) }
     ensures few { IfOk result (λ texts. length texts.items ≤ 4294967294) }
 {
     let Some(list) = list_of(value) else {

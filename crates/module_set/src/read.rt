@@ -1,10 +1,12 @@
 //! From bytes to the modules of a set.
 ghost use Rattle.std.specs.Prelude.{◌≡◌, ◌≤◌, List, length, map, IfOk, IfErr};
 ghost use Rattle.serde_json.specs.View.{view as data_of};
+ghost use Rattle.tree_json.specs.Reading.{value_in};
+ghost use Rattle.module_set.specs.declared.error.LinkError.TheVariants.{NotJson};
 ghost use Rattle.module_set.specs.declared.modules.Module.{Module};
 ghost use Rattle.module_set.specs.Views.{written};
 ghost use Rattle.module_set.specs.Outcome.{Gives, IsWantOfMemory, IsReadAs};
-ghost use Rattle.module_set.specs.Reading.{value_in, IsRead, AreRead, told_at, IsRefusedAt, RefusedFrom, StandsForSet, RefusesSet};
+ghost use Rattle.module_set.specs.Reading.{IsRead, AreRead, told_at, IsRefusedAt, RefusedFrom, StandsForSet, RefusesSet};
 
 use crate::error::LinkError;
 use crate::form::{ModuleText, texts_of};
@@ -35,9 +37,9 @@ pub fn read_modules(alloc: Global, bytes: &[u8]) -> Result<Modules, LinkError>
 }
 
 /// The value that the bytes are in JSON.
-#[tactic(auto, using(crate::proofs::Values::value_in_ok, crate::proofs::Values::value_in_err))]
+#[tactic(auto, using(tree_json::proofs::Readings::value_in_ok, tree_json::proofs::Readings::value_in_err))]
 fn value_of(alloc: Global, bytes: &[u8]) -> Result<Value, LinkError>
-    ensures { Gives data_of result (value_in bytes.now) }
+    ensures { Gives data_of result (value_in NotJson bytes.now) }
 {
     match Value::from_slice(alloc, bytes) {
         Ok(value) => Ok(value),

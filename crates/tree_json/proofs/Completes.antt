@@ -18,7 +18,7 @@ use Rattle.semantic_tree.specs.Tree.{Tree}
 use Rattle.semantic_tree.specs.Place.{root_place, child_place, placed_below, all_placed}
 use Rattle.semantic_tree.specs.Faults.{first_fault, first_where, is_too_deep, is_too_large, form_fault, or_fault as or_second}
 use Rattle.semantic_tree.specs.declared.error.TreeError.{TreeError}
-use Rattle.semantic_tree.specs.declared.error.TreeError.TheVariants.{TooMany, TooDeep}
+use Rattle.semantic_tree.specs.declared.error.TreeError.TheVariants.{NotJson, TooMany, TooDeep}
 use Rattle.semantic_tree.specs.declared.node.Node.{Node}
 use Rattle.semantic_tree.specs.declared.place.Place.{Place}
 use Rattle.tree_json.specs.Lines.{Line, lines_of, listing}
@@ -149,4 +149,4 @@ listed_of-form d p form sound =
 pub reading-form : (bytes : List ℕ) (d : Data) (p : Tree) → IsUtf8 bytes → read bytes ≡ Some d → IsWrittenForm d p → first_fault p ≡ None → reading bytes ≡ Ok (listed p)
 unfolding reading listed_in
 reading-form bytes d p utf8 is form sound =
-    rw (value_in_ok bytes d utf8 is, form.formed) (listed_of-form d p form sound)
+    rw (value_in_ok NotJson bytes d utf8 is, form.formed) (listed_of-form d p form sound)

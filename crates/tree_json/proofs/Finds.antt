@@ -1,5 +1,5 @@
 -- What is read is a written form.
-use Rattle.std.proofs.Common.{◌≡◌, ◌∙◌, ℕ, ◌+◌, Bool, true, false, cond, List, [], ◌∷◌, length, Some, None, Ok, Err, refl, ap, arith}
+use Rattle.std.proofs.Common.{◌≡◌, ◌∙◌, ℕ, ◌+◌, Bool, true, false, cond, List, [], ◌∷◌, length, Some, None, Ok, Err, ok_or, refl, ap, arith}
 use Rattle.std.proofs.lemmas.Grind.{common_steps}
 use Rattle.std.proofs.lemmas.Str.{IsUtf8-from_is_utf8}
 use Rattle.std.specs.Str.{IsUtf8, is_utf8}
@@ -11,10 +11,9 @@ use Rattle.tree_json.specs.Lines.{Line}
 use Rattle.tree_json.specs.Form.{Texts, line_of_data}
 use Rattle.tree_json.specs.Comments.{all_items, comment_of_data}
 use Rattle.tree_json.specs.Top.{TopForm, top_of_data, texts_in}
-use Rattle.tree_json.specs.Outcome.{or_fault}
 use Rattle.tree_json.specs.Reading.{Listed, listed, if_follows, line_at, lines_from, shallow_from, listing_of, if_some, if_few, lines_with, lines_in, listed_of, value_in, listed_in, reading}
 use Rattle.tree_json.specs.WrittenForm.{IsWrittenForm}
-use Rattle.tree_json.proofs.Items.{or_fault-ok}
+use Rattle.tree_json.proofs.Items.{ok_or-ok}
 use Rattle.tree_json.proofs.Outcomes.{bind_ok}
 
 if_follows-same : (opened index : ℕ) (k l : Line) → if_follows opened index k ≡ Ok l → k ≡ l
@@ -23,8 +22,8 @@ if_follows-same opened index k l h = grind (arith, common_steps)
 line_at-some : (texts : Texts) (opened index : ℕ) (d : Data) (l : Line) → line_at texts opened index d ≡ Ok l → line_of_data texts d ≡ Some l
 unfolding line_at
 line_at-some texts opened index d l h =
-    let (k, is, stands) = bind_ok (or_fault (Shape (Some index)) (line_of_data texts d)) (if_follows opened index) l h in
-    or_fault-ok (Shape (Some index)) (line_of_data texts d) k is ∙ ap Some (if_follows-same opened index k l stands)
+    let (k, is, stands) = bind_ok (ok_or (line_of_data texts d) (Shape (Some index))) (if_follows opened index) l h in
+    ok_or-ok (line_of_data texts d) (Shape (Some index)) k is ∙ ap Some (if_follows-same opened index k l stands)
 
 lines_from-items : (texts : Texts) (ds : Items) (opened index : ℕ) (ls : List Line) → lines_from texts opened index ds ≡ Ok ls → all_items (line_of_data texts) ds ≡ Some ls
 lines_from-items texts no_items opened index [] h = refl
@@ -53,26 +52,26 @@ lines_with-items top comments texts ls h =
 listed_of-found : (d : Data) (top : TopForm) (p : Tree) → top_of_data d ≡ Some top → listed_of top ≡ Ok (listed p) → IsWrittenForm d p
 unfolding listed_of lines_in
 listed_of-found d top p formed h =
-    let (comments, comments_are, more) = bind_ok (or_fault (Shape None) (all_items comment_of_data top.comments)) _ (listed p) h in
+    let (comments, comments_are, more) = bind_ok (ok_or (all_items comment_of_data top.comments) (Shape None)) _ (listed p) h in
     let (lines, lines_are, last) = bind_ok (lines_in top (length comments)) _ (listed p) more in
-    let (texts, texts_are, rows) = bind_ok (or_fault (Shape None) (texts_in top.texts)) (lines_with top (length comments)) lines lines_are in
+    let (texts, texts_are, rows) = bind_ok (ok_or (texts_in top.texts) (Shape None)) (lines_with top (length comments)) lines lines_are in
     let whole : ◌≡◌ {A = Listed} (record { source = top.source; source_type = top.source_type; comments = comments; lines = lines }) (listed p) = cc in
     record {
       top = top;
       formed = formed;
       source = ap (λ w. w.source) whole;
       source_type = ap (λ w. w.source_type) whole;
-      comments = or_fault-ok (Shape None) (all_items comment_of_data top.comments) comments comments_are ∙ ap (λ w. Some w.comments) whole;
+      comments = ok_or-ok (all_items comment_of_data top.comments) (Shape None) comments comments_are ∙ ap (λ w. Some w.comments) whole;
       texts = texts;
-      told = or_fault-ok (Shape None) (texts_in top.texts) texts texts_are;
+      told = ok_or-ok (texts_in top.texts) (Shape None) texts texts_are;
       rows = lines_with-items top (length comments) texts lines rows ∙ ap (λ w. Some w.lines) whole;
     }
 
-value_in-cases : (valid : Bool) (bytes : List ℕ) (d : Data) → cond valid (or_fault NotJson (read bytes)) (Err NotJson) ≡ Ok d → (valid ≡ true) × (read bytes ≡ Some d)
-value_in-cases true bytes d h = (refl, or_fault-ok NotJson (read bytes) d h)
+value_in-cases : (valid : Bool) (bytes : List ℕ) (d : Data) → cond valid (ok_or (read bytes) NotJson) (Err NotJson) ≡ Ok d → (valid ≡ true) × (read bytes ≡ Some d)
+value_in-cases true bytes d h = (refl, ok_or-ok (read bytes) NotJson d h)
 value_in-cases false bytes d h = absurd (cc)
 
-value_in-found : (bytes : List ℕ) (d : Data) → value_in bytes ≡ Ok d → IsUtf8 bytes × (read bytes ≡ Some d)
+value_in-found : (bytes : List ℕ) (d : Data) → value_in NotJson bytes ≡ Ok d → IsUtf8 bytes × (read bytes ≡ Some d)
 unfolding value_in
 value_in-found bytes d h =
     let (valid, is) = value_in-cases (is_utf8 bytes) bytes d h in
@@ -81,7 +80,7 @@ value_in-found bytes d h =
 pub reading-found : (bytes : List ℕ) (p : Tree) → reading bytes ≡ Ok (listed p) → IsUtf8 bytes × ((d : Data) × (read bytes ≡ Some d) × IsWrittenForm d p)
 unfolding reading listed_in
 reading-found bytes p h =
-    let (d, in', says) = bind_ok (value_in bytes) listed_in (listed p) h in
+    let (d, in', says) = bind_ok (value_in NotJson bytes) listed_in (listed p) h in
     let (utf8, is) = value_in-found bytes d in' in
-    let (top, formed, more) = bind_ok (or_fault (Shape None) (top_of_data d)) listed_of (listed p) says in
-    (utf8, (d, is, listed_of-found d top p (or_fault-ok (Shape None) (top_of_data d) top formed) more))
+    let (top, formed, more) = bind_ok (ok_or (top_of_data d) (Shape None)) listed_of (listed p) says in
+    (utf8, (d, is, listed_of-found d top p (ok_or-ok (top_of_data d) (Shape None) top formed) more))

@@ -1,18 +1,16 @@
 -- What options and lists of items give.
-use Rattle.std.proofs.Common.{◌≡◌, suc, List, [], ◌∷◌, length, Option, Some, None, option_and_then, Ok, refl, ap}
+use Rattle.std.proofs.Common.{◌≡◌, suc, List, [], ◌∷◌, length, Option, Some, None, option_and_then, Ok, ok_or, refl, ap}
 use Rattle.serde_json.specs.Data.{Data, Items, no_items, item}
 use Rattle.serde_json.specs.Events.{items_len}
-use Rattle.semantic_tree.specs.declared.error.TreeError.{TreeError}
 use Rattle.tree_json.specs.Comments.{all_items}
-use Rattle.tree_json.specs.Outcome.{or_fault}
 
 pub some_bind : {A B : Type 0} (o : Option A) (f : A → Option B) (y : B) → option_and_then f o ≡ Some y → (x : A) × (o ≡ Some x) × (f x ≡ Some y)
 some_bind None f y h = absurd (cc)
 some_bind (Some x) f y h = (x, refl, h)
 
-pub or_fault-ok : {A : Type 0} (fault : TreeError) (o : Option A) (a : A) → or_fault fault o ≡ Ok a → o ≡ Some a
-or_fault-ok fault None a h = absurd (cc)
-or_fault-ok fault (Some b) a h = cc
+pub ok_or-ok : {A E : Type 0} (o : Option A) (e : E) (a : A) → ok_or o e ≡ Ok a → o ≡ Some a
+ok_or-ok None e a h = absurd (cc)
+ok_or-ok (Some b) e a h = cc
 
 -- the first item has the form, and so have the others
 pub all_items-some : {A : Type 0} (form : Data → Option A) (d : Data) (ds : Items) (xs : List A) → all_items form (item d ds) ≡ Some xs

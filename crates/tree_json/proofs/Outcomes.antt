@@ -1,5 +1,5 @@
 -- What lists of values give.
-use Rattle.std.proofs.Common.{◌≡◌, ℕ, ◌+◌, ◌<◌, ◌≤◌, Bool, true, false, ◌&&◌, ◌==◌, List, [], ◌∷◌, length, Some, Result, Ok, Err, refl, sym, arith, subst}
+use Rattle.std.proofs.Common.{◌≡◌, ℕ, ◌+◌, ◌<◌, ◌≤◌, Bool, true, false, ◌&&◌, ◌==◌, List, [], ◌∷◌, length, Some, Result, Ok, Err, ok_or, refl, sym, arith, subst}
 use Rattle.std.proofs.lemmas.Grind.{common_steps}
 use Rattle.serde_json.specs.Data.{Data, Items, no_items, item}
 use Rattle.serde_json.specs.View.{view as data_of, items_view}
@@ -8,15 +8,14 @@ use denote.Enum.Bare.{same_true}
 use Rattle.semantic_kinds.specs.contracts.role.Role.{the_type as roles}
 use Rattle.semantic_kinds.specs.Roles.{same_role}
 use Rattle.semantic_kinds.specs.declared.role.Role.TheVariants.{Root}
-use Rattle.semantic_tree.specs.declared.error.TreeError.{TreeError}
 use Rattle.semantic_tree.specs.declared.error.TreeError.TheVariants.{Shape}
 use Rattle.tree_json.specs.Lines.{Line}
 use Rattle.tree_json.specs.Form.{Texts, line_of_data}
 use Rattle.tree_json.specs.Listing.{Continues, IsListing}
-use Rattle.tree_json.specs.Outcome.{◌>>=◌, or_fault}
+use Rattle.tree_json.specs.Outcome.{◌>>=◌}
 use Rattle.tree_json.specs.Reading.{follows, if_follows, line_at, lines_from}
 
-pub bind_ok : {A B : Type 0} (r : Result A TreeError) (f : A → Result B TreeError) (y : B) → (r >>= f) ≡ Ok y → (x : A) × (r ≡ Ok x) × (f x ≡ Ok y)
+pub bind_ok : {A B E : Type 0} (r : Result A E) (f : A → Result B E) (y : B) → (r >>= f) ≡ Ok y → (x : A) × (r ≡ Ok x) × (f x ≡ Ok y)
 bind_ok (Ok x) f y e = (x, refl, e)
 bind_ok (Err e) f y h = absurd (cc)
 
@@ -39,7 +38,7 @@ if_follows-ok opened index k l h = grind (arith, common_steps)
 pub line_at-ok : (texts : Texts) (opened index : ℕ) (d : Data) (l : Line) → line_at texts opened index d ≡ Ok l → follows opened l ≡ true
 unfolding line_at
 line_at-ok texts opened index d l h =
-    let (k, is, then') = bind_ok (or_fault (Shape (Some index)) (line_of_data texts d)) (if_follows opened index) l h in
+    let (k, is, then') = bind_ok (ok_or (line_of_data texts d) (Shape (Some index))) (if_follows opened index) l h in
     if_follows-ok opened index k l then'
 
 pub lines_from-Continues : (texts : Texts) (ds : Items) (opened index : ℕ) (ls : List Line) → lines_from texts opened index ds ≡ Ok ls → Continues opened ls

@@ -13,6 +13,7 @@ use Rattle.serde_json.specs.Events.{items_len}
 use Rattle.serde_json.specs.Find.{as_array}
 use Rattle.serde_json.specs.Read.{read}
 use Rattle.semantic_syntax.specs.declared.source_type.SourceType.{SourceType}
+use Rattle.semantic_tree.specs.declared.error.TreeError.TheVariants.{NotJson}
 use Rattle.tree_json.specs.Lines.{Line}
 use Rattle.tree_json.specs.Form.{in_rows, line_of_data, text_in}
 use Rattle.tree_json.specs.Comments.{comment_of_data, all_items}
@@ -126,7 +127,7 @@ read_pulled text d v = rw (v.tokens, value-json_tokens v.value 127 [] (omega (ar
 
 pub reading_pulled : (bytes : List ℕ) (top : Pulled) (said : Listed) → IsUtf8 bytes → IsTop (tokens bytes) top → ((d : Data) → IsPulled d top → listed_in d ≡ Ok said) → reading bytes ≡ Ok said
 unfolding reading
-reading_pulled bytes top said utf8 h says = rw (value_in_ok bytes h.0 utf8 (read_pulled bytes h.0 h.1)) (says h.0 h.2)
+reading_pulled bytes top said utf8 h says = rw (value_in_ok NotJson bytes h.0 utf8 (read_pulled bytes h.0 h.1)) (says h.0 h.2)
 
 pub parts_read : {E : Type 0} (bytes text : List ℕ) (start : Tokens) (top : Pulled) (r : Result (Option Parts) E) → IsUtf8 bytes → text ≡ bytes → start ≡ tokens text → IsTop start top
     → IfOk r (λ o. IfSome o (λ parts. (d : Data) → IsPulled d top → listed_in d ≡ Ok (parts_view parts))) → IfOk r (λ o. IfSome o (λ parts. reading bytes ≡ Ok (parts_view parts)))

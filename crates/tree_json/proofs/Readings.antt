@@ -1,5 +1,5 @@
 -- Bytes that are JSON, and bytes that are none.
-use Rattle.std.proofs.Common.{◌≡◌, ℕ, Bool, true, false, List, Some, None, Result, Ok, Err, IsErrAnd, refl, suc, length, [], ◌∷◌, ap}
+use Rattle.std.proofs.Common.{◌≡◌, ℕ, Bool, true, false, List, Some, None, Result, Ok, Err, ok_or, IsErrAnd, refl, suc, length, [], ◌∷◌, ap}
 use Rattle.std.proofs.lemmas.Str.{IsUtf8-from_is_utf8, is_utf8-from_IsUtf8, encodes-chars}
 use Rattle.std.specs.Str.{IsUtf8, is_utf8, chars, encode_utf8_all}
 use Rattle.serde_json.specs.Data.{Data}
@@ -7,24 +7,24 @@ use Rattle.serde_json.specs.Read.{read}
 use Rattle.serde_json.specs.Events.{items_len}
 use Rattle.serde_json.specs.View.{items_view}
 use Rattle.serde_json.specs.declared.value.Value.{Value}
-use Rattle.semantic_tree.specs.declared.error.TreeError.TheVariants.{NotJson, Memory}
+use Rattle.semantic_tree.specs.declared.error.TreeError.TheVariants.{Memory}
 use Rattle.semantic_tree.specs.declared.error.TreeError.{TreeError}
 use Rattle.std.specs.declared.alloc.AllocError.{AllocError}
-use Rattle.tree_json.specs.Outcome.{Gives, or_fault}
+use Rattle.tree_json.specs.Outcome.{Gives}
 use Rattle.tree_json.specs.Reading.{value_in}
 use Rattle.std.specs.Prelude.{if◌then◌else◌}
 
-pub value_in_ok : (bytes : List ℕ) (d : Data) → IsUtf8 bytes → read bytes ≡ Some d → value_in bytes ≡ Ok d
+pub value_in_ok : {E : Type 0} (e : E) (bytes : List ℕ) (d : Data) → IsUtf8 bytes → read bytes ≡ Some d → value_in e bytes ≡ Ok d
 unfolding value_in
-value_in_ok bytes d utf8 is = rw (is_utf8-from_IsUtf8 bytes utf8, is)
+value_in_ok e bytes d utf8 is = rw (is_utf8-from_IsUtf8 bytes utf8, is)
 
-refused : (bytes : List ℕ) (valid : Bool) → is_utf8 bytes ≡ valid → (IsUtf8 bytes → read bytes ≡ None) → (if valid then or_fault NotJson (read bytes) else Err NotJson) ≡ Err NotJson
-refused bytes true is none = rw (none (IsUtf8-from_is_utf8 bytes is))
-refused bytes false is none = refl
+refused : {E : Type 0} (e : E) (bytes : List ℕ) (valid : Bool) → is_utf8 bytes ≡ valid → (IsUtf8 bytes → read bytes ≡ None) → (if valid then ok_or (read bytes) e else Err e) ≡ Err e
+refused e bytes true is none = rw (none (IsUtf8-from_is_utf8 bytes is))
+refused e bytes false is none = refl
 
-pub value_in_err : (bytes : List ℕ) → (IsUtf8 bytes → read bytes ≡ None) → value_in bytes ≡ Err NotJson
+pub value_in_err : {E : Type 0} (e : E) (bytes : List ℕ) → (IsUtf8 bytes → read bytes ≡ None) → value_in e bytes ≡ Err e
 unfolding value_in
-value_in_err bytes none = refused bytes (is_utf8 bytes) refl none
+value_in_err e bytes none = refused e bytes (is_utf8 bytes) refl none
 
 pub items_len_view : (vs : List Value) → items_len (items_view vs) ≡ length vs
 items_len_view [] = refl

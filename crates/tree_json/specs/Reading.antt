@@ -1,5 +1,5 @@
 -- What bytes say: a program as a listing, or the first fault.
-use Rattle.std.specs.Prelude.{◌≡◌, ◌⊎◌, ℕ, ◌+◌, ◌==◌, ◌&&◌, ◌||◌, nat_lt, nat_le, Bool, if◌then◌else◌, List, [], ◌∷◌, ◌++◌, length, Some, None, Result, Ok, Err}
+use Rattle.std.specs.Prelude.{◌≡◌, ◌⊎◌, ℕ, ◌+◌, ◌==◌, ◌&&◌, ◌||◌, nat_lt, nat_le, Bool, if◌then◌else◌, List, [], ◌∷◌, ◌++◌, length, Some, None, Result, Ok, Err, ok_or}
 use Rattle.std.specs.Str.{is_utf8, encode_utf8_all}
 use Rattle.serde_json.specs.Data.{Data, Items, no_items, item}
 use Rattle.serde_json.specs.Read.{read}
@@ -16,7 +16,7 @@ use Rattle.semantic_tree.specs.declared.error.TreeError.TheVariants.{NotJson, Sh
 use Rattle.tree_json.specs.Lines.{Line, listing}
 use Rattle.tree_json.specs.Form.{Texts, line_of_data}
 use Rattle.tree_json.specs.Comments.{all_items, comment_of_data}
-use Rattle.tree_json.specs.Outcome.{◌>>=◌, or_fault}
+use Rattle.tree_json.specs.Outcome.{◌>>=◌}
 use Rattle.tree_json.specs.Top.{TopForm, top_of_data, texts_in}
 
 abbrev pub result_map : {A B : Type 0} → (A → B) → Result A TreeError → Result B TreeError
@@ -41,7 +41,7 @@ abbrev pub if_follows : ℕ → ℕ → Line → Result Line TreeError
 if_follows opened index l = if follows opened l then Ok l else Err (Shape (Some index))
 
 unfoldable pub line_at : Texts → ℕ → ℕ → Data → Result Line TreeError
-line_at texts opened index d = or_fault (Shape (Some index)) (line_of_data texts d) >>= if_follows opened index
+line_at texts opened index d = ok_or (line_of_data texts d) (Shape (Some index)) >>= if_follows opened index
 
 abbrev pub with_front : List Line → Result (List Line) TreeError → Result (List Line) TreeError
 with_front front read = read >>= λ ls. Ok (front ++ ls)
@@ -79,25 +79,26 @@ lines_with top comments texts = do
   listing_of texts top.rows
 
 unfoldable pub lines_in : TopForm → ℕ → Result (List Line) TreeError
-lines_in top comments = or_fault (Shape None) (texts_in top.texts) >>= lines_with top comments
+lines_in top comments = ok_or (texts_in top.texts) (Shape None) >>= lines_with top comments
 
 -- what a top object says
 unfoldable pub listed_of : TopForm → Result Listed TreeError
 listed_of top = do
-  comments ← or_fault (Shape None) (all_items comment_of_data top.comments)
+  comments ← ok_or (all_items comment_of_data top.comments) (Shape None)
   lines ← lines_in top (length comments)
   Ok (record { source = top.source; source_type = top.source_type; comments = comments; lines = lines })
 
 -- what a JSON value says
 unfoldable pub listed_in : Data → Result Listed TreeError
-listed_in d = or_fault (Shape None) (top_of_data d) >>= listed_of
+listed_in d = ok_or (top_of_data d) (Shape None) >>= listed_of
 
-unfoldable pub value_in : List ℕ → Result Data TreeError
-value_in bytes = if is_utf8 bytes then or_fault NotJson (read bytes) else Err NotJson
+-- the value that bytes are in JSON, or that they are none
+unfoldable pub value_in : {E : Type 0} → E → List ℕ → Result Data E
+value_in none bytes = if is_utf8 bytes then ok_or (read bytes) none else Err none
 
 -- what bytes say
 unfoldable pub reading : List ℕ → Result Listed TreeError
-reading bytes = value_in bytes >>= listed_in
+reading bytes = value_in NotJson bytes >>= listed_in
 
 -- what was read is refused: it is no listing, or that of a program which has this as its first fault
 abbrev pub Refuses : Result Listed TreeError → TreeError → Type 0

@@ -1,5 +1,5 @@
 -- Which JSON values are written forms of a program.
-use Rattle.std.specs.Prelude.{◌≡◌, ℕ, List, Some, Result, Ok, Err}
+use Rattle.std.specs.Prelude.{◌≡◌, ℕ, List, Some, Result}
 use Rattle.std.specs.Str.{IsUtf8}
 use Rattle.serde_json.specs.Data.{Data}
 use Rattle.serde_json.specs.Read.{read}
@@ -9,7 +9,7 @@ use Rattle.tree_json.specs.Lines.{listing}
 use Rattle.tree_json.specs.Form.{Texts, line_of_data}
 use Rattle.tree_json.specs.Comments.{all_items, comment_of_data}
 use Rattle.tree_json.specs.Top.{TopForm, top_of_data, texts_in}
-use Rattle.tree_json.specs.Outcome.{IsWantOfMemory}
+use Rattle.tree_json.specs.Outcome.{IsThisUnless, IsWantOfMemory}
 
 -- the value is a written form of the program, in either format: a top object of the form that holds its source, its type and its comments, and whose rows are the listing of its tree
 pub record IsWrittenForm (d : Data) (p : Tree) : Type 0 where
@@ -28,5 +28,4 @@ AreWrittenForm bytes p = IsUtf8 bytes × ((d : Data) × (read bytes ≡ Some d) 
 
 -- the program, or want of memory
 abbrev pub IsReadAs : Tree → Result Tree TreeError → Type 0
-IsReadAs p (Ok q) = q ≡ p
-IsReadAs p (Err e) = IsWantOfMemory e
+IsReadAs p result = IsThisUnless IsWantOfMemory p result

@@ -1,11 +1,11 @@
 //! The comments of the top object, and its list of texts.
-ghost use Rattle.std.specs.Prelude.{◌≡◌, map, option_map};
+ghost use Rattle.std.specs.Prelude.{◌≡◌, map, ok_or, option_map};
 ghost use Rattle.serde_json.specs.View.{view as data_of, items_view};
 ghost use Rattle.semantic_tree.specs.declared.error.TreeError.TheVariants.{Shape};
 ghost use Rattle.tree_json.specs.Form.{text_in};
 ghost use Rattle.tree_json.specs.Views.{characters};
 ghost use Rattle.tree_json.specs.Comments.{comment_kind_named, comment_kind_of_data, comment_of_data, all_items};
-ghost use Rattle.tree_json.specs.Outcome.{Gives, or_fault};
+ghost use Rattle.tree_json.specs.Outcome.{Gives};
 
 use crate::row::span_of;
 use semantic_tree::comment::{Comment, CommentKind};
@@ -16,7 +16,7 @@ use std::alloc::Global;
 /// The comments, if each value has the form of one.
 pub(crate) fn comments_of(alloc: Global, values: &[Value]) -> Result<Vec<Comment>, TreeError>
     ensures { Gives (λ comments. comments.items) result
-        (or_fault (Shape None) (all_items comment_of_data (items_view values.now))) }
+        (ok_or (all_items comment_of_data (items_view values.now)) (Shape None)) }
 {
     let mut comments = Vec::with_capacity(alloc, values.len())?;
     for value in values {
@@ -29,7 +29,7 @@ pub(crate) fn comments_of(alloc: Global, values: &[Value]) -> Result<Vec<Comment
 /// The texts, if each value is one.
 pub(crate) fn texts_of(alloc: Global, values: &[Value]) -> Result<Vec<&str>, TreeError>
     ensures { Gives (λ texts. map characters texts.items) result
-        (or_fault (Shape None) (all_items text_in (items_view values.now))) }
+        (ok_or (all_items text_in (items_view values.now)) (Shape None)) }
 {
     let mut texts = Vec::with_capacity(alloc, values.len())?;
     for value in values {

@@ -8,6 +8,7 @@ ghost use Rattle.serde_json.specs.View.{view as data_of, items_view};
 ghost use Rattle.semantic_tree.specs.Tree.{Tree, IsNumbered};
 ghost use Rattle.semantic_tree.specs.Faults.{first_fault};
 ghost use Rattle.semantic_tree.specs.Shaped.{IsShaped};
+ghost use Rattle.semantic_tree.specs.declared.error.TreeError.TheVariants.{NotJson};
 ghost use Rattle.tree_json.specs.Lines.{listing};
 ghost use Rattle.tree_json.specs.Views.{top_view, texts_view, parts_view};
 ghost use Rattle.tree_json.specs.Outcome.{Gives, IsWantOfMemory};
@@ -132,7 +133,7 @@ fn program_of(alloc: Global, parts: Parts) -> Result<Program, TreeError>
 /// The value that the bytes are in JSON.
 #[tactic(auto, using(crate::proofs::Readings::value_in_ok, crate::proofs::Readings::value_in_err))]
 fn value_of(alloc: Global, bytes: &[u8]) -> Result<Value, TreeError>
-    ensures { Gives data_of result (value_in bytes.now) }
+    ensures { Gives data_of result (value_in NotJson bytes.now) }
 {
     match Value::from_slice(alloc, bytes) {
         Ok(value) => Ok(value),
