@@ -1,5 +1,5 @@
 //! Runs a program over the real ends.
-ghost use Rattle.std.specs.Prelude.{◌≡◌, IfOk, IfErr};
+ghost use Rattle.std.specs.Prelude.{◌≡◌, IfErr};
 ghost use Rattle.std.specs.IoError.{error_kind};
 ghost use Rattle.program_ends.specs.Running.{EndsRun};
 
@@ -32,31 +32,16 @@ fn words_of(rt: &HostRuntime) -> io::Result<Option<Vec<String>>>
     }
 }
 
-/// Runs a program over standard input, output and error, with the words behind its name. Words that can't be had are
-/// refused with the line on that.
-fn run_with_words<S: Status, Run>(rt: &HostRuntime, usage: &str, run: Run) -> io::Result<S>
-where
-    Run: FnOnce(
-        Global,
-        &[String],
-        &mut Reading<Stdin>,
-        &mut Writing<BufWriter<Stdout>>,
-        &mut Writing<Stderr>,
-    ) -> S,
-    requires { Run.IsAlwaysCallable run }
-    ensures { IfOk result (EndsRun S.end_of (λ status. (alloc : _) × (words : _) × (source : _) × (out : _) × (errs : _) × (source_then : _) × (out_then : _) × (errs_then : _)
-        × Run.post run alloc words source out errs status source_then out_then errs_then)) }
-{
-    let alloc = rt.alloc();
-    let mut errs = Writing::new(rt.stderr());
+/// The words behind the program's name, and a buffer before standard output; none where the words can't be had. The only
+/// error is want of memory.
+fn words_and_out(
+    rt: &HostRuntime,
+) -> io::Result<Option<(Vec<String>, Writing<BufWriter<Stdout>>)>> {
     let Some(words) = words_of(rt)? else {
-        return Ok(refuse(usage, &mut errs));
+        return Ok(None);
     };
-    let mut source = Reading::new(rt.stdin());
-    let mut out = Writing::new(BufWriter::with_capacity(alloc, BUFFER, rt.stdout())?);
-    let status = run(alloc, &words, &mut source, &mut out, &mut errs);
-    let flushed = out.flush();
-    Ok(finish(alloc, status, flushed, &mut errs))
+    let out = Writing::new(BufWriter::with_capacity(rt.alloc(), BUFFER, rt.stdout())?);
+    Ok(Some((words, out)))
 }
 
 /// Runs a program over standard input, output and error, with the words behind its name. Words that can't be had are
@@ -74,12 +59,16 @@ where
     ensures { EndsRun S.end_of (λ status. (alloc : _) × (words : _) × (source : _) × (out : _) × (errs : _) × (source_then : _) × (out_then : _) × (errs_then : _)
         × Run.post run alloc words source out errs status source_then out_then errs_then) result }
 {
-    match run_with_words(rt, usage, run) {
-        Ok(status) => status,
-        Err(_) => tell(
-            rt.alloc(),
-            &ReportError::Memory,
-            &mut Writing::new(rt.stderr()),
-        ),
+    let alloc = rt.alloc();
+    let mut errs = Writing::new(rt.stderr());
+    match words_and_out(rt) {
+        Ok(Some((words, mut out))) => {
+            let mut source = Reading::new(rt.stdin());
+            let status = run(alloc, &words, &mut source, &mut out, &mut errs);
+            let flushed = out.flush();
+            finish(alloc, status, flushed, &mut errs)
+        }
+        Ok(None) => refuse(usage, &mut errs),
+        Err(_) => tell(alloc, &ReportError::Memory, &mut errs),
     }
 }
