@@ -36,7 +36,7 @@ module _ (names : List Name) (a : ℕ) (y : Name) where
       subst (λ k. k < length names) (first_same n a name y e) within
   wanted_at source whole (Some n) h e = absurd cc
 
-  wanted_within : (source : Name) (w : Wanted) → wanted_end names source w ≡ pair a y → a < length names
+  pub wanted_within : (source : Name) (w : Wanted) → wanted_end names source w ≡ pair a y → a < length names
   wanted_within source w e = wanted_at source w (named names source) refl e
 
   symbol_within : (m s : ℕ) (o : Option Import) → import_or_symbol names m s o ≡ pair a y → a < length names

@@ -1,14 +1,11 @@
 -- From where imports lead to the links.
-use Rattle.std.proofs.Common.{◌≡◌, ◌<◌, ◌⊎◌, inl, inr, ℕ, List, [], ◌∷◌, ◌++◌, append-nil, Option, Some, None, refl, sym, ap, subst, ◌∙◌, slice_get, length, map}
+use Rattle.std.proofs.Common.{◌≡◌, ◌⊎◌, inl, inr, List, [], ◌∷◌, ◌++◌, append-nil, Some, refl, sym, ap, subst, ◌∙◌, slice_get, length, map}
 use Rattle.std.proofs.lemmas.List.{length-map}
-use Rattle.std.proofs.lemmas.List.Quantifiers.{position-Some}
 use Rattle.std.proofs.lemmas.Option.{slice_get_within}
-use Rattle.std.specs.Str.{bytes_eq}
 use Rattle.semantic_syntax.specs.Tables.{Name}
 use Rattle.module_set.specs.declared.modules.Module.{Module}
-use Rattle.link_model.specs.Imports.{Wanted, one, whole}
-use Rattle.link_model.specs.Leads.{pair, wanted_by_name, wanted_end, import_end}
-use Rattle.link_model.specs.Module.{Analysed, all_analysed, module_names, named}
+use Rattle.link_model.specs.Leads.{pair}
+use Rattle.link_model.specs.Module.{Analysed, all_analysed, module_names}
 use Rattle.link_model.specs.Outcome.{ImportIn, IsLink, AreLinksOf, AreLinks, all_imports}
 use Rattle.link_search.specs.Ends.{AreApart}
 use Rattle.link_search.specs.Exports.{leads_of, StaysWithin}
@@ -20,6 +17,7 @@ use Rattle.link_search.specs.declared.target.Target.TheVariants as target
 use Rattle.link_targets.specs.Denoted.{denoted, AreDenoted}
 use Rattle.link_targets.specs.Described.{AreSetExports}
 use Rattle.link_targets.specs.Followed.{Follow}
+use Rattle.link_targets.proofs.Bounds.{wanted_within as end_within}
 use Rattle.link_targets.proofs.Denotes.{mapped_some}
 use Rattle.link_targets.proofs.Follows.{comes}
 use Rattle.link_targets.proofs.Sets.{modules_many, set_follows, set_within}
@@ -31,22 +29,11 @@ use Rattle.module_exports.specs.declared.set_targets.ImportPlace.{ImportPlace}
 
 -- ---- imports lead to modules of the set, and to texts that have numbers
 
-first_same : (a b : ℕ) (x y : Name) → pair a x ≡ pair b y → a ≡ b
-first_same a b x y e = cc
-
-module _ (names : List Name) (a : ℕ) (y : Name) where
-  wanted_at : (source : Name) (w : Wanted) (o : Option ℕ) → named names source ≡ o → wanted_by_name source w o ≡ pair a y → a < length names
-  wanted_at source w None h e = absurd cc
-  wanted_at source (one name) (Some n) h e =
-      let within : n < length names = (position-Some (bytes_eq source) names n [] h).0 in
-      subst (λ k. k < length names) (first_same n a name y e) within
-  wanted_at source whole (Some n) h e = absurd cc
-
 target_within : (names texts : List Name) (i : ImportIn) (t : Target) → denoted texts t ≡ Some (end_of names i) → IsTargetWithin (length names) (length texts) t
 target_within names texts i (target.End t) h = tt
 target_within names texts i (target.Name m k) h =
     let w : (x : Name) × (slice_get texts k ≡ Some x) × (pair m x ≡ end_of names i) = mapped_some (λ x. pair m x) (slice_get texts k) (end_of names i) h in
-    (wanted_at names m w.0 i.import.source i.import.wanted (named names i.import.source) refl (sym w.2), slice_get_within texts k w.0 w.1)
+    (end_within names m w.0 i.import.source i.import.wanted (sym w.2), slice_get_within texts k w.0 w.1)
 
 all_within : (names texts : List Name) (is : List ImportIn) (ts : List Target) → AreDenoted texts ts (map (end_of names) is) → AreTargetsWithin (length names) (length texts) ts
 all_within names texts [] [] h = tt
