@@ -31,33 +31,27 @@ export_in e (Some i) (Some s) = refl
 
 -- ---- all below a node
 
+-- a list of entries that takes at each node what the node gives: below a node it takes what all nodes there give
+module _ {X : Type 0} (list : Entries → List X) (given : Below → Option X) (takes : (e : Entries) (here : Below) (xs : List X) → list (entered_at here e) ++ xs ≡ list e ++ cons_option (given here) xs) where
+  given_below : (parent : Node) (f : Forest) (e : Entries) → list (entered_below parent f e) ≡ list e ++ filter_map given (nodes_below parent f)
+  given_below parent nothing e = sym (append-nil (list e))
+  given_below parent (tree r k span text marks below id after) e =
+      let node : Node = record { kind = k; span = span; text = text; marks = marks; children = below; node_id = id } in
+      let here : Below = record { parent = parent; node = node } in
+      let first : Entries = entered_at here e in
+      let inner : List X = filter_map given (nodes_below node below) in
+      let later : List X = filter_map given (nodes_below parent after) in
+      given_below parent after (entered_below node below first)
+      ∙ ap (λ xs. xs ++ later) (given_below node below first)
+      ∙ append_assoc (list first) inner later
+      ∙ takes e here (inner ++ later)
+      ∙ ap (λ xs. list e ++ cons_option (given here) xs) (sym (filter_map-append given (nodes_below node below) (nodes_below parent after)))
+
 imports_below : (parent : Node) (f : Forest) (e : Entries) → (entered_below parent f e).imports ≡ e.imports ++ filter_map import_at (nodes_below parent f)
-imports_below parent nothing e = sym (append-nil e.imports)
-imports_below parent (tree r k span text marks below id after) e =
-    let node : Node = record { kind = k; span = span; text = text; marks = marks; children = below; node_id = id } in
-    let here : Below = record { parent = parent; node = node } in
-    let first : Entries = entered_at here e in
-    let inner : List Import = filter_map import_at (nodes_below node below) in
-    let later : List Import = filter_map import_at (nodes_below parent after) in
-    imports_below parent after (entered_below node below first)
-    ∙ ap (λ is. is ++ later) (imports_below node below first)
-    ∙ append_assoc first.imports inner later
-    ∙ import_in e (import_at here) (star_at here) (inner ++ later)
-    ∙ ap (λ is. e.imports ++ cons_option (import_at here) is) (sym (filter_map-append import_at (nodes_below node below) (nodes_below parent after)))
+imports_below = given_below (λ e. e.imports) import_at (λ e here is. import_in e (import_at here) (star_at here) is)
 
 stars_below : (parent : Node) (f : Forest) (e : Entries) → (entered_below parent f e).stars ≡ e.stars ++ filter_map star_at (nodes_below parent f)
-stars_below parent nothing e = sym (append-nil e.stars)
-stars_below parent (tree r k span text marks below id after) e =
-    let node : Node = record { kind = k; span = span; text = text; marks = marks; children = below; node_id = id } in
-    let here : Below = record { parent = parent; node = node } in
-    let first : Entries = entered_at here e in
-    let inner : List Node = filter_map star_at (nodes_below node below) in
-    let later : List Node = filter_map star_at (nodes_below parent after) in
-    stars_below parent after (entered_below node below first)
-    ∙ ap (λ ss. ss ++ later) (stars_below node below first)
-    ∙ append_assoc first.stars inner later
-    ∙ star_in e (import_at here) (star_at here) (inner ++ later)
-    ∙ ap (λ ss. e.stars ++ cons_option (star_at here) ss) (sym (filter_map-append star_at (nodes_below node below) (nodes_below parent after)))
+stars_below = given_below (λ e. e.stars) star_at (λ e here ss. star_in e (import_at here) (star_at here) ss)
 
 exports_below : (parent : Node) (f : Forest) (e : Entries) → (entered_below parent f e).exports ≡ e.exports
 exports_below parent nothing e = refl
