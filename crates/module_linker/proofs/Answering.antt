@@ -17,12 +17,13 @@ use Rattle.link_model.specs.Outcome.{AreLinks, all_imports}
 use Rattle.link_model.specs.Refusal.{refusal_of}
 use Rattle.link_model.specs.declared.outcome.Link.{Link}
 use Rattle.link_lines.specs.Lines.{link_lines}
-use Rattle.module_linker.specs.Codes.{end_of, status_for}
+use Rattle.program_ends.specs.FindingEnds.{end_of}
+use Rattle.module_linker.specs.Codes.{status_for}
 use Rattle.module_linker.specs.Failing.{NotFound, IsNotRefused}
 use Rattle.module_linker.specs.Meaning.{StandsLinked, RefusedFor, Answers, GivesLinks, Fails, Ends}
 use Rattle.module_linker.specs.declared.failure.LinkFailure.{LinkFailure}
 use Rattle.module_linker.specs.declared.failure.LinkFailure.TheVariants.{Refused, Stopped}
-use Rattle.module_linker.specs.declared.status.LinkStatus.{LinkStatus}
+use Rattle.program_ends.specs.declared.finding.FindingStatus.{FindingStatus}
 
 -- ---- the links of modules
 
@@ -31,7 +32,7 @@ text_of ms links = link_lines (all_imports (all_analysed ms)) links
 
 module _ {K : Type 0} (held : K → Option (List ℕ)) (faults : K → ℕ) (ms : List Module) where
   -- the modules aren't linked
-  pub gives_refusal : (old : K) (e : LinkError) (result : Result LinkStatus LinkFailure) → (¬ IsWantOfMemory e → refusal_of ms ≡ Some e) → IsErrAnd result (λ told. told ≡ Refused e) → GivesLinks held faults old old ms result
+  pub gives_refusal : (old : K) (e : LinkError) (result : Result FindingStatus LinkFailure) → (¬ IsWantOfMemory e → refusal_of ms ≡ Some e) → IsErrAnd result (λ told. told ≡ Refused e) → GivesLinks held faults old old ms result
   gives_refusal old e (Err told) why same = subst (λ f. GivesLinks held faults old old ms (Err f)) (sym same) (refl, why)
   gives_refusal old e (Ok status) why same = absurd same
 
@@ -39,18 +40,18 @@ module _ {K : Type 0} (held : K → Option (List ℕ)) (faults : K → ℕ) (ms 
   answers_of links linked = record { links = links; linked = linked; told = refl; ends = refl }
 
   -- the links aren't written to their end
-  pub gives_part : (old new : K) (links : List Link) (e : ReportError) (result : Result LinkStatus LinkFailure) → refusal_of ms ≡ None → AreLinks ms links → Writes held faults old new (text_of ms links) (Err e) → IsErrAnd result (λ told. told ≡ Stopped e) → GivesLinks held faults old new ms result
+  pub gives_part : (old new : K) (links : List Link) (e : ReportError) (result : Result FindingStatus LinkFailure) → refusal_of ms ≡ None → AreLinks ms links → Writes held faults old new (text_of ms links) (Err e) → IsErrAnd result (λ told. told ≡ Stopped e) → GivesLinks held faults old new ms result
   gives_part old new links e (Err told) none linked writes same =
       subst (λ f. GivesLinks held faults old new ms (Err f)) (sym same) (none, end_of (status_for links), text_of ms links, answers_of links linked, writes)
   gives_part old new links e (Ok status) none linked writes same = absurd same
 
   -- the links are written
-  pub gives_all : (old new : K) (links : List Link) (status : LinkStatus) → refusal_of ms ≡ None → AreLinks ms links → Writes held faults old new (text_of ms links) (Ok tt) → status ≡ status_for links → GivesLinks held faults old new ms (Ok status)
+  pub gives_all : (old new : K) (links : List Link) (status : FindingStatus) → refusal_of ms ≡ None → AreLinks ms links → Writes held faults old new (text_of ms links) (Ok tt) → status ≡ status_for links → GivesLinks held faults old new ms (Ok status)
   gives_all old new links status none linked writes is =
       (none, text_of ms links, subst (λ s. Answers (end_of s) ms (text_of ms links)) (sym is) (answers_of links linked), writes)
 
   -- of modules that are linked nothing is refused
-  pub given_kept : (same : List Module) (old new : K) (result : Result LinkStatus LinkFailure) → ms ≡ same → refusal_of same ≡ None → GivesLinks held faults old new ms result → IfErr result IsNotRefused
+  pub given_kept : (same : List Module) (old new : K) (result : Result FindingStatus LinkFailure) → ms ≡ same → refusal_of same ≡ None → GivesLinks held faults old new ms result → IfErr result IsNotRefused
   given_kept same old new (Ok status) is none given = tt
   given_kept same old new (Err (Stopped e)) is none given = tt
   given_kept same old new (Err (Refused e)) is none given = only_memory e (λ other. clash (sym none ∙ sym (ap refusal_of is) ∙ given.1 other))
@@ -73,7 +74,7 @@ module _ (source : SourceCall) where
   fails_unfound out (Stopped error.Memory) why untouched = inl untouched
 
   -- no set is found
-  pub ends_unfound : (out : SinkCall) (failure : LinkFailure) (result : Result LinkStatus LinkFailure) → NotFound source failure → Untouched out → IsErrAnd result (λ told. told ≡ failure) → Ends source out result
+  pub ends_unfound : (out : SinkCall) (failure : LinkFailure) (result : Result FindingStatus LinkFailure) → NotFound source failure → Untouched out → IsErrAnd result (λ told. told ≡ failure) → Ends source out result
   ends_unfound out failure (Err told) why untouched same = subst (Fails source out) (sym same) (fails_unfound out failure why untouched)
   ends_unfound out failure (Ok status) why untouched same = absurd same
 
@@ -92,12 +93,12 @@ module _ (source : SourceCall) where
     stopped end text error.Memory none answers writes = inr (part_of end text error.Memory none answers writes)
 
     -- what is given of the modules that are found
-    pub ends_given : (result : Result LinkStatus LinkFailure) → GivesLinks held faults old new ms result → Ends source (sink_call held faults old new) result
+    pub ends_given : (result : Result FindingStatus LinkFailure) → GivesLinks held faults old new ms result → Ends source (sink_call held faults old new) result
     ends_given (Ok status) given = record { what = ms; gives = linked ms found given.0; text = given.1; answers = given.2; told = given.3.whole }
     ends_given (Err (Refused e)) given = (given.0, λ other. record { bytes = found.bytes; whole = found.whole; fits = found.fits; why = record { other = other; why = inr (record { modules = ms; set = found.stands; why = given.1 other }) } })
     ends_given (Err (Stopped e)) given = stopped given.1 given.2 e given.0 given.3 given.4
 
 -- a set that isn't found
-pub unfound_kept : (failure : LinkFailure) (result : Result LinkStatus LinkFailure) → IsNotRefused failure → IsErrAnd result (λ told. told ≡ failure) → IfErr result IsNotRefused
+pub unfound_kept : (failure : LinkFailure) (result : Result FindingStatus LinkFailure) → IsNotRefused failure → IsErrAnd result (λ told. told ≡ failure) → IfErr result IsNotRefused
 unfound_kept failure (Err told) kept same = subst IsNotRefused (sym same) kept
 unfound_kept failure (Ok status) kept same = tt

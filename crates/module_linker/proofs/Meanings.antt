@@ -18,15 +18,16 @@ use Rattle.program_ends.proofs.Endings.{ends_usage, ends_answered, answer_ends, 
 use Rattle.program_ends.proofs.Meanings.{means_refused, means_too_long, means_unread, means_unwritten, means_memory}
 use Rattle.module_set.specs.declared.error.LinkError.{LinkError}
 use Rattle.module_set.specs.declared.error.LinkError.TheVariants as refusal
-use Rattle.module_linker.specs.Codes.{end_of, is_loose}
+use Rattle.program_ends.specs.FindingEnds.{end_of}
+use Rattle.module_linker.specs.Codes.{is_loose}
 use Rattle.module_linker.specs.Failing.{IsNotRefused}
 use Rattle.module_linker.specs.Lines.{cause_line, usage_line}
 use Rattle.module_linker.specs.Meaning.{StandsLinked, RefusedFor, Answers, RefusesNone, Fails, Ends, Means, IsClear}
 use Rattle.module_linker.specs.Telling.{failure_line, failure_stop}
 use Rattle.module_linker.specs.declared.failure.LinkFailure.{LinkFailure}
 use Rattle.module_linker.specs.declared.failure.LinkFailure.TheVariants.{Refused, Stopped}
-use Rattle.module_linker.specs.declared.status.LinkStatus.{LinkStatus}
-use Rattle.module_linker.specs.declared.status.LinkStatus.TheVariants as status
+use Rattle.program_ends.specs.declared.finding.FindingStatus.{FindingStatus}
+use Rattle.program_ends.specs.declared.finding.FindingStatus.TheVariants as status
 
 -- ---- the links are written
 
@@ -34,7 +35,7 @@ by_test : (b : Bool) → is_answer (end_of (if b then status.Found else status.D
 by_test true = refl
 by_test false = refl
 
-is_answered : (source : SourceCall) (out : SinkCall) (result : LinkStatus) → Ends source out (Ok result) → is_answer (end_of result) ≡ true
+is_answered : (source : SourceCall) (out : SinkCall) (result : FindingStatus) → Ends source out (Ok result) → is_answer (end_of result) ≡ true
 is_answered source out result whole = ap is_answer whole.answers.ends ∙ by_test (list_any (λ l. is_loose l.outcome) whole.answers.links)
 
 module _ (source : SourceCall) (out errs : SinkCall) (words : List (String Global)) where
@@ -45,10 +46,10 @@ module _ (source : SourceCall) (out errs : SinkCall) (words : List (String Globa
   abbrev TellsStop : List ℕ → Stop → Stop → Type 0
   TellsStop line wanted told = telling.Tells errs line wanted told
 
-  pub means_words : (result : LinkStatus) → ((words ≡ []) → ⊥) → Unread source → Untouched out → TellsEnd errs usage_line stop.Usage (end_of result) → Means source out errs words result
+  pub means_words : (result : FindingStatus) → ((words ≡ []) → ⊥) → Unread source → Untouched out → TellsEnd errs usage_line stop.Usage (end_of result) → Means source out errs words result
   means_words result not_asked unread untouched tells = ends_usage (words ≡ []) (words ≡ []) usage_line (Finds StandsLinked) RefusedFor cause_line Answers RefusesNone source out errs (end_of result) not_asked unread untouched tells
 
-  pub means_answered : (result : LinkStatus) → words ≡ [] → Ends source out (Ok result) → Untouched errs → Means source out errs words result
+  pub means_answered : (result : FindingStatus) → words ≡ [] → Ends source out (Ok result) → Untouched errs → Means source out errs words result
   means_answered result asked whole untouched = ends_answered (words ≡ []) (words ≡ []) usage_line (Finds StandsLinked) RefusedFor cause_line Answers RefusesNone source out errs (end_of result) asked whole (is_answered source out result whole) untouched
 
   -- ---- why they aren't is told
@@ -69,7 +70,7 @@ module _ (source : SourceCall) (out errs : SinkCall) (words : List (String Globa
   told_failure (Stopped error.Write) told asked why tells = means_unwritten (words ≡ []) (words ≡ []) usage_line (Finds StandsLinked) RefusedFor cause_line Answers RefusesNone source out errs told asked (inl asked) why.0 why.1 tells
   told_failure (Stopped error.Memory) told asked why tells = means_memory (words ≡ []) (words ≡ []) usage_line (Finds StandsLinked) RefusedFor cause_line Answers RefusesNone source out errs told asked (inl asked) why tells
 
-  pub means_failed : (failure : LinkFailure) (result : LinkStatus) → words ≡ [] → Ends source out (Err failure) → TellsEnd errs (failure_line failure) (failure_stop failure) (end_of result) → Means source out errs words result
+  pub means_failed : (failure : LinkFailure) (result : FindingStatus) → words ≡ [] → Ends source out (Err failure) → TellsEnd errs (failure_line failure) (failure_stop failure) (end_of result) → Means source out errs words result
   means_failed failure result asked why (told, is, tells) = subst MeansAt (sym is) (told_failure failure told asked why tells)
 
 -- ---- words
@@ -86,7 +87,7 @@ no_words (word ∷ words) empty is there =
 
 -- ---- completeness
 
-pub answered_done : (source : SourceCall) (out : SinkCall) (result : LinkStatus) → Ends source out (Ok result) → IsDoneOrMemory (end_of result)
+pub answered_done : (source : SourceCall) (out : SinkCall) (result : FindingStatus) → Ends source out (Ok result) → IsDoneOrMemory (end_of result)
 answered_done source out result whole = answer_ends (end_of result) (is_answered source out result whole)
 
 -- nothing is in the way but want of memory
@@ -101,6 +102,6 @@ only_memory source out (Stopped error.Read) clear kept why = absurd (clear.sourc
 only_memory source out (Stopped error.Write) clear kept why = absurd (clear.out_holds why.0)
 only_memory source out (Stopped error.Memory) clear kept why = refl
 
-pub clear_failed : (source : SourceCall) (out errs : SinkCall) (failure : LinkFailure) (result : LinkStatus) → IsClear source out → IsNotRefused failure → Ends source out (Err failure) → TellsEnd errs (failure_line failure) (failure_stop failure) (end_of result) → IsDoneOrMemory (end_of result)
+pub clear_failed : (source : SourceCall) (out errs : SinkCall) (failure : LinkFailure) (result : FindingStatus) → IsClear source out → IsNotRefused failure → Ends source out (Err failure) → TellsEnd errs (failure_line failure) (failure_stop failure) (end_of result) → IsDoneOrMemory (end_of result)
 clear_failed source out errs failure result clear kept why tells =
     subst IsDoneOrMemory (sym (wanting_ends errs (failure_line failure) (failure_stop failure) (end_of result) (only_memory source out failure clear kept why) tells)) tt

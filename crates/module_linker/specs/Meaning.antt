@@ -16,11 +16,12 @@ use Rattle.link_model.specs.Outcome.{AreLinks, all_imports}
 use Rattle.link_model.specs.Refusal.{refusal_of}
 use Rattle.link_model.specs.declared.outcome.Link.{Link}
 use Rattle.link_lines.specs.Lines.{link_lines}
-use Rattle.module_linker.specs.Codes.{end_of, status_for}
+use Rattle.program_ends.specs.FindingEnds.{end_of}
+use Rattle.module_linker.specs.Codes.{status_for}
 use Rattle.module_linker.specs.Lines.{cause_line, usage_line}
 use Rattle.module_linker.specs.declared.failure.LinkFailure.{LinkFailure}
 use Rattle.module_linker.specs.declared.failure.LinkFailure.TheVariants.{Refused, Stopped}
-use Rattle.module_linker.specs.declared.status.LinkStatus.{LinkStatus}
+use Rattle.program_ends.specs.declared.finding.FindingStatus.{FindingStatus}
 
 -- ---- the input
 
@@ -50,7 +51,7 @@ pub record Answers (end : End) (ms : List Module) (text : List ℕ) : Type 0 whe
   pub ends : end ≡ end_of (status_for links)
 
 -- the sink has taken the links of the modules, or a prefix of them; or they aren't linked
-abbrev pub GivesLinks : {K : Type 0} → (K → Option (List ℕ)) → (K → ℕ) → K → K → List Module → Result LinkStatus LinkFailure → Type 0
+abbrev pub GivesLinks : {K : Type 0} → (K → Option (List ℕ)) → (K → ℕ) → K → K → List Module → Result FindingStatus LinkFailure → Type 0
 GivesLinks held faults old new ms (Ok status) = (refusal_of ms ≡ None) × (text : List ℕ) × Answers (end_of status) ms text × Writes held faults old new text (Ok tt)
 GivesLinks held faults old new ms (Err (Refused e)) = (held new ≡ held old) × (¬ IsWantOfMemory e → refusal_of ms ≡ Some e)
 GivesLinks held faults old new ms (Err (Stopped e)) = (refusal_of ms ≡ None) × (end : End) × (text : List ℕ) × Answers end ms text × Writes held faults old new text (Err e)
@@ -65,7 +66,7 @@ Fails source out (Stopped error.Write) = Rose out.faults out.faults_then × Answ
 Fails source out (Stopped error.Memory) = Untouched out ⊎ AnsweredPart (Finds StandsLinked) Answers source out
 
 -- what becomes of an input, before it is told
-abbrev pub Ends : SourceCall → SinkCall → Result LinkStatus LinkFailure → Type 0
+abbrev pub Ends : SourceCall → SinkCall → Result FindingStatus LinkFailure → Type 0
 Ends source out (Ok status) = Answered (Finds StandsLinked) Answers source out (end_of status)
 Ends source out (Err failure) = Fails source out failure
 
@@ -76,7 +77,7 @@ abbrev pub RefusesNone : List Module → List ℕ → Type 0
 RefusesNone ms line = ⊥
 
 -- What the program has done at each status.
-abbrev pub Means : SourceCall → SinkCall → SinkCall → List (String Global) → LinkStatus → Type 0
+abbrev pub Means : SourceCall → SinkCall → SinkCall → List (String Global) → FindingStatus → Type 0
 Means source out errs words status =
     ends.Means (words ≡ []) usage_line StandsLinked RefusedFor cause_line Answers RefusesNone source out errs (end_of status)
 

@@ -6,16 +6,15 @@ mod failure;
 mod link_list;
 mod linking;
 mod program;
-mod status;
 mod stops;
 
 pub use link_list::Links;
 pub use linking::link;
 pub use module_set::{LinkError, Module, Modules, read_modules};
 pub use program::run_link;
+pub use program_ends::FindingStatus;
 pub use report_ends::{
     Failed, MemorySink, MemorySource, Reading, Sink, Source, SureSink, SureSource, WriteFault,
     Writing,
 };
-pub use status::LinkStatus;
 pub use stops::USAGE;

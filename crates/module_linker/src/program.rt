@@ -5,17 +5,18 @@ ghost use Rattle.program_ends.specs.Completeness.{IsDoneOrMemory, IsUsageOrMemor
 ghost use Rattle.program_ends.specs.Meaning.{Finds};
 ghost use Rattle.module_set.specs.Reading.{StandsForSet};
 ghost use Rattle.module_set.specs.declared.modules.Module.{Module};
-ghost use Rattle.module_linker.specs.Codes.{status_for, end_of, is_loose};
+ghost use Rattle.program_ends.specs.FindingEnds.{end_of};
+ghost use Rattle.module_linker.specs.Codes.{status_for, is_loose};
 ghost use Rattle.module_linker.specs.Failing.{NotFound, IsNotRefused};
 ghost use Rattle.module_linker.specs.Meaning.{StandsLinked, GivesLinks, Ends, Means, IsClear};
 
 use crate::failure::LinkFailure;
 use crate::linking::link;
-use crate::status::LinkStatus;
 use crate::stops::{refuse_words, tell_failure};
 use link_lines::write_links;
 use link_model::{Link, LinkOutcome};
 use module_set::{Modules, read_modules};
+use program_ends::FindingStatus;
 use report_ends::{Sink, Source, read_input};
 use std::alloc::Global;
 
@@ -31,15 +32,15 @@ fn is_loose(outcome: LinkOutcome) -> bool
 
 /// The status for links that are written.
 #[tactic(auto, using(crate::proofs::Loose::loose_turn, crate::proofs::Loose::loose_found, crate::proofs::Loose::loose_end))]
-fn status_for(links: &[Link]) -> LinkStatus
+fn status_for(links: &[Link]) -> FindingStatus
     ensures { result ≡ status_for links.now }
 {
     for link in links {
         if is_loose(link.outcome) {
-            return LinkStatus::Found;
+            return FindingStatus::Found;
         }
     }
-    LinkStatus::Done
+    FindingStatus::Done
 }
 
 /// Reads the whole input, and the set of modules that it stands for. Some bytes are gone from the source where it fails.
@@ -55,7 +56,11 @@ fn read_modules_from<S: Source>(alloc: Global, source: &mut S) -> Result<Modules
 }
 
 /// Writes the links of modules, and gives the status for them.
-fn answer<K: Sink>(alloc: Global, modules: &Modules, out: &mut K) -> Result<LinkStatus, LinkFailure>
+fn answer<K: Sink>(
+    alloc: Global,
+    modules: &Modules,
+    out: &mut K,
+) -> Result<FindingStatus, LinkFailure>
     ensures { GivesLinks K.held K.faults out.old out.new modules.now result }
 {
     let links = link(alloc, modules)?;
@@ -68,7 +73,7 @@ fn link_input<S: Source, K: Sink>(
     alloc: Global,
     source: &mut S,
     out: &mut K,
-) -> Result<LinkStatus, LinkFailure>
+) -> Result<FindingStatus, LinkFailure>
     ensures ends { Ends (source_call S.left S.faults source.old source.new) (sink_call K.held K.faults out.old out.new) result }
     ensures complete { (input : List ℕ) (ms : List Module) → S.left source.old ≡ Some input → StandsLinked input ms → IfErr result IsNotRefused }
 {
@@ -77,15 +82,15 @@ fn link_input<S: Source, K: Sink>(
 }
 
 /// Does all that the program does: it reads the whole input, which is a set of modules as JSON, and writes a line on
-/// what each import comes to on `out`. Where it can't it tells why on `errs`, in one line. Where there are words nothing
-/// is read.
+/// what each import comes to on `out`. `Found` is answered where some import comes to nothing, or to things that differ.
+/// Where it can't answer it tells why on `errs`, in one line. Where there are words nothing is read.
 pub fn run_link<S: Source, K: Sink, E: Sink>(
     alloc: Global,
     words: &[String],
     source: &mut S,
     out: &mut K,
     errs: &mut E,
-) -> LinkStatus
+) -> FindingStatus
     ensures means { Means (source_call S.left S.faults source.old source.new) (sink_call K.held K.faults out.old out.new)
         (sink_call E.held E.faults errs.old errs.new) words.now result }
     ensures complete { words.now ≡ [] → IsClear (source_call S.left S.faults source.old source.new)

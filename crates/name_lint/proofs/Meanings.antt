@@ -16,11 +16,12 @@ use Rattle.program_ends.proofs.Endings.{ends_usage, ends_answered, ends_told, an
 use Rattle.program_ends.proofs.Meanings.{clear_reading}
 use Rattle.name_uses.specs.Known.{names_of}
 use Rattle.name_uses.specs.Undeclared.{undeclared}
-use Rattle.name_lint.specs.Codes.{end_of, status_for}
+use Rattle.program_ends.specs.FindingEnds.{end_of}
+use Rattle.name_lint.specs.Codes.{status_for}
 use Rattle.name_lint.specs.Meaning.{Answers, Ends, RefusesNone, Means}
 use Rattle.name_lint.specs.Telling.{usage_line}
 use Rattle.name_lint.specs.Words.{AreNames}
-use Rattle.name_lint.specs.declared.status.NamesStatus.{NamesStatus}
+use Rattle.program_ends.specs.declared.finding.FindingStatus.{FindingStatus}
 
 -- ---- the meaning of the status
 
@@ -33,29 +34,29 @@ is_answer_for [] [] = refl
 is_answer_for [] (r ∷ rs) = refl
 is_answer_for (y ∷ ys) rs = refl
 
-is_answered : (words : List (String Global)) (source : SourceCall) (out : SinkCall) (result : NamesStatus) → Ends words source out (Ok result) → is_answer (end_of result) ≡ true
+is_answered : (words : List (String Global)) (source : SourceCall) (out : SinkCall) (result : FindingStatus) → Ends words source out (Ok result) → is_answer (end_of result) ≡ true
 is_answered words source out result whole = ap is_answer whole.answers.ends ∙ is_answer_for whole.answers.unused (undeclared (names_of words) whole.what)
 
 module _ (source : SourceCall) (out errs : SinkCall) (words : List (String Global)) where
   -- the words are refused
-  pub means_refused : (result : NamesStatus) → (AreNames words → ⊥) → Unread source → Untouched out → TellsEnd errs usage_line stop.Usage (end_of result) → Means source out errs words result
+  pub means_refused : (result : FindingStatus) → (AreNames words → ⊥) → Unread source → Untouched out → TellsEnd errs usage_line stop.Usage (end_of result) → Means source out errs words result
   means_refused result not_names unread untouched tells = ends_usage (AreNames words) (AreNames words) usage_line (Finds Stands) RefusedFor tree_line (Answers words) RefusesNone source out errs (end_of result) not_names unread untouched tells
 
   -- the lines are written
-  pub means_answered : (result : NamesStatus) → AreNames words → Ends words source out (Ok result) → Untouched errs → Means source out errs words result
+  pub means_answered : (result : FindingStatus) → AreNames words → Ends words source out (Ok result) → Untouched errs → Means source out errs words result
   means_answered result asked whole untouched =
       ends_answered (AreNames words) (AreNames words) usage_line (Finds Stands) RefusedFor tree_line (Answers words) RefusesNone source out errs (end_of result) asked whole (is_answered words source out result whole) untouched
 
   -- why they aren't is told
-  pub means_stopped : (cause : ReportError) (result : NamesStatus) → AreNames words → Ends words source out (Err cause) → TellsEnd errs (line_of cause) (stop_of cause) (end_of result) → Means source out errs words result
+  pub means_stopped : (cause : ReportError) (result : FindingStatus) → AreNames words → Ends words source out (Err cause) → TellsEnd errs (line_of cause) (stop_of cause) (end_of result) → Means source out errs words result
   means_stopped cause result asked why tells = ends_told (AreNames words) (AreNames words) usage_line (Finds Stands) (Answers words) RefusesNone source out errs cause (end_of result) asked why tells
 
 -- ---- completeness
 
-pub answered_done : (words : List (String Global)) (source : SourceCall) (out : SinkCall) (result : NamesStatus) → Ends words source out (Ok result) → IsDoneOrMemory (end_of result)
+pub answered_done : (words : List (String Global)) (source : SourceCall) (out : SinkCall) (result : FindingStatus) → Ends words source out (Ok result) → IsDoneOrMemory (end_of result)
 answered_done words source out result whole = answer_ends (end_of result) (is_answered words source out result whole)
 
-pub clear_stopped : (words : List (String Global)) (source : SourceCall) (out errs : SinkCall) (cause : ReportError) (result : NamesStatus) → IsClear source out → ((input : List ℕ) (program : Tree) → source.left ≡ Some input → Stands input program → IsNotRefused cause) → Ends words source out (Err cause)
+pub clear_stopped : (words : List (String Global)) (source : SourceCall) (out errs : SinkCall) (cause : ReportError) (result : FindingStatus) → IsClear source out → ((input : List ℕ) (program : Tree) → source.left ≡ Some input → Stands input program → IsNotRefused cause) → Ends words source out (Err cause)
     → TellsEnd errs (line_of cause) (stop_of cause) (end_of result) → IsDoneOrMemory (end_of result)
 clear_stopped words source out errs cause result clear kept why tells =
     let wanting : cause ≡ error.Memory = clear_reading (AreNames words) (Finds Stands) (Answers words) source out cause clear (kept clear.input clear.program clear.told clear.stands) why in

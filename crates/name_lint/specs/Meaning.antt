@@ -13,11 +13,12 @@ use Rattle.program_ends.specs.Reads.{Stands, RefusedFor}
 use Rattle.name_uses.specs.Known.{names_of}
 use Rattle.name_uses.specs.Live.{AreUnused}
 use Rattle.name_uses.specs.Undeclared.{undeclared}
-use Rattle.name_lint.specs.Codes.{end_of, status_for}
+use Rattle.program_ends.specs.FindingEnds.{end_of}
+use Rattle.name_lint.specs.Codes.{status_for}
 use Rattle.name_lint.specs.Lines.{lines_of}
 use Rattle.name_lint.specs.Telling.{usage_line}
 use Rattle.name_lint.specs.Words.{AreNames}
-use Rattle.name_lint.specs.declared.status.NamesStatus.{NamesStatus}
+use Rattle.program_ends.specs.declared.finding.FindingStatus.{FindingStatus}
 
 -- ---- what is answered
 
@@ -30,13 +31,13 @@ pub record Answers (words : List (String Global)) (end : End) (p : Tree) (text :
   pub ends : end ≡ end_of (status_for unused (undeclared (names_of words) p))
 
 -- the sink has taken the answer about the program, or a prefix of it; or memory was wanting before there was one
-abbrev pub GivesAnswer : {K : Type 0} → (K → Option (List ℕ)) → (K → ℕ) → K → K → List (String Global) → Tree → Result NamesStatus ReportError → Type 0
+abbrev pub GivesAnswer : {K : Type 0} → (K → Option (List ℕ)) → (K → ℕ) → K → K → List (String Global) → Tree → Result FindingStatus ReportError → Type 0
 GivesAnswer held faults old new words p result = answering.GivesAnswer end_of (Answers words) held faults old new p result
 
 -- ---- the whole program
 
 -- what becomes of such words, before it is told
-abbrev pub Ends : List (String Global) → SourceCall → SinkCall → Result NamesStatus ReportError → Type 0
+abbrev pub Ends : List (String Global) → SourceCall → SinkCall → Result FindingStatus ReportError → Type 0
 Ends words source out result = EndsBy end_of (AreNames words) (Finds Stands) (Answers words) source out result
 
 -- nothing is refused about a good input
@@ -44,6 +45,6 @@ abbrev pub RefusesNone : Tree → List ℕ → Type 0
 RefusesNone p line = ⊥
 
 -- What the program has done at each status.
-abbrev pub Means : SourceCall → SinkCall → SinkCall → List (String Global) → NamesStatus → Type 0
+abbrev pub Means : SourceCall → SinkCall → SinkCall → List (String Global) → FindingStatus → Type 0
 Means source out errs words status =
     ends.Means (AreNames words) usage_line Stands RefusedFor tree_line (Answers words) RefusesNone source out errs (end_of status)

@@ -4,9 +4,8 @@
 mod finding;
 mod name_lines;
 mod program;
-mod status;
 
 pub use finding::find_names;
 pub use name_uses::{NameReport, ReferenceIdList, SymbolIdList};
 pub use program::{USAGE, run_names};
-pub use status::NamesStatus;
+pub use program_ends::FindingStatus;

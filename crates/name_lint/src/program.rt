@@ -11,7 +11,8 @@ ghost use Rattle.program_ends.specs.Calls.{source_call, sink_call};
 ghost use Rattle.program_ends.specs.Completeness.{IsClear, IsNotRefused, IsDoneOrMemory, IsUsageOrMemory};
 ghost use Rattle.program_ends.specs.Ending.{TellsEnd};
 ghost use Rattle.program_ends.specs.Reads.{Stands};
-ghost use Rattle.name_lint.specs.Codes.{status_for, end_of};
+ghost use Rattle.program_ends.specs.FindingEnds.{end_of};
+ghost use Rattle.name_lint.specs.Codes.{status_for};
 ghost use Rattle.name_lint.specs.Lines.{name_lines};
 ghost use Rattle.name_lint.specs.Meaning.{GivesAnswer, Ends, Means};
 ghost use Rattle.name_lint.specs.Telling.{usage_line};
@@ -19,9 +20,8 @@ ghost use Rattle.name_lint.specs.Words.{AreNames};
 
 use crate::finding::drop_analysis;
 use crate::name_lines::write_names;
-use crate::status::NamesStatus;
 use name_uses::{NameReport, TreePass, names_by};
-use program_ends::{Stop, read_program_from, refuse, tell};
+use program_ends::{FindingStatus, Stop, read_program_from, refuse, tell};
 use report_ends::{ReportError, Sink, Source};
 use scoping::{NodeTables, Scoping};
 use semantic::SemanticBuilder;
@@ -43,13 +43,13 @@ fn are_names(words: &[String]) -> bool
 }
 
 /// The status for lines that are written.
-fn status_for(report: &NameReport) -> NamesStatus
+fn status_for(report: &NameReport) -> FindingStatus
     ensures { result ≡ status_for report.now.unused report.now.undeclared }
 {
     if report.unused.as_slice().is_empty() && report.undeclared.as_slice().is_empty() {
-        NamesStatus::Done
+        FindingStatus::Done
     } else {
-        NamesStatus::Found
+        FindingStatus::Found
     }
 }
 
@@ -60,7 +60,7 @@ fn finish_answer<K: Sink>(
     nodes: &[AstKind<'_>],
     report: &NameReport,
     out: &mut K,
-) -> Result<NamesStatus, ReportError>
+) -> Result<FindingStatus, ReportError>
     requires unused { All (λ y. y < length scoping.now.symbols) report.now.unused }
     requires undeclared { All (λ r. r < length nodes.now) report.now.undeclared }
     ensures { WritesAll K.held K.faults out.old out.new
@@ -79,7 +79,7 @@ fn answer_by<K: Sink>(
     scoping: &Scoping,
     tables: &NodeTables,
     out: &mut K,
-) -> Result<NamesStatus, ReportError>
+) -> Result<FindingStatus, ReportError>
     requires tables { scoping.now ≡ tables_of program.now }
     requires nodes { tables.now.symbols ≡ entries (node_tables (steps program.now)).symbols }
     ensures { GivesAnswer K.held K.faults out.old out.new words.now program.now result }
@@ -95,7 +95,7 @@ fn answer<K: Sink>(
     words: &[String],
     program: &Program,
     out: &mut K,
-) -> Result<NamesStatus, ReportError>
+) -> Result<FindingStatus, ReportError>
     ensures { GivesAnswer K.held K.faults out.old out.new words.now program.now result }
 {
     let analysis = SemanticBuilder::new().build(alloc, program)?;
@@ -118,7 +118,7 @@ fn answer_input<S: Source, K: Sink>(
     words: &[String],
     source: &mut S,
     out: &mut K,
-) -> Result<NamesStatus, ReportError>
+) -> Result<FindingStatus, ReportError>
     requires { AreNames words.now }
     ensures ends { Ends words.now (source_call S.left S.faults source.old source.new) (sink_call K.held K.faults out.old out.new) result }
     ensures complete { (input : List ℕ) (program : Tree) → S.left source.old ≡ Some input → Stands input program → IfErr result IsNotRefused }
@@ -131,7 +131,7 @@ fn answer_input<S: Source, K: Sink>(
 pub const USAGE: &str = "usage: name_lint [NAME ..]\n";
 
 /// Answers words that aren't names.
-fn refuse_words<E: Sink>(errs: &mut E) -> NamesStatus
+fn refuse_words<E: Sink>(errs: &mut E) -> FindingStatus
     ensures { TellsEnd (sink_call E.held E.faults errs.old errs.new) usage_line Stop.Usage (end_of result) }
 {
     refuse(USAGE, errs)
@@ -148,7 +148,7 @@ pub fn run_names<S: Source, K: Sink, E: Sink>(
     source: &mut S,
     out: &mut K,
     errs: &mut E,
-) -> NamesStatus
+) -> FindingStatus
     ensures means { Means (source_call S.left S.faults source.old source.new) (sink_call K.held K.faults out.old out.new)
         (sink_call E.held E.faults errs.old errs.new) words.now result }
     ensures complete { AreNames words.now → IsClear (source_call S.left S.faults source.old source.new)

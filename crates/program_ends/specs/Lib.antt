@@ -8,3 +8,4 @@ pub mod Ending
 pub mod Answering
 pub mod Completeness
 pub mod Running
+pub mod FindingEnds

@@ -2,11 +2,13 @@
 //! what their statuses stand for.
 #![tactic(auto)]
 
+mod finding;
 mod input;
 mod standard;
 mod status;
 mod stops;
 
+pub use finding::FindingStatus;
 pub use input::read_program_from;
 pub use standard::run_over_standard_ends;
 pub use status::{Status, finish, refuse, tell};

@@ -1,5 +1,5 @@
 use Rattle.program_ends.proofs.Answering.{gives_none}
-use Rattle.name_lint.specs.Codes.{end_of}
+use Rattle.program_ends.specs.FindingEnds.{end_of}
 use Rattle.name_lint.specs.Meaning.{Answers}
 use Rattle.name_lint.proofs.program.answer.Goals as goal
 

@@ -4,7 +4,8 @@ use Rattle.semantic_model.specs.Step.{steps}
 use Rattle.name_uses.specs.Gathered.{Gathered, text_of, span_of}
 use Rattle.name_uses.specs.Known.{names_of}
 use Rattle.name_uses.specs.Undeclared.{reference_names, reference_spans}
-use Rattle.name_lint.specs.Codes.{end_of, status_for}
+use Rattle.program_ends.specs.FindingEnds.{end_of}
+use Rattle.name_lint.specs.Codes.{status_for}
 use Rattle.name_lint.specs.Lines.{name_lines}
 use Rattle.name_lint.proofs.InRange.{unused_below, undeclared_below}
 use Rattle.name_lint.proofs.Lines.{lines_told}

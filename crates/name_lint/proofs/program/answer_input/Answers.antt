@@ -2,7 +2,7 @@ use Rattle.std.proofs.Common.{refl, inl}
 use Rattle.program_ends.specs.Meaning.{Finds}
 use Rattle.program_ends.specs.Reads.{Stands}
 use Rattle.program_ends.proofs.Answering.{ends_unfound, unfound_no_refusal, gives_ends, gives_no_refusal}
-use Rattle.name_lint.specs.Codes.{end_of}
+use Rattle.program_ends.specs.FindingEnds.{end_of}
 use Rattle.name_lint.specs.Meaning.{Answers}
 use Rattle.name_lint.specs.Words.{AreNames}
 use Rattle.name_lint.proofs.program.answer_input.Goals as goal

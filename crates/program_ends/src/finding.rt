@@ -1,0 +1,61 @@
+//! How a program ends that looks for findings.
+ghost use Rattle.std.specs.Prelude.{◌≡◌};
+ghost use Rattle.program_ends.specs.Codes.{code_of};
+ghost use Rattle.program_ends.specs.FindingEnds.{end_of};
+ghost use Rattle.program_ends.specs.declared.finding.FindingStatus.{FindingStatus};
+
+use crate::status::Status;
+use crate::stops::Stop;
+
+/// How a program ends that looks for findings.
+#[derive(Clone, Copy, Debug, PartialEq, Eq)]
+pub enum FindingStatus {
+    /// The answer is written, and there is no finding.
+    Done,
+    /// The answer is written, and there are findings.
+    Found,
+    /// The words are refused.
+    Usage,
+    /// The input is refused.
+    Tree,
+    /// The input is too long.
+    TooLong,
+    /// A call on the source failed.
+    Read,
+    /// A call on the sink failed.
+    Write,
+    /// Memory is wanting.
+    Memory,
+}
+
+impl FindingStatus {
+    /// The exit status, from 0 to 7.
+    pub fn code(self) -> u8
+        ensures code { result ≡ code_of (end_of self) }
+        // No other status has it.
+        ensures own { (other : FindingStatus) → code_of (end_of other) ≡ result → other ≡ self }
+    {
+        self as u8
+    }
+}
+
+impl Status for FindingStatus {
+    ghost use Rattle.program_ends.specs.FindingEnds.{end_of};
+
+    ghost end_of = { end_of };
+
+    fn of_stop(stop: Stop) -> Self {
+        match stop {
+            Stop::Usage => FindingStatus::Usage,
+            Stop::Tree => FindingStatus::Tree,
+            Stop::TooLong => FindingStatus::TooLong,
+            Stop::Read => FindingStatus::Read,
+            Stop::Write => FindingStatus::Write,
+            Stop::Memory => FindingStatus::Memory,
+        }
+    }
+
+    fn is_answer(self) -> bool {
+        matches!(self, FindingStatus::Done | FindingStatus::Found)
+    }
+}
