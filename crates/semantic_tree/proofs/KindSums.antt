@@ -1,7 +1,7 @@
 -- The counts of all kinds that pass a test make up the count of the nodes that pass it.
 use Rattle.std.proofs.Common.{◌≡◌, ℕ, zero, suc, ◌+◌, ◌<◌, ◌==◌, List, [], ◌∷◌, Bool, true, false, ◌&&◌, cond, Option, Some, None, slice_get, refl, ap, arith}
 use denote.Enum.Bare.{same_true, true_same}
-use Rattle.std.proofs.lemmas.Bool.{eqb-true}
+use Rattle.std.proofs.lemmas.Bool.{and_parts, eqb-true}
 use Rattle.semantic_kinds.specs.Kinds.{same_kind, kind_number, all_kinds}
 use Rattle.semantic_kinds.specs.contracts.kind.AstType.{the_type as the_kinds}
 use Rattle.semantic_kinds.specs.declared.kind.AstType.{AstType}
@@ -18,15 +18,6 @@ times test one (k ∷ ks) = cond (test k) (cond (same_kind k one) 1 0) 0 + times
 abbrev is_from : ℕ → List AstType → Bool
 is_from n [] = true
 is_from n (k ∷ ks) = (kind_number k == n) && is_from (suc n) ks
-
-first_holds : (a b : Bool) → (a && b) ≡ true → a ≡ true
-first_holds true b h = refl
-first_holds false b h = h
-
-second_holds : (a b : Bool) → (a && b) ≡ true → b ≡ true
-second_holds true b h = h
-second_holds false true h = refl
-second_holds false false h = h
 
 number_of : (k : AstType) (n : ℕ) → (kind_number k == n) ≡ true → kind_number k ≡ n
 number_of k n h = eqb-true (kind_number k) n h
@@ -49,8 +40,8 @@ other test k one differ = rw (apart k one differ) (none (test k))
 left_out : (test : AstType → Bool) (one : AstType) (n : ℕ) (ks : List AstType) → is_from n ks ≡ true → kind_number one < n → times test one ks ≡ 0
 left_out test one n [] from less = refl
 left_out test one n (k ∷ ks) from less =
-    let number = number_of k n (first_holds (kind_number k == n) (is_from (suc n) ks) from) in
-    omega (arith, other test k one (λ e. absurd (omega (arith, number, e, less))), left_out test one (suc n) ks (second_holds (kind_number k == n) (is_from (suc n) ks) from) (omega arith))
+    let number = number_of k n (and_parts (kind_number k == n) (is_from (suc n) ks) from).0 in
+    omega (arith, other test k one (λ e. absurd (omega (arith, number, e, less))), left_out test one (suc n) ks (and_parts (kind_number k == n) (is_from (suc n) ks) from).1 (omega arith))
 
 itself : (one : AstType) → same_kind one one ≡ true
 itself one = true_same the_kinds one one refl
@@ -67,12 +58,12 @@ some_is k one e = cc
 taken : (test : AstType → Bool) (one : AstType) (n i : ℕ) (ks : List AstType) → is_from n ks ≡ true → kind_number one ≡ n + i → slice_get ks i ≡ Some one → times test one ks ≡ cond (test one) 1 0
 taken test one n i [] from number found = absurd (not_found one found)
 taken test one n zero (k ∷ ks) from number found =
-    let own = number_of k n (first_holds (kind_number k == n) (is_from (suc n) ks) from) in
-    let rest = left_out test one (suc n) ks (second_holds (kind_number k == n) (is_from (suc n) ks) from) (omega (arith, number)) in
+    let own = number_of k n (and_parts (kind_number k == n) (is_from (suc n) ks) from).0 in
+    let rest = left_out test one (suc n) ks (and_parts (kind_number k == n) (is_from (suc n) ks) from).1 (omega (arith, number)) in
     omega (arith, here_once test k one (some_is k one found), rest)
 taken test one n (suc i) (k ∷ ks) from number found =
-    let own = number_of k n (first_holds (kind_number k == n) (is_from (suc n) ks) from) in
-    omega (arith, other test k one (λ e. absurd (omega (arith, own, e, number))), taken test one (suc n) i ks (second_holds (kind_number k == n) (is_from (suc n) ks) from) (omega arith) found)
+    let own = number_of k n (and_parts (kind_number k == n) (is_from (suc n) ks) from).0 in
+    omega (arith, other test k one (λ e. absurd (omega (arith, own, e, number))), taken test one (suc n) i ks (and_parts (kind_number k == n) (is_from (suc n) ks) from).1 (omega arith) found)
 
 once : (test : AstType → Bool) (one : AstType) → times test one all_kinds ≡ cond (test one) 1 0
 once test one = taken test one 0 (kind_number one) all_kinds refl (omega arith) (kind_in_place one)

@@ -1,7 +1,8 @@
 -- A program has no fault exactly where it is shaped.
-use Rattle.std.proofs.Common.{◌≡◌, ℕ, ◌+◌, ◌≤◌, List, [], ◌∷◌, Bool, true, false, ◌&&◌, not, if◌then◌else◌, nat_le, Option, Some, None, option_map, length, refl, sym, arith, subst}
+use Rattle.std.proofs.Common.{◌≡◌, ℕ, ◌+◌, ◌≤◌, List, [], ◌∷◌, Bool, true, false, ◌&&◌, if◌then◌else◌, nat_le, Option, Some, None, option_map, length, refl, sym, arith, subst}
 use Rattle.std.specs.Prelude.{T}
 use Rattle.std.specs.Str.{encode_utf8_all}
+use Rattle.std.proofs.lemmas.Bool.{and_parts, and_from, not-false, not_from_true}
 use Rattle.std.proofs.lemmas.Bool.Decides.{nat_tests}
 use Rattle.semantic_kinds.specs.Parts.{parts}
 use Rattle.semantic_kinds.specs.Texts.{may_have_text}
@@ -25,25 +26,6 @@ use Rattle.semantic_tree.specs.declared.error.TreeError.TheVariants.{Shape, TooM
 use Rattle.semantic_tree.specs.declared.error.SpanFault.TheVariants as span
 use Rattle.semantic_tree.proofs.FitLaws.{fit-Fit, Fit-fit}
 use Rattle.semantic_tree.proofs.OwnRoles.{own_roles}
-
-and_first : (a b : Bool) → a && b ≡ true → a ≡ true
-and_first true b h = refl
-and_first false b h = h
-
-and_second : (a b : Bool) → a && b ≡ true → b ≡ true
-and_second true b h = h
-and_second false true h = refl
-and_second false false h = h
-
-both : (a b : Bool) → a ≡ true → b ≡ true → a && b ≡ true
-both a b p q = rw (p, q) refl
-
-not_true : (a : Bool) → a ≡ true → not a ≡ false
-not_true a h = rw h refl
-
-not_false : (a : Bool) → not a ≡ false → a ≡ true
-not_false true h = refl
-not_false false h = sym h
 
 some_is_not_none : {A : Type 0} (x : A) → ◌≡◌ {A = Option A} (Some x) None → ⊥
 some_is_not_none x h = cc
@@ -71,8 +53,8 @@ and_all false b c d h = absurd (subst T (sym h) tt)
 
 form_holds : (place : Place) (node : Node) → is_misshapen place node ≡ false → IsWellFormed place node
 form_holds place node h =
-    let (rooted, table, rules, named) = and_all (is_rooted place node.kind) (keeps_table node) (stands place node.kind node) (names_foreign place node.kind) (not_false (is_well_formed place node) h) in
-    let (text, marks, children, _) = and_all (may_have_text node.kind node.text) (is_within node.marks (set_of (allowed_marks node.kind))) (fit (parts node.kind) (trees node.children)) true (both (keeps_table node) true table refl) in
+    let (rooted, table, rules, named) = and_all (is_rooted place node.kind) (keeps_table node) (stands place node.kind node) (names_foreign place node.kind) (not-false (is_well_formed place node) h) in
+    let (text, marks, children, _) = and_all (may_have_text node.kind node.text) (is_within node.marks (set_of (allowed_marks node.kind))) (fit (parts node.kind) (trees node.children)) true (and_from (keeps_table node) true table refl) in
     record {
       rooted = rooted;
       text = text;
@@ -93,8 +75,8 @@ comments_hold source last i (c ∷ cs) h =
     let test = is_sound source c.span && nat_le last c.span.start in
     elim test as (λ b. test ≡ b → (if b then first_bad_comment source c.span.end (i + 1) cs else Some i) ≡ None → AreInOrder source last (c ∷ cs)) [
       | true ↦ λ is none.
-          let later : nat_le last c.span.start ≡ true = and_second (is_sound source c.span) (nat_le last c.span.start) is in
-          (and_first (is_sound source c.span) (nat_le last c.span.start) is, grind (arith, nat_tests), comments_hold source c.span.end (i + 1) cs none)
+          let later : nat_le last c.span.start ≡ true = (and_parts (is_sound source c.span) (nat_le last c.span.start) is).1 in
+          ((and_parts (is_sound source c.span) (nat_le last c.span.start) is).0, grind (arith, nat_tests), comments_hold source c.span.end (i + 1) cs none)
       | false ↦ λ is none. absurd (some_is_not_none i none)
     ] refl h
 
@@ -150,7 +132,7 @@ no_fault-IsShaped p h =
             bytes = short;
             depths = none_found is_too_deep (λ place node. place.depth ≤ depth_limit) depth_holds placed (map_none (λ id. TooDeep id) (first_where is_too_deep placed) (or_first deep (or_fault shape (or_fault spans comments)) none));
             forms = none_found is_misshapen IsWellFormed form_holds placed (map_none (λ id. Shape (Some id)) (first_where is_misshapen placed) (or_first shape (or_fault spans comments) after_deep));
-            spans = none_found (has_bad_span source) (λ place node. has_good_span source node ≡ true) (λ place node. not_false (has_good_span source node)) placed (map_none (λ id. Span (span.Node id)) (first_where (has_bad_span source) placed) (or_first spans comments after_shape));
+            spans = none_found (has_bad_span source) (λ place node. has_good_span source node ≡ true) (λ place node. not-false (has_good_span source node)) placed (map_none (λ id. Span (span.Node id)) (first_where (has_bad_span source) placed) (or_first spans comments after_shape));
             comments = comments_hold source 0 0 p.comments (map_none (λ i. Span (span.Comment i)) (first_bad_comment source 0 0 p.comments) (or_second spans comments after_shape));
           }
     ] refl h
@@ -163,5 +145,5 @@ IsShaped-no_fault p h =
     let sizes = large source p.comments p.root h.nodes h.number_of_comments h.bytes in
     let deep = finds_none is_too_deep (λ place node. place.depth ≤ depth_limit) depth_passes placed h.depths in
     let shape = finds_none is_misshapen IsWellFormed form_passes placed h.forms in
-    let spans = finds_none (has_bad_span source) (λ place node. has_good_span source node ≡ true) (λ place node. not_true (has_good_span source node)) placed h.spans in
+    let spans = finds_none (has_bad_span source) (λ place node. has_good_span source node ≡ true) (λ place node. not_from_true (has_good_span source node)) placed h.spans in
     rw (sizes, deep, shape, spans, comments_pass source 0 0 p.comments h.comments) refl
