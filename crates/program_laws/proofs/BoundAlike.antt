@@ -1,6 +1,6 @@
 -- The names by role of nodes of a program without a fault are those by kind and role.
 use Rattle.std.proofs.Common.{◌≡◌, List, [], ◌∷◌, ◌++◌, Bool, true, false, not, ◌&&◌, cond, if◌then◌else◌, refl, subst, ◌∙◌, inl, inr, None, flat_map}
-use Rattle.std.proofs.lemmas.Bool.{cases_Bool}
+use Rattle.std.proofs.lemmas.Bool.{cases_Bool, not-true}
 use Rattle.semantic_kinds.specs.Kinds.{same_kind}
 use Rattle.semantic_kinds.specs.Roles.{same_role}
 use Rattle.semantic_kinds.specs.Classes.{holds_kind}
@@ -31,10 +31,6 @@ is_no_name k h = elim (cases_Bool (same_kind k kind.BindingIdentifier)) [
   | inr e ↦ e
 ]
 
-is_not : (b : Bool) → not b ≡ true → b ≡ false
-is_not true h = absurd cc
-is_not false h = refl
-
 -- the names that one child gives, where it gives none by role
 own_silent : (b : Bool) (k : AstType) (node : Node) (names : List Node) → cond b (not (holds_kind naming_kinds k)) true ≡ true → (not (holds_kind naming_kinds k) ≡ true → names ≡ []) → (if b then (if same_kind k kind.BindingIdentifier then node ∷ [] else names) else []) ≡ []
 own_silent true k node names h f = rw (is_no_name k h) (f h)
@@ -50,7 +46,7 @@ silent_below place k (tree r k2 span text marks below id after) l s h =
     let w : NoneMisshapen (placed_below here k2 below) × NoneMisshapen (placed_below place k after) = rest_formed (placed_below here k2 below) (placed_below place k after) q.1 in
     let own : cond (by_role.binds_by k r) (not (holds_kind naming_kinds k2)) true ≡ true = rw l at (first_holds (is_silent_child k r k2) _ s) in
     rw (
-      own_silent (by_role.binds_by k r) k2 node (by_role.bound_below k2 below) own (λ e. silent_below here k2 below (is_not (holds_kind naming_kinds k2) e) (silent_children k2 below (fit_kept node (table_kept here node q.0))) w.0),
+      own_silent (by_role.binds_by k r) k2 node (by_role.bound_below k2 below) own (λ e. silent_below here k2 below (not-true (holds_kind naming_kinds k2) e) (silent_children k2 below (fit_kept node (table_kept here node q.0))) w.0),
       silent_below place k after l (second_holds (is_silent_child k r k2) _ s) w.1,
     ) refl
 
@@ -72,8 +68,8 @@ alike_below place k (tree r k2 span text marks below id after) l s h =
     let own : cond (is_role_of r (by_kind.binding_roles k)) (by_role.binds_by k r && not (holds_kind operand_kinds k2)) (cond (by_role.binds_by k r) (not (holds_kind naming_kinds k2)) true) ≡ true = rw l at (first_holds (is_alike_child k r k2) _ s) in
     rw (
       own_alike (is_role_of r (by_kind.binding_roles k)) (by_role.binds_by k r) k2 node (by_role.bound_below k2 below) (by_kind.bound_below k2 below) own
-          (λ e. alike_below here k2 below (is_not (holds_kind operand_kinds k2) e) (alike_children k2 below fits) w.0)
-          (λ e. silent_below here k2 below (is_not (holds_kind naming_kinds k2) e) (silent_children k2 below fits) w.0),
+          (λ e. alike_below here k2 below (not-true (holds_kind operand_kinds k2) e) (alike_children k2 below fits) w.0)
+          (λ e. silent_below here k2 below (not-true (holds_kind naming_kinds k2) e) (silent_children k2 below fits) w.0),
       alike_below place k after l (second_holds (is_alike_child k r k2) _ s) w.1,
     ) refl
 

@@ -11,8 +11,8 @@ use Rattle.semantic_kinds.specs.declared.role.Role.{Role}
 use Rattle.semantic_kinds.specs.declared.part.Part.{Part}
 use Rattle.semantic_tree.specs.Fit.{lead, all_of, is_run, fit}
 use Rattle.semantic_tree.specs.declared.node.Node.{Node}
+use Rattle.semantic_tree.proofs.FitLaws.{lead_in_role}
 use Rattle.semantic_model.proofs.form.Clauses.{role_is, first_holds, second_holds, both_hold}
-use Rattle.semantic_model.proofs.form.PartsHold.{lead_in_role}
 
 -- the children pass the test, by role and kind
 abbrev pub all_pass : (Role → AstType → Bool) → List (Role × Node) → Bool

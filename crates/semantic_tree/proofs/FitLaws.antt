@@ -1,8 +1,9 @@
 -- The children fit the parts by the test exactly where they do by the relation.
-use Rattle.std.proofs.Common.{◌≡◌, ℕ, zero, suc, ◌+◌, List, [], ◌∷◌, ◌++◌, true, false, not, if◌then◌else◌, length, take, drop, refl, ap, ◌∙◌, arith, add-one}
+use Rattle.std.proofs.Common.{◌≡◌, ◌+◌, List, [], ◌∷◌, ◌++◌, true, false, not, if◌then◌else◌, length, take, drop, refl, ap, sym, ◌∙◌, arith, add-one}
 use Rattle.std.specs.List.{list_all}
 use Rattle.std.proofs.lemmas.Bool.{and_parts, and_from, not-true}
 use Rattle.std.proofs.lemmas.Bool.Decides.{Decides-eqb}
+use Rattle.std.proofs.lemmas.List.{take-append-drop}
 use denote.Enum.Bare.{same_true}
 use Rattle.semantic_kinds.specs.Roles.{same_role}
 use Rattle.semantic_kinds.specs.contracts.role.Role.{the_type as the_roles}
@@ -16,7 +17,7 @@ Child = Role × Node
 
 -- ---- the children in the lead
 
-lead_in_role : (role : Role) (cs : List Child) → AreInRole role (take (lead role cs) cs)
+pub lead_in_role : (role : Role) (cs : List Child) → AreInRole role (take (lead role cs) cs)
 lead_in_role role [] = refl
 lead_in_role role (c ∷ cs) =
     elim (same_role c.0 role) as (λ b. same_role c.0 role ≡ b → AreInRole role (take (if b then lead role cs + 1 else 0) (c ∷ cs))) [
@@ -24,18 +25,13 @@ lead_in_role role (c ∷ cs) =
       | false ↦ λ is. refl
     ] refl
 
-take_and_drop : (n : ℕ) (cs : List Child) → cs ≡ take n cs ++ drop n cs
-take_and_drop zero cs = refl
-take_and_drop (suc n) [] = refl
-take_and_drop (suc n) (c ∷ cs) = ap (λ rest. c ∷ rest) (take_and_drop n cs)
-
 -- what passes the test fits
 pub fit-Fit : (parts : List Part) (cs : List Child) → fit parts cs ≡ true → Fit parts cs
 fit-Fit [] [] h = refl
 fit-Fit [] (c ∷ cs) h = let none : length (c ∷ cs) ≡ 0 = (Decides-eqb (length (c ∷ cs)) 0).0 h in absurd (omega (arith, none))
 fit-Fit (p ∷ ps) cs h =
     let n = lead p.role cs in
-    (take n cs, drop n cs, take_and_drop n cs, lead_in_role p.role cs, (and_parts (is_run p (take n cs)) (fit ps (drop n cs)) h).0, fit-Fit ps (drop n cs) (and_parts (is_run p (take n cs)) (fit ps (drop n cs)) h).1)
+    (take n cs, drop n cs, sym (take-append-drop n cs), lead_in_role p.role cs, (and_parts (is_run p (take n cs)) (fit ps (drop n cs)) h).0, fit-Fit ps (drop n cs) (and_parts (is_run p (take n cs)) (fit ps (drop n cs)) h).1)
 
 -- ---- what fits passes the test
 

@@ -51,7 +51,7 @@ and_all true true false d h = absurd (subst T (sym h) tt)
 and_all true false c d h = absurd (subst T (sym h) tt)
 and_all false b c d h = absurd (subst T (sym h) tt)
 
-form_holds : (place : Place) (node : Node) → is_misshapen place node ≡ false → IsWellFormed place node
+pub form_holds : (place : Place) (node : Node) → is_misshapen place node ≡ false → IsWellFormed place node
 form_holds place node h =
     let (rooted, table, rules, named) = and_all (is_rooted place node.kind) (keeps_table node) (stands place node.kind node) (names_foreign place node.kind) (not-false (is_well_formed place node) h) in
     let (text, marks, children, _) = and_all (may_have_text node.kind node.text) (is_within node.marks (set_of (allowed_marks node.kind))) (fit (parts node.kind) (trees node.children)) true (and_from (keeps_table node) true table refl) in

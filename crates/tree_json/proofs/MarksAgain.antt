@@ -1,6 +1,7 @@
 -- Marks are read again from their names.
 use Rattle.std.proofs.Common.{◌≡◌, ℕ, ◌+◌, ◌*◌, ◌≤◌, ◌^◌, ◌==◌, Bool, true, false, not, cond, ◌&&◌, List, [], ◌∷◌, map, filter, bit_and, Some, refl, ap, ◌∙◌, arith}
 use Rattle.std.proofs.lemmas.Nat.Bits.{and_pow, bit_at_or, bit_at-pow_other, bit_at-zero}
+use Rattle.std.proofs.lemmas.Bool.{and_parts}
 use Rattle.std.proofs.lemmas.Bool.Decides.{Decides-eqb}
 use Rattle.std.specs.Int.{bit_at}
 use Rattle.serde_json.specs.View.{items_of}
@@ -31,10 +32,6 @@ marks_from-new [] marks new = refl
 marks_from-new (m ∷ ms) marks new =
     rw (mark_named-mark_name m, new.0) (marks_from-new ms (with_mark marks m) new.1)
 
-both : (a b : Bool) → (a && b) ≡ true → (a ≡ true) × (b ≡ true)
-both true b h = (refl, h)
-both false b h = absurd (cc)
-
 has_not : (marks : Marks) (m : Mark) (k : ℕ) → mark_bit m ≡ 2 ^ k → AreFree k marks.bits → has_mark marks m ≡ false
 has_not marks m k is free =
     let none : bit_at marks.bits k * 2 ^ k ≡ 0 = rw (free k (omega arith)) (omega arith) in
@@ -51,7 +48,7 @@ later_free k bits free i above = free i (omega arith)
 new-filter : (p : Mark → Bool) (ms : List Mark) (k : ℕ) (marks : Marks) → are_powers k ms ≡ true → AreFree k marks.bits → AreNew marks (filter p ms)
 new-filter p [] k marks powers free = tt
 new-filter p (m ∷ ms) k marks powers free =
-    let (one, rest) = both (mark_bit m == 2 ^ k) (are_powers (k + 1) ms) powers in
+    let (one, rest) = and_parts (mark_bit m == 2 ^ k) (are_powers (k + 1) ms) powers in
     let is : mark_bit m ≡ 2 ^ k = (Decides-eqb (mark_bit m) (2 ^ k)).0 one in
     elim (p m) as (λ b. AreNew marks (cond b (m ∷ filter p ms) (filter p ms))) [
       | true ↦ (has_not marks m k is free, new-filter p ms (k + 1) (with_mark marks m) rest (still_free marks m k is free))

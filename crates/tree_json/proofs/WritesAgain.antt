@@ -1,5 +1,5 @@
 -- What the writers give is read again.
-use Rattle.std.proofs.Common.{◌≡◌, ℕ, ◌+◌, ◌<◌, ◌≤◌, ◌^◌, Bool, true, false, not, ◌&&◌, ◌||◌, nat_lt, List, [], ◌∷◌, ◌++◌, length, map, Some, None, Result, Ok, Err, IfOk, Vec, Global, refl, ap, sym, ◌∙◌, subst, arith}
+use Rattle.std.proofs.Common.{◌≡◌, ℕ, ◌+◌, ◌<◌, ◌≤◌, ◌^◌, Bool, false, ◌||◌, nat_lt, List, [], ◌∷◌, ◌++◌, length, map, Some, None, Result, Ok, Err, IfOk, Vec, Global, refl, ap, sym, ◌∙◌, subst, arith}
 use Rattle.std.proofs.lemmas.Grind.{common_steps}
 use Rattle.std.proofs.lemmas.List.{map-append}
 use Rattle.std.specs.declared.alloc.AllocError.{AllocError}
@@ -8,21 +8,14 @@ use denote.Bor.{Bor}
 use Rattle.serde_json.specs.Data.{Data, depth}
 use Rattle.serde_json.specs.Read.{read, max_depth}
 use Rattle.serde_json.specs.Written.{has_float, compact_text}
-use Rattle.semantic_kinds.specs.Allowed.{allowed_marks}
-use Rattle.semantic_kinds.specs.MarkSets.{set_of, is_within}
-use Rattle.semantic_kinds.specs.Parts.{parts}
-use Rattle.semantic_kinds.specs.Texts.{may_have_text}
 use Rattle.semantic_kinds.specs.declared.kind.AstType.{AstType}
 use Rattle.semantic_kinds.specs.declared.marks.Marks.{Marks}
 use Rattle.semantic_kinds.proofs.AllowedBits.{allowed-marks_in}
 use Rattle.semantic_tree.specs.Forest.{Forest, nothing, tree}
 use Rattle.semantic_tree.specs.Children.{node_count}
-use Rattle.semantic_tree.specs.Fit.{fit}
 use Rattle.semantic_tree.specs.Limits.{node_limit}
-use Rattle.semantic_tree.specs.Nodes.{trees}
-use Rattle.semantic_tree.specs.Rules.{is_rooted, keeps_table, stands, names_foreign, is_well_formed}
 use Rattle.semantic_tree.specs.Shaped.{IsShaped}
-use Rattle.semantic_tree.proofs.ShapedLaws.{IsShaped-no_fault}
+use Rattle.semantic_tree.proofs.ShapedLaws.{form_holds, IsShaped-no_fault}
 use Rattle.semantic_tree.specs.Tree.{Tree}
 use Rattle.semantic_tree.specs.Place.{root_place, child_place, placed_below, all_placed}
 use Rattle.semantic_tree.specs.Faults.{first_fault, first_where, is_too_deep, is_misshapen, is_too_large, form_fault}
@@ -40,23 +33,6 @@ use Rattle.tree_json.proofs.TextsAgain.{IsAmong, told-found, texts_from-has, tex
 use Rattle.tree_json.proofs.WrittenForms.{program_float, program_low, plain_form, texts_form}
 
 -- ---- marks
-
-both : (a b : Bool) → (a && b) ≡ true → (a ≡ true) × (b ≡ true)
-both true b h = (refl, h)
-both false b h = absurd (cc)
-
-holds : (b : Bool) → not b ≡ false → b ≡ true
-holds true h = refl
-holds false h = absurd (cc)
-
-marks_within : (place : Place) (n : Node) → is_misshapen place n ≡ false → is_within n.marks (set_of (allowed_marks n.kind)) ≡ true
-marks_within place n formed =
-    let well : is_well_formed place n ≡ true = holds (is_well_formed place n) formed in
-    let (tabled, named) = both (is_rooted place n.kind && keeps_table n && stands place n.kind n) (names_foreign place n.kind) well in
-    let (kept, standing) = both (is_rooted place n.kind && keeps_table n) (stands place n.kind n) tabled in
-    let (rooted, table) = both (is_rooted place n.kind) (keeps_table n) kept in
-    let (marked, fits) = both (may_have_text n.kind n.text && is_within n.marks (set_of (allowed_marks n.kind))) (fit (parts n.kind) (trees n.children)) table in
-    (both (may_have_text n.kind n.text) (is_within n.marks (set_of (allowed_marks n.kind))) marked).1
 
 abbrev line_marks : Line → Marks
 line_marks l = l.marks
@@ -82,7 +58,7 @@ marks_read (x ∷ xs) (l ∷ ls) same none =
     let own : x.1.marks ≡ l.marks = cc in
     let others : map line_marks ls ≡ map placed_marks xs = cc in
     let (formed, rest) = neither (is_misshapen x.0 x.1) x.1.node_id (first_where is_misshapen xs) none in
-    let known = allowed-marks_in x.1.kind x.1.marks (marks_within x.0 x.1 formed) in
+    let known = allowed-marks_in x.1.kind x.1.marks (form_holds x.0 x.1 formed).marks in
     (subst AreRead own (marks_again x.1.marks known), marks_read xs ls others rest)
 
 -- ---- a program without fault

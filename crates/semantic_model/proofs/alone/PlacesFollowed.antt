@@ -1,6 +1,6 @@
 -- Each place of a program in a catch clause's own scope is followed by the take-over of that scope.
 use Rattle.std.proofs.Common.{◌≡◌, ℕ, List, [], ◌∷◌, ◌++◌, Option, Some, None, Bool, true, false, cond, ◌&&◌, ◌||◌, not, ◌⊎◌, inl, inr, refl, sym, ap, subst, ◌∙◌, append_assoc}
-use Rattle.std.proofs.lemmas.Bool.{cases_Bool}
+use Rattle.std.proofs.lemmas.Bool.{cases_Bool, not-true}
 use Rattle.semantic_tree.specs.Forest.{Forest, nothing, tree}
 use Rattle.semantic_tree.specs.Tree.{Tree}
 use Rattle.semantic_tree.specs.declared.node.Node.{Node}
@@ -100,18 +100,14 @@ child_follows p scope cursor r node ss is_open own around clause = go (is_parame
     go true e = around.outer (decorated p.node.kind r e)
     go false e = within_follows p r scope ss is_open own around.chain clause
 
-not_true : (b : Bool) → not b ≡ true → b ≡ false
-not_true true h = absurd cc
-not_true false h = refl
-
 -- a list of parameters stands in a function's own scope
 list_outer : (p : Place) (scope : Option OpenScope) (cursor : ℕ) (r : Role) (node : Node) (ss : List Step) → (is_inside p.node.kind r ≡ true → scope ≡ None → ⊥) → (is kind.BlockStatement p.node ≡ false → FollowsIn p.chain ss) → holds_inside p.node.kind r ≡ true → FollowsIn (outside (child_place p scope cursor r node).chain) ss
 list_outer p scope cursor r node ss is_open around h =
     let parts : (is_inside p.node.kind r && not (is_parameter_decorator p.node.kind r) && not (same_kind p.node.kind kind.BlockStatement)) ≡ true = first_holds (is_inside p.node.kind r && not (is_parameter_decorator p.node.kind r) && not (same_kind p.node.kind kind.BlockStatement)) (not (same_kind p.node.kind kind.CatchClause)) h in
-    let block : is kind.BlockStatement p.node ≡ false = not_true (same_kind p.node.kind kind.BlockStatement) (second_holds (is_inside p.node.kind r && not (is_parameter_decorator p.node.kind r)) (not (same_kind p.node.kind kind.BlockStatement)) parts) in
+    let block : is kind.BlockStatement p.node ≡ false = not-true (same_kind p.node.kind kind.BlockStatement) (second_holds (is_inside p.node.kind r && not (is_parameter_decorator p.node.kind r)) (not (same_kind p.node.kind kind.BlockStatement)) parts) in
     let two : (is_inside p.node.kind r && not (is_parameter_decorator p.node.kind r)) ≡ true = first_holds (is_inside p.node.kind r && not (is_parameter_decorator p.node.kind r)) (not (same_kind p.node.kind kind.BlockStatement)) parts in
     let inside : is_inside p.node.kind r ≡ true = first_holds (is_inside p.node.kind r) (not (is_parameter_decorator p.node.kind r)) two in
-    let plain : is_parameter_decorator p.node.kind r ≡ false = not_true (is_parameter_decorator p.node.kind r) (second_holds (is_inside p.node.kind r) (not (is_parameter_decorator p.node.kind r)) two) in
+    let plain : is_parameter_decorator p.node.kind r ≡ false = not-true (is_parameter_decorator p.node.kind r) (second_holds (is_inside p.node.kind r) (not (is_parameter_decorator p.node.kind r)) two) in
     rw plain (go scope is_open inside (around block))
   where
     go : (o : Option OpenScope) → (is_inside p.node.kind r ≡ true → o ≡ None → ⊥) → is_inside p.node.kind r ≡ true → FollowsIn p.chain ss → FollowsIn (outside (chain_within p r o)) ss

@@ -1,10 +1,8 @@
 -- What holds of each part of a kind holds of the children of a node that keeps the table.
-use Rattle.std.proofs.Common.{◌≡◌, ℕ, List, [], ◌∷◌, ◌++◌, Bool, true, false, take, drop, length, refl, sym, subst, ◌∙◌, inl, inr, ◌==◌, arith}
+use Rattle.std.proofs.Common.{◌≡◌, ℕ, List, [], ◌∷◌, ◌++◌, Bool, true, take, drop, length, refl, sym, subst, arith}
 use Rattle.std.specs.List.{list_all}
-use Rattle.std.proofs.lemmas.Bool.{cases_Bool}
-use Rattle.std.proofs.lemmas.Bool.Decides.{eqb_tells}
+use Rattle.std.proofs.lemmas.Bool.{eqb-true}
 use Rattle.std.proofs.lemmas.List.{take-append-drop}
-use Rattle.std.proofs.Math.Numerals.{add-one}
 use Rattle.semantic_kinds.specs.Classes.{is_of}
 use Rattle.semantic_kinds.specs.Roles.{same_role}
 use Rattle.semantic_kinds.specs.declared.kind.AstType.{AstType}
@@ -12,17 +10,8 @@ use Rattle.semantic_kinds.specs.declared.role.Role.{Role}
 use Rattle.semantic_kinds.specs.declared.part.Part.{Part}
 use Rattle.semantic_tree.specs.Fit.{lead, all_of, is_run, fit}
 use Rattle.semantic_tree.specs.declared.node.Node.{Node}
+use Rattle.semantic_tree.proofs.FitLaws.{lead_in_role}
 use Rattle.semantic_model.proofs.form.Clauses.{role_is, first_holds, second_holds, both_hold}
-
-pub lead_in_role : (role : Role) (cs : List (Role × Node)) → list_all (λ c. same_role c.0 role) (take (lead role cs) cs) ≡ true
-lead_in_role role [] = refl
-lead_in_role role (c ∷ cs) = elim (cases_Bool (same_role c.0 role)) [
-  | inl e ↦ rw (e, add-one) (both_hold (same_role c.0 role) _ e (lead_in_role role cs))
-  | inr e ↦ rw e refl
-]
-
-is_number : (m n : ℕ) → (m == n) ≡ true → m ≡ n
-is_number m n h = elim (eqb_tells m n) [ inl k ↦ k.1 | inr k ↦ (let w : false ≡ true = sym k.0 ∙ h in absurd cc) ]
 
 module _ (q : AstType → Role → AstType → List ℕ → Bool) where
   -- the test holds of whatever the part may be
@@ -55,7 +44,7 @@ module _ (q : AstType → Role → AstType → List ℕ → Bool) where
 
   pub fit_holds : (k : AstType) (ps : List Part) (cs : List (Role × Node)) → HoldParts k ps → fit ps cs ≡ true → hold k cs ≡ true
   fit_holds k [] [] h f = refl
-  fit_holds k [] (c ∷ cs) h f = let w : length (c ∷ cs) ≡ 0 = is_number (length (c ∷ cs)) 0 f in absurd (omega arith)
+  fit_holds k [] (c ∷ cs) h f = let w : length (c ∷ cs) ≡ 0 = eqb-true (length (c ∷ cs)) 0 f in absurd (omega arith)
   fit_holds k (p ∷ ps) cs h f =
       let n : ℕ = lead p.role cs in
       let run : is_run p (take n cs) ≡ true = first_holds (is_run p (take n cs)) _ f in

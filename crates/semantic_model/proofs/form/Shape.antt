@@ -1,7 +1,7 @@
 -- A program has the form that the laws ask for.
 use Rattle.std.proofs.Common.{◌≡◌, ℕ, zero, suc, ◌≤◌, nat_le, min, ◌+◌, ◌==◌, List, [], ◌∷◌, ◌++◌, length, Option, Some, None, Bool, true, false, cond, ◌&&◌, inl, inr, refl, sym, subst, ◌∙◌, take, drop, if◌then◌else◌, option_map, arith}
-use Rattle.std.proofs.lemmas.Bool.{cases_Bool}
-use Rattle.std.proofs.lemmas.Bool.Decides.{eqb_tells, leb_tells}
+use Rattle.std.proofs.lemmas.Bool.{cases_Bool, eqb-true}
+use Rattle.std.proofs.lemmas.Bool.Decides.{leb_tells}
 use Rattle.std.proofs.lemmas.List.{length-take}
 use Rattle.std.specs.Str.{encode_utf8_all}
 use Rattle.semantic_tree.specs.Forest.{Forest, nothing, tree}
@@ -47,16 +47,13 @@ parts_length zero cs = omega arith
 parts_length (suc n) [] = omega arith
 parts_length (suc n) (c ∷ cs) = omega (arith, parts_length n cs)
 
-is_number : (m n : ℕ) → (m == n) ≡ true → m ≡ n
-is_number m n h = elim (eqb_tells m n) [ inl k ↦ k.1 | inr k ↦ (let q : false ≡ true = sym k.0 ∙ h in absurd cc) ]
-
 one_only : (n : ℕ) (b : Bool) (cs : List (Role × Node)) → ((length (take n cs) == 1 && b) && (length (drop n cs) == 0)) ≡ true → length cs ≡ 1
 one_only n b cs h =
     omega (
       arith,
       parts_length n cs,
-      is_number (length (take n cs)) 1 (first_holds (length (take n cs) == 1) b (first_holds (length (take n cs) == 1 && b) (length (drop n cs) == 0) h)),
-      is_number (length (drop n cs)) 0 (second_holds (length (take n cs) == 1 && b) (length (drop n cs) == 0) h),
+      eqb-true (length (take n cs)) 1 (first_holds (length (take n cs) == 1) b (first_holds (length (take n cs) == 1 && b) (length (drop n cs) == 0) h)),
+      eqb-true (length (drop n cs)) 0 (second_holds (length (take n cs) == 1 && b) (length (drop n cs) == 0) h),
     )
 
 -- children that are one block in the role of a body

@@ -25,9 +25,9 @@ use Rattle.semantic_tree.specs.Rules.{is_well_formed}
 use Rattle.semantic_tree.specs.declared.node.Node.{Node}
 use Rattle.semantic_tree.specs.declared.place.Place.{Place}
 use Rattle.semantic_tree.specs.Views.{has_role}
+use Rattle.semantic_tree.proofs.FitLaws.{lead_in_role}
 use Rattle.semantic_model.specs.Inside.{header_roles, is_in_header}
 use Rattle.semantic_model.proofs.form.Clauses.{kind_is, role_is, first_holds, second_holds, both_hold}
-use Rattle.semantic_model.proofs.form.PartsHold.{lead_in_role}
 use Rattle.semantic_model.proofs.form.Shape.{NoneMisshapen, first_formed, rest_formed, table_kept, fit_kept, none_misshapen}
 use Rattle.walk_model.proofs.places.Shapes.{HoldsPart, HoldParts, holds_below, tree_holds}
 

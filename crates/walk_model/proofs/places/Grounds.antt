@@ -1,6 +1,6 @@
 -- Each place below the root stands in some function's scope, or the like.
 use Rattle.std.proofs.Common.{◌≡◌, ℕ, List, [], ◌∷◌, Option, Some, None, Bool, true, false, cond, ◌&&◌, ◌||◌, not, ◌⊎◌, inl, inr, refl, sym, subst, ◌∙◌}
-use Rattle.std.proofs.lemmas.Bool.{cases_Bool}
+use Rattle.std.proofs.lemmas.Bool.{cases_Bool, not-true}
 use Rattle.semantic_tree.specs.Forest.{Forest, nothing, tree}
 use Rattle.semantic_tree.specs.Tree.{Tree}
 use Rattle.semantic_tree.specs.Faults.{first_fault}
@@ -141,17 +141,13 @@ child_var p scope cursor r node g o i outer = go (is_parameter_decorator p.node.
     go true e = outer (decorated p.node.kind r e)
     go false e = within_var p r scope g o i
 
-not_true : (b : Bool) → not b ≡ true → b ≡ false
-not_true true h = absurd cc
-not_true false h = refl
-
 -- a list of parameters stands in a function's own scope
 list_outer : (p : Place) (scope : Option OpenScope) (cursor : ℕ) (r : Role) (node : Node) → HasVar p.chain → (is_inside p.node.kind r ≡ true → scope ≡ None → ⊥) → holds_inside p.node.kind r ≡ true → HasVar (outside (child_place p scope cursor r node).chain)
 list_outer p scope cursor r node v i h =
     let three : (is_inside p.node.kind r && not (is_parameter_decorator p.node.kind r) && not (same_kind p.node.kind kind.BlockStatement)) ≡ true = first_holds (is_inside p.node.kind r && not (is_parameter_decorator p.node.kind r) && not (same_kind p.node.kind kind.BlockStatement)) (not (same_kind p.node.kind kind.CatchClause)) h in
     let two : (is_inside p.node.kind r && not (is_parameter_decorator p.node.kind r)) ≡ true = first_holds (is_inside p.node.kind r && not (is_parameter_decorator p.node.kind r)) (not (same_kind p.node.kind kind.BlockStatement)) three in
     let inside : is_inside p.node.kind r ≡ true = first_holds (is_inside p.node.kind r) (not (is_parameter_decorator p.node.kind r)) two in
-    let plain : is_parameter_decorator p.node.kind r ≡ false = not_true (is_parameter_decorator p.node.kind r) (second_holds (is_inside p.node.kind r) (not (is_parameter_decorator p.node.kind r)) two) in
+    let plain : is_parameter_decorator p.node.kind r ≡ false = not-true (is_parameter_decorator p.node.kind r) (second_holds (is_inside p.node.kind r) (not (is_parameter_decorator p.node.kind r)) two) in
     rw plain (go scope i inside)
   where
     go : (o : Option OpenScope) → (is_inside p.node.kind r ≡ true → o ≡ None → ⊥) → is_inside p.node.kind r ≡ true → HasVar (outside (chain_within p r o))

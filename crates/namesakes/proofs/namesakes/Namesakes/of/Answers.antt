@@ -1,14 +1,11 @@
-use Rattle.std.proofs.Common.{◌≡◌, List, [], Bool, true, false, not, None, subst, refl, arith}
+use Rattle.std.proofs.Common.{◌≡◌, List, [], true, None, subst, arith}
+use Rattle.std.proofs.lemmas.Bool.{not-false}
 use Rattle.std.proofs.lemmas.Grind.{common_steps}
 use Rattle.semantic_tree.specs.declared.node.Node.{Node}
 use Rattle.walk_model.specs.WrittenNames.{Written, is_sloppy, names_written, written_in}
 use Rattle.namesakes.specs.WrittenNames.{Adds}
 use Rattle.namesakes.proofs.Adding.{all-move}
 use Rattle.namesakes.proofs.namesakes.Namesakes.of.Goals as goal
-
-not-false : (b : Bool) → not b ≡ false → b ≡ true
-not-false true h = refl
-not-false false h = cc
 
 pub returns : goal.returns
 returns c =
