@@ -2,30 +2,27 @@
 use Rattle.std.proofs.Common.{◌≡◌, ℕ, ◌+◌, List, [], ◌∷◌, ◌++◌, Option, Some, None, Bool, true, false, cond, refl, sym, ap, subst, ◌∙◌, map, length, arith}
 use Rattle.std.specs.Prelude.{slice_get}
 use Rattle.std.specs.Option.{option_map_or}
-use Rattle.std.proofs.lemmas.List.{append_assoc, map-append}
 use Rattle.semantic_syntax.specs.Tables.{Name, Scope}
-use Rattle.semantic_syntax.specs.Reading.{way_of, parent_of}
+use Rattle.semantic_syntax.specs.Reading.{way_of}
 use Rattle.semantic_syntax.specs.Told.{source_of}
 use Rattle.semantic_syntax.specs.Source.{chain}
 use Rattle.semantic_model.specs.Place.{OpenScope}
-use Rattle.semantic_model.specs.Binding.{get}
 use Rattle.semantic_syntax.specs.Members.{contains}
 use Rattle.semantic_model.specs.Reference.{Occurrence}
 use Rattle.semantic_model.specs.Event.{Event}
 use Rattle.semantic_model.specs.Fold.{State, start}
 use Rattle.semantic_model.specs.Hoist.{run}
 use Rattle.semantic_syntax.specs.Lookup.{Lookup, tied, barred, unanswered, lookup, probes_in}
-use Rattle.semantic_model.specs.Tie.{Tie, until_end_of, seen_as, answer}
+use Rattle.semantic_model.specs.Tie.{Tie, until_end_of}
 use Rattle.semantic_syntax.specs.Outcome.{Pending, Outcome, is_free, waits, up_to, answer as source_answer, outcome_or, waits_outside, header_outcome, header_probes, last_probes}
-use Rattle.semantic_model.proofs.lists.Members.{contains_first}
 use Rattle.walk_model.specs.WalkState.{WalkState}
 use Rattle.walk_model.specs.Walks.{numbers}
-use Rattle.walk_model.proofs.places.Nested.{AreLinked, Descends}
-use Rattle.walk_model.proofs.headers.Headed.{AllMatch, AreFlagged, AllLess}
-use Rattle.walk_model.proofs.refers.Lookups.{answered_in, lookup_alike, AreAlike, NoneInHeader}
+use Rattle.walk_model.proofs.places.Nested.{Descends}
+use Rattle.walk_model.proofs.headers.Headed.{AllLess}
+use Rattle.walk_model.proofs.refers.Lookups.{answered_in, lookup_alike}
 use Rattle.walk_model.proofs.headers.Frozen.{Frozen}
-use Rattle.walk_model.proofs.refers.Sources.{chain_is, parent_is, up_to_is, AllViewed, viewed-append, all_alike, viewed_ending}
-use Rattle.walk_model.proofs.refers.HeaderEnds.{At, Waits, looked_up, answers_of, descends_right, Parts, parted, match_right, linked_right, flagged_prefix, seg_none, seg_viewed}
+use Rattle.walk_model.proofs.refers.HeaderEnds.{At, Waits, looked_up, answers_of, split_answers, Parts, parted}
+use Rattle.walk_model.proofs.refers.EndScopes.{told_answers, left_chain, outcome_left, past_own, up_to_own, last_alike}
 use Rattle.count_model.proofs.LookupCosts.{probes_first, probes_through, probes_alike}
 use Rattle.count_model.proofs.LeftToAsk.{scopes_from, cost, left_for, left_of, left_then, from_there}
 
@@ -41,12 +38,6 @@ unanswered_other other (barred c) h = absurd cc
 unanswered_other other unanswered h = refl
 
 module _ (w : WalkState) (st final : State) (es : List Event) (rs : List Occurrence) (stack : List ℕ) (seen calls : List (List ℕ)) (bare : List Scope) (fs : List ℕ) (now_at : At w st stack seen calls bare fs) where
-  -- what is left to ask stands in the tables
-  left_chain : (awaiting : List ℕ) (t : Tie) (e : Pending) (h : Waits awaiting seen fs final es t e) → chain (source_of w.tables) e.lookup_scope ≡ numbers (h.next ∷ h.rest)
-  left_chain awaiting t e h =
-      ap (chain (source_of w.tables)) h.scope
-      ∙ chain_is stack seen calls bare w h.next h.rest now_at.scopes h.linked (descends_right (length seen) h.asked (h.next ∷ h.rest) (subst (Descends (length seen)) h.chain_is h.descends))
-
   -- what is left for a reference whose chain goes on at a scope
   left_at : (t : Tie) (e : Pending) (xs : List OpenScope) (s : OpenScope) (ss : List OpenScope) → t.reference.chain ≡ xs ++ s ∷ ss → Descends (length seen) t.reference.chain → e.lookup_scope ≡ s.number → slice_get rs e.reference ≡ Some t.reference
       → left_for final es rs e ≡ cost final es t.reference (s ∷ ss)
@@ -64,44 +55,29 @@ module _ (w : WalkState) (st final : State) (es : List Event) (rs : List Occurre
     left_outside : (t : Tie) (e : Pending) (h : Waits (c ∷ aw) seen fs final es t e) (seg : List OpenScope) (own : OpenScope) (tail : List OpenScope) → h.next ∷ h.rest ≡ seg ++ own ∷ tail → own.number ≡ c → slice_get rs e.reference ≡ Some t.reference
         → left_then left e (waits_outside (source_of w.tables) c) ≡ cost final es t.reference tail
     left_outside t e h seg own [] p q there =
-        let k : slice_get seen c ≡ Some [] = subst (λ m. slice_get seen m ≡ Some []) q (linked_right seen seg (own ∷ []) (subst (AreLinked seen) p h.linked)).0 in
-        let parent : parent_of w.tables.scopes c ≡ None = parent_is stack seen calls bare w c [] now_at.scopes k in
-        ap (λ o. left_then left e (option_map_or waits o is_free)) parent
+        ap (λ o. left_then left e (option_map_or waits o is_free)) (past_own w st final es stack seen calls bare fs now_at c (c ∷ aw) t e h seg own [] p q).parent
     left_outside t e h seg own (t2 ∷ ts) p q there =
-        let whole : t.reference.chain ≡ h.asked ++ (seg ++ own ∷ t2 ∷ ts) = h.chain_is ∙ ap (λ l. h.asked ++ l) p in
-        let split : t.reference.chain ≡ (h.asked ++ (seg ++ own ∷ [])) ++ t2 ∷ ts = whole ∙ ap (λ l. h.asked ++ l) (sym (append_assoc seg (own ∷ []) (t2 ∷ ts))) ∙ sym (append_assoc h.asked (seg ++ own ∷ []) (t2 ∷ ts)) in
-        let l : AreLinked seen (own ∷ t2 ∷ ts) = linked_right seen seg (own ∷ t2 ∷ ts) (subst (AreLinked seen) p h.linked) in
-        let parent : parent_of w.tables.scopes c ≡ Some t2.number = parent_is stack seen calls bare w c (numbers (t2 ∷ ts)) now_at.scopes (subst (λ n. slice_get seen n ≡ Some (numbers (t2 ∷ ts))) q l.0) in
-        ap (λ o. left_then left e (option_map_or waits o is_free)) parent
-        ∙ left_at t (record e { lookup_scope = t2.number }) (h.asked ++ (seg ++ own ∷ [])) t2 ts split h.descends refl there
+        let past = past_own w st final es stack seen calls bare fs now_at c (c ∷ aw) t e h seg own (t2 ∷ ts) p q in
+        ap (λ o. left_then left e (option_map_or waits o is_free)) past.parent
+        ∙ left_at t (record e { lookup_scope = t2.number }) (h.asked ++ (seg ++ own ∷ [])) t2 ts past.chain_is h.descends refl there
 
     -- the header's scope is among those left
     pays_inside : (t : Tie) (e : Pending) (h : Waits (c ∷ aw) seen fs final es t e) → Parts c (h.next ∷ h.rest) → slice_get rs e.reference ≡ Some t.reference
         → cost final es t.reference (h.next ∷ h.rest)
-        ≡ probes_in t.reference.name t.reference.way (map (source_answer (source_of w.tables) t.reference.name) (up_to c (numbers (h.next ∷ h.rest))))
-        + left_then left e (outcome_or (waits_outside (source_of w.tables) c) (lookup t.reference.name t.reference.way (map (source_answer (source_of w.tables) t.reference.name) (up_to c (numbers (h.next ∷ h.rest))))))
+        ≡ probes_in t.reference.name t.reference.way (told_answers w t (up_to c (numbers (h.next ∷ h.rest))))
+        + left_then left e (outcome_or (waits_outside (source_of w.tables) c) (lookup t.reference.name t.reference.way (told_answers w t (up_to c (numbers (h.next ∷ h.rest))))))
     pays_inside t e h p there =
         let x : Name = t.reference.name in
         let way : ℕ = t.reference.way in
-        let whole : t.reference.chain ≡ h.asked ++ (p.seg ++ p.own ∷ p.tail) = h.chain_is ∙ ap (λ l. h.asked ++ l) p.is in
-        let down : Descends (length seen) (p.seg ++ p.own ∷ p.tail) = descends_right (length seen) h.asked (p.seg ++ p.own ∷ p.tail) (subst (Descends (length seen)) whole h.descends) in
-        let m : AllMatch (c ∷ aw) (p.seg ++ p.own ∷ p.tail) = subst (AllMatch (c ∷ aw)) p.is h.matches in
-        let f : AreFlagged fs (p.seg ++ p.own ∷ p.tail) = subst (AreFlagged fs) p.is h.flagged in
-        let none : NoneInHeader p.seg = seg_none c (length seen) aw p.seg p.own p.tail p.number older down m in
-        let inside : p.own.in_header ≡ true = (match_right (c ∷ aw) p.seg (p.own ∷ p.tail) m).0 ∙ subst (λ n. contains (c ∷ aw) n ≡ true) (sym p.number) (contains_first c aw) in
-        let views : AllViewed st final es x (p.seg ++ p.own ∷ []) =
-        viewed-append st final es x p.seg (p.own ∷ []) (seg_viewed c (length seen) (length seen) st final es x p.seg p.own p.tail p.number (omega arith) down none frozen) (viewed_ending c st final es x p.own p.number inside viewed, tt) in
-        let same : AreAlike x way (map (source_answer (source_of w.tables) x) (numbers (p.seg ++ p.own ∷ []))) (answers_of final es t (p.seg ++ p.own ∷ [])) =
-        all_alike (length seen) w st final es x way stack seen calls bare fs (p.seg ++ p.own ∷ []) now_at.shows now_at.scopes now_at.flags (flagged_prefix fs p.seg p.own p.tail f) views in
-        let upto : up_to c (numbers (h.next ∷ h.rest)) ≡ numbers (p.seg ++ p.own ∷ []) = ap (λ l. up_to c (numbers l)) p.is ∙ up_to_is c p.seg p.own p.tail p.number p.apart in
-        let paid : probes_in x way (map (source_answer (source_of w.tables) x) (up_to c (numbers (h.next ∷ h.rest)))) ≡ cost final es t.reference (p.seg ++ p.own ∷ []) =
-        ap (λ l. probes_in x way (map (source_answer (source_of w.tables) x) l)) upto
-        ∙ probes_alike x way (map (source_answer (source_of w.tables) x) (numbers (p.seg ++ p.own ∷ []))) (answers_of final es t (p.seg ++ p.own ∷ [])) same in
-        let told : lookup x way (map (source_answer (source_of w.tables) x) (up_to c (numbers (h.next ∷ h.rest)))) ≡ looked_up final es t (p.seg ++ p.own ∷ []) =
-        ap (λ l. lookup x way (map (source_answer (source_of w.tables) x) l)) upto
-        ∙ lookup_alike x way (map (source_answer (source_of w.tables) x) (numbers (p.seg ++ p.own ∷ []))) (answers_of final es t (p.seg ++ p.own ∷ [])) same in
+        let u = up_to_own w st final es stack seen calls bare fs now_at c aw frozen viewed older t e h p in
+        let paid : probes_in x way (told_answers w t (up_to c (numbers (h.next ∷ h.rest)))) ≡ cost final es t.reference (p.seg ++ p.own ∷ []) =
+        ap (λ l. probes_in x way (told_answers w t l)) u.asks
+        ∙ probes_alike x way (told_answers w t (numbers (p.seg ++ p.own ∷ []))) (answers_of final es t (p.seg ++ p.own ∷ [])) u.alike in
+        let told : lookup x way (told_answers w t (up_to c (numbers (h.next ∷ h.rest)))) ≡ looked_up final es t (p.seg ++ p.own ∷ []) =
+        ap (λ l. lookup x way (told_answers w t l)) u.asks
+        ∙ lookup_alike x way (told_answers w t (numbers (p.seg ++ p.own ∷ []))) (answers_of final es t (p.seg ++ p.own ∷ [])) u.alike in
         let split : cost final es t.reference (h.next ∷ h.rest) ≡ probes_in x way (answers_of final es t (p.seg ++ p.own ∷ []) ++ answers_of final es t p.tail) =
-        ap (cost final es t.reference) (p.is ∙ sym (append_assoc p.seg (p.own ∷ []) p.tail)) ∙ ap (probes_in x way) (map-append (answer final es x) (p.seg ++ p.own ∷ []) p.tail) in
+        ap (cost final es t.reference) p.is ∙ ap (probes_in x way) (split_answers final es t p.seg p.own p.tail) in
         split ∙ by (answered_in (looked_up final es t (p.seg ++ p.own ∷ []))) refl
         ∙ (λ i. sym paid i + left_then left e (outcome_or (waits_outside (source_of w.tables) c) (sym told i)))
       where
@@ -125,38 +101,27 @@ module _ (w : WalkState) (st final : State) (es : List Event) (rs : List Occurre
     pays_at_end t e h way there =
         let x : Name = t.reference.name in
         let source = source_of w.tables in
-        let ch : chain source e.lookup_scope ≡ numbers (h.next ∷ h.rest) = left_chain (c ∷ aw) t e h in
+        let ch : chain source e.lookup_scope ≡ numbers (h.next ∷ h.rest) = left_chain w st final es stack seen calls bare fs now_at (c ∷ aw) t e h in
         let first : left e ≡ cost final es t.reference (h.next ∷ h.rest) = left_at t e h.asked h.next h.rest h.chain_is h.descends h.scope there in
-        let asks : header_probes source c e ≡ cond (contains (numbers (h.next ∷ h.rest)) c) (probes_in x t.reference.way (map (source_answer source x) (up_to c (numbers (h.next ∷ h.rest))))) 0 =
+        let asks : header_probes source c e ≡ cond (contains (numbers (h.next ∷ h.rest)) c) (probes_in x t.reference.way (told_answers w t (up_to c (numbers (h.next ∷ h.rest))))) 0 =
         λ i. cond (contains (ch i) c) (probes_in (h.name i) (way i) (map (source_answer source (h.name i)) (up_to c (ch i)))) 0 in
-        let outcome : header_outcome source c e ≡ cond (contains (numbers (h.next ∷ h.rest)) c) (outcome_or (waits_outside source c) (lookup x t.reference.way (map (source_answer source x) (up_to c (numbers (h.next ∷ h.rest)))))) (waits e.lookup_scope) =
-        λ i. cond (contains (ch i) c) (outcome_or (waits_outside source c) (lookup (h.name i) (way i) (map (source_answer source (h.name i)) (up_to c (ch i))))) (waits e.lookup_scope) in
-        first ∙ by (contains (numbers (h.next ∷ h.rest)) c) refl first ∙ (λ i. sym asks i + left_then left e (sym outcome i))
+        first ∙ by (contains (numbers (h.next ∷ h.rest)) c) refl first ∙ (λ i. sym asks i + left_then left e (sym (outcome_left w st final es stack seen calls bare fs now_at c (c ∷ aw) t e h way) i))
       where
         by : (b : Bool) → contains (numbers (h.next ∷ h.rest)) c ≡ b → left e ≡ cost final es t.reference (h.next ∷ h.rest)
             → cost final es t.reference (h.next ∷ h.rest)
-            ≡ cond b (probes_in t.reference.name t.reference.way (map (source_answer (source_of w.tables) t.reference.name) (up_to c (numbers (h.next ∷ h.rest))))) 0
-            + left_then left e (cond b (outcome_or (waits_outside (source_of w.tables) c) (lookup t.reference.name t.reference.way (map (source_answer (source_of w.tables) t.reference.name) (up_to c (numbers (h.next ∷ h.rest)))))) (waits e.lookup_scope))
+            ≡ cond b (probes_in t.reference.name t.reference.way (told_answers w t (up_to c (numbers (h.next ∷ h.rest))))) 0
+            + left_then left e (cond b (outcome_or (waits_outside (source_of w.tables) c) (lookup t.reference.name t.reference.way (told_answers w t (up_to c (numbers (h.next ∷ h.rest)))))) (waits e.lookup_scope))
         by true q first = pays_inside t e h (parted c (h.next ∷ h.rest) q) there
         by false q first = sym first ∙ omega arith
 
-  -- in the end no header is awaited
-  none_left : (ss : List OpenScope) → AllMatch [] ss → NoneInHeader ss
-  none_left [] m = tt
-  none_left (s ∷ ss) m = (m.0, none_left ss m.1)
-
-  end_viewed : (x : Name) (ss : List OpenScope) → final ≡ st → NoneInHeader ss → AllViewed st final es x ss
-  end_viewed x [] e n = tt
-  end_viewed x (s ∷ ss) e n = (rw n.0 (ap (λ (v : State). seen_as v (get v.bindings s.number x)) (sym e)), end_viewed x ss e n.1)
-
+  -- in the end
   pub pays_last : (t : Tie) (e : Pending) → final ≡ st → Waits [] seen fs final es t e → way_of w.tables e.reference ≡ t.reference.way → slice_get rs e.reference ≡ Some t.reference
       → left_for final es rs e ≡ last_probes (source_of w.tables) e
   pays_last t e fin h way there =
       let x : Name = t.reference.name in
       let left : List OpenScope = h.next ∷ h.rest in
       let source = source_of w.tables in
-      let ch : chain source e.lookup_scope ≡ numbers left = left_chain [] t e h in
-      let asks : last_probes source e ≡ probes_in x t.reference.way (map (source_answer source x) (numbers left)) = λ i. probes_in (h.name i) (way i) (map (source_answer source (h.name i)) (ch i)) in
+      let ch : chain source e.lookup_scope ≡ numbers left = left_chain w st final es stack seen calls bare fs now_at [] t e h in
+      let asks : last_probes source e ≡ probes_in x t.reference.way (told_answers w t (numbers left)) = λ i. probes_in (h.name i) (way i) (map (source_answer source (h.name i)) (ch i)) in
       left_at t e h.asked h.next h.rest h.chain_is h.descends h.scope there
-      ∙ sym (asks ∙ probes_alike x t.reference.way (map (source_answer source x) (numbers left)) (answers_of final es t left)
-      (all_alike (length seen) w st final es x t.reference.way stack seen calls bare fs left now_at.shows now_at.scopes now_at.flags h.flagged (end_viewed x left fin (none_left left h.matches))))
+      ∙ sym (asks ∙ probes_alike x t.reference.way (told_answers w t (numbers left)) (answers_of final es t left) (last_alike w st final es stack seen calls bare fs now_at t e h fin))

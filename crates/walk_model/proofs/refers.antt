@@ -3,6 +3,7 @@ pub mod Lookups
 pub mod Settling
 pub mod Sources
 pub mod HeaderEnds
+pub mod EndScopes
 pub mod EndOutcomes
 pub mod TrackedReferences
 pub mod Referred

@@ -1,40 +1,31 @@
 -- At the end of a header, and in the end, each reference that waits gets the outcome that its tie tells.
-use Rattle.std.proofs.Common.{◌≡◌, ℕ, List, [], ◌∷◌, ◌++◌, Some, None, Bool, true, false, cond, inl, inr, refl, sym, ap, subst, ◌∙◌, map, length, arith}
+use Rattle.std.proofs.Common.{◌≡◌, ℕ, List, [], ◌∷◌, ◌++◌, Some, None, Bool, true, false, cond, inl, inr, refl, sym, ap, subst, ◌∙◌, map, length}
 use Rattle.std.specs.Prelude.{slice_get}
 use Rattle.std.specs.Option.{option_map_or}
 use Rattle.std.proofs.lemmas.Bool.Decides.{eqb_tells}
-use Rattle.std.proofs.lemmas.List.{append_assoc}
 use Rattle.semantic_syntax.specs.Tables.{Name, Scope}
-use Rattle.semantic_syntax.specs.Reading.{way_of, parent_of}
+use Rattle.semantic_syntax.specs.Reading.{way_of}
 use Rattle.semantic_syntax.specs.Told.{source_of}
 use Rattle.semantic_syntax.specs.Source.{chain}
 use Rattle.semantic_model.specs.Place.{OpenScope}
-use Rattle.semantic_model.specs.Binding.{get}
 use Rattle.semantic_syntax.specs.Members.{contains}
 use Rattle.semantic_model.specs.Event.{Event}
 use Rattle.semantic_model.specs.Fold.{State, start}
 use Rattle.semantic_model.specs.Hoist.{run}
 use Rattle.semantic_syntax.specs.Lookup.{Lookup, tied, barred, unanswered, lookup}
-use Rattle.semantic_model.specs.Tie.{Tie, until_end_of, seen_as, symbol_by, final_flags, header_from, moment, is_at, is_last}
+use Rattle.semantic_model.specs.Tie.{Tie, until_end_of, symbol_by, final_flags, header_from, moment, is_at, is_last}
 use Rattle.semantic_syntax.specs.Outcome.{Pending, is_free, waits, up_to, answer as source_answer, outcome_or, waits_outside, header_outcome, last_outcome}
-use Rattle.semantic_model.proofs.lists.Members.{contains_first}
 use Rattle.walk_model.specs.WalkState.{WalkState}
 use Rattle.walk_model.specs.Walks.{numbers}
-use Rattle.walk_model.proofs.places.Nested.{AreLinked, Descends}
+use Rattle.walk_model.proofs.places.Nested.{Descends}
 use Rattle.walk_model.proofs.headers.Headed.{AllMatch, AreFlagged, AllLess}
-use Rattle.walk_model.proofs.refers.Lookups.{answered_in, answered_among, lookup_alike, NoneInHeader, header_skip, header_none, moment_answered, moment_unanswered}
+use Rattle.walk_model.proofs.refers.Lookups.{answered_in, answered_among, lookup_alike, header_skip, header_none, moment_answered, moment_unanswered}
 use Rattle.walk_model.proofs.refers.Settling.{IsRight, frees, goes_on}
 use Rattle.walk_model.proofs.headers.Frozen.{Frozen}
-use Rattle.walk_model.proofs.refers.Sources.{chain_is, parent_is, up_to_is, AllViewed, viewed-append, all_alike, viewed_ending}
-use Rattle.walk_model.proofs.refers.HeaderEnds.{At, Waits, looked_up, answers_of, descends_right, past_asked, not_now, answered_now, through_more, right_by, Parts, parted, match_right, linked_right, flagged_right, flagged_prefix, match_past, seg_none, seg_viewed, tail_apart, apart, scopes_of}
+use Rattle.walk_model.proofs.refers.HeaderEnds.{At, Waits, waits_still, looked_up, answers_of, descends_right, past_asked, not_now, answered_now, through_more, right_by, Parts, parted, match_right, flagged_right, match_past, tail_apart, apart, scopes_of}
+use Rattle.walk_model.proofs.refers.EndScopes.{told_answers, none_left, left_chain, outcome_left, past_own, up_to_own, last_alike}
 
 module _ (w : WalkState) (st final : State) (es : List Event) (stack : List ℕ) (seen calls : List (List ℕ)) (bare : List Scope) (fs : List ℕ) (now_at : At w st stack seen calls bare fs) where
-  -- what is left to ask stands in the tables
-  left_chain : (awaiting : List ℕ) (t : Tie) (e : Pending) (h : Waits awaiting seen fs final es t e) → chain (source_of w.tables) e.lookup_scope ≡ numbers (h.next ∷ h.rest)
-  left_chain awaiting t e h =
-      ap (chain (source_of w.tables)) h.scope
-      ∙ chain_is stack seen calls bare w h.next h.rest now_at.scopes h.linked (descends_right (length seen) h.asked (h.next ∷ h.rest) (subst (Descends (length seen)) h.chain_is h.descends))
-
   module _ (c : ℕ) (aw : List ℕ) (first : ℕ) (others : List ℕ) (frozen : Frozen c (length seen) st final) (viewed : run start (until_end_of c es) ≡ st) (older : AllLess aw c) (inner : slice_get seen c ≡ Some (first ∷ others)) where
     abbrev WaitsThen : Tie → Pending → Type 0
     WaitsThen t e = Waits aw seen fs final es t e
@@ -49,92 +40,56 @@ module _ (w : WalkState) (st final : State) (es : List Event) (stack : List ℕ)
     waits_on : (t : Tie) (e : Pending) (h : Waits (c ∷ aw) seen fs final es t e) (seg : List OpenScope) (own : OpenScope) (tail : List OpenScope) → h.next ∷ h.rest ≡ seg ++ own ∷ tail → own.number ≡ c → answered_in (looked_up final es t (seg ++ own ∷ [])) ≡ None
         → IsRight WaitsThen st.symbols now t e (waits_outside (source_of w.tables) c)
     waits_on t e h seg own [] p q a =
-        let l : AreLinked seen (seg ++ own ∷ []) = subst (AreLinked seen) p h.linked in
-        let k : slice_get seen c ≡ Some [] = subst (λ m. slice_get seen m ≡ Some []) q (linked_right seen seg (own ∷ []) l).0 in
+        let past = past_own w st final es stack seen calls bare fs now_at c (c ∷ aw) t e h seg own [] p q in
+        let k : slice_get seen c ≡ Some [] = subst (λ m. slice_get seen m ≡ Some []) q past.linked.0 in
         let r : Some (first ∷ others) ≡ Some [] = sym inner ∙ k in absurd cc
     waits_on t e h seg own (t2 ∷ ts) p q a =
-        let whole : t.reference.chain ≡ h.asked ++ (seg ++ own ∷ t2 ∷ ts) = h.chain_is ∙ ap (λ l. h.asked ++ l) p in
-        let down : Descends (length seen) (h.asked ++ (seg ++ own ∷ t2 ∷ ts)) = subst (Descends (length seen)) whole h.descends in
-        let split : t.reference.chain ≡ (h.asked ++ (seg ++ own ∷ [])) ++ t2 ∷ ts = whole ∙ ap (λ l. h.asked ++ l) (sym (append_assoc seg (own ∷ []) (t2 ∷ ts))) ∙ sym (append_assoc h.asked (seg ++ own ∷ []) (t2 ∷ ts)) in
-        let l : AreLinked seen (own ∷ t2 ∷ ts) = linked_right seen seg (own ∷ t2 ∷ ts) (subst (AreLinked seen) p h.linked) in
+        let past = past_own w st final es stack seen calls bare fs now_at c (c ∷ aw) t e h seg own (t2 ∷ ts) p q in
         let m : AllMatch (c ∷ aw) (own ∷ t2 ∷ ts) = match_right (c ∷ aw) seg (own ∷ t2 ∷ ts) (subst (AllMatch (c ∷ aw)) p h.matches) in
         let f : AreFlagged fs (own ∷ t2 ∷ ts) = flagged_right fs seg (own ∷ t2 ∷ ts) (subst (AreFlagged fs) p h.flagged) in
-        let outer : contains (numbers (t2 ∷ ts)) c ≡ false = subst (λ n. contains (numbers (t2 ∷ ts)) n ≡ false) q (tail_apart (length seen) seg own (t2 ∷ ts) (descends_right (length seen) h.asked (seg ++ own ∷ t2 ∷ ts) down)) in
+        let left : Descends (length seen) (seg ++ own ∷ t2 ∷ ts) = subst (Descends (length seen)) p (descends_right (length seen) h.asked (h.next ∷ h.rest) (subst (Descends (length seen)) h.chain_is h.descends)) in
+        let outer : contains (numbers (t2 ∷ ts)) c ≡ false = subst (λ n. contains (numbers (t2 ∷ ts)) n ≡ false) q (tail_apart (length seen) seg own (t2 ∷ ts) left) in
         let none : answered_in (looked_up final es t (h.asked ++ (seg ++ own ∷ []))) ≡ None = through_more final es t h.asked (seg ++ own ∷ []) h.through a in
-        let parent : parent_of w.tables.scopes c ≡ Some t2.number = parent_is stack seen calls bare w c (numbers (t2 ∷ ts)) now_at.scopes (subst (λ n. slice_get seen n ≡ Some (numbers (t2 ∷ ts))) q l.0) in
-        subst (λ o. IsRight WaitsThen st.symbols now t e (option_map_or waits o is_free)) (sym parent)
-        (goes_on t2.number (not_now final es t (length seen) c (h.asked ++ (seg ++ own ∷ [])) (t2 ∷ ts) split none h.is_tie h.descends outer) (record {
+        subst (λ o. IsRight WaitsThen st.symbols now t e (option_map_or waits o is_free)) (sym past.parent)
+        (goes_on t2.number (not_now final es t (length seen) c (h.asked ++ (seg ++ own ∷ [])) (t2 ∷ ts) past.chain_is none h.is_tie h.descends outer) (record {
           asked = h.asked ++ (seg ++ own ∷ []);
           next = t2;
           rest = ts;
-          chain_is = split;
+          chain_is = past.chain_is;
           through = none;
           is_tie = h.is_tie;
           name = h.name;
           number = h.number;
           scope = refl;
           matches = match_past c aw (t2 ∷ ts) outer m.1;
-          linked = l.1;
+          linked = past.linked.1;
           flagged = f.1;
           descends = h.descends;
         }))
 
     -- the header's scope is among those left
     right_inside : (t : Tie) (e : Pending) (h : Waits (c ∷ aw) seen fs final es t e) → Parts c (h.next ∷ h.rest)
-        → IsRight WaitsThen st.symbols now t e (outcome_or (waits_outside (source_of w.tables) c) (lookup t.reference.name t.reference.way (map (source_answer (source_of w.tables) t.reference.name) (up_to c (numbers (h.next ∷ h.rest))))))
+        → IsRight WaitsThen st.symbols now t e (outcome_or (waits_outside (source_of w.tables) c) (lookup t.reference.name t.reference.way (told_answers w t (up_to c (numbers (h.next ∷ h.rest))))))
     right_inside t e h p =
         let x : Name = t.reference.name in
-        let whole : t.reference.chain ≡ h.asked ++ (p.seg ++ p.own ∷ p.tail) = h.chain_is ∙ ap (λ l. h.asked ++ l) p.is in
-        let down : Descends (length seen) (p.seg ++ p.own ∷ p.tail) = descends_right (length seen) h.asked (p.seg ++ p.own ∷ p.tail) (subst (Descends (length seen)) whole h.descends) in
-        let m : AllMatch (c ∷ aw) (p.seg ++ p.own ∷ p.tail) = subst (AllMatch (c ∷ aw)) p.is h.matches in
-        let f : AreFlagged fs (p.seg ++ p.own ∷ p.tail) = subst (AreFlagged fs) p.is h.flagged in
-        let none : NoneInHeader p.seg = seg_none c (length seen) aw p.seg p.own p.tail p.number older down m in
-        let inside : p.own.in_header ≡ true = (match_right (c ∷ aw) p.seg (p.own ∷ p.tail) m).0 ∙ subst (λ n. contains (c ∷ aw) n ≡ true) (sym p.number) (contains_first c aw) in
-        let views : AllViewed st final es x (p.seg ++ p.own ∷ []) =
-        viewed-append st final es x p.seg (p.own ∷ []) (seg_viewed c (length seen) (length seen) st final es x p.seg p.own p.tail p.number (omega arith) down none frozen) (viewed_ending c st final es x p.own p.number inside viewed, tt) in
-        let same : lookup x t.reference.way (map (source_answer (source_of w.tables) x) (numbers (p.seg ++ p.own ∷ []))) ≡ looked_up final es t (p.seg ++ p.own ∷ []) =
-        lookup_alike x t.reference.way (map (source_answer (source_of w.tables) x) (numbers (p.seg ++ p.own ∷ []))) (answers_of final es t (p.seg ++ p.own ∷ []))
-        (all_alike (length seen) w st final es x t.reference.way stack seen calls bare fs (p.seg ++ p.own ∷ []) now_at.shows now_at.scopes now_at.flags (flagged_prefix fs p.seg p.own p.tail f) views) in
-        let upto : up_to c (numbers (h.next ∷ h.rest)) ≡ numbers (p.seg ++ p.own ∷ []) = ap (λ l. up_to c (numbers l)) p.is ∙ up_to_is c p.seg p.own p.tail p.number p.apart in
-        subst (λ l. IsRight WaitsThen st.symbols now t e (outcome_or (waits_outside (source_of w.tables) c) l)) (sym (ap (λ l. lookup x t.reference.way (map (source_answer (source_of w.tables) x) l)) upto ∙ same))
+        let way : ℕ = t.reference.way in
+        let u = up_to_own w st final es stack seen calls bare fs now_at c aw frozen viewed older t e h p in
+        let same : lookup x way (told_answers w t (numbers (p.seg ++ p.own ∷ []))) ≡ looked_up final es t (p.seg ++ p.own ∷ []) =
+        lookup_alike x way (told_answers w t (numbers (p.seg ++ p.own ∷ []))) (answers_of final es t (p.seg ++ p.own ∷ [])) u.alike in
+        subst (λ l. IsRight WaitsThen st.symbols now t e (outcome_or (waits_outside (source_of w.tables) c) l)) (sym (ap (λ l. lookup x way (told_answers w t l)) u.asks ∙ same))
         (right_by WaitsThen now w st (length seen) t e (p.seg ++ p.own ∷ []) (waits_outside (source_of w.tables) c) (looked_up final es t (p.seg ++ p.own ∷ [])) now_at.shows now_at.sound same
-        (λ d a. let r : (t.lookup ≡ looked_up final es t (p.seg ++ p.own ∷ [])) × (moment t ≡ Some p.own.number) = answered_now final es t (length seen) d h.asked p.seg p.own p.tail whole h.through h.is_tie h.descends none inside a in (r.0, at_own t p.own.number r.1 p.number))
+        (λ d a. let r : (t.lookup ≡ looked_up final es t (p.seg ++ p.own ∷ [])) × (moment t ≡ Some p.own.number) = answered_now final es t (length seen) d h.asked p.seg p.own p.tail u.whole h.through h.is_tie h.descends u.none u.inside a in (r.0, at_own t p.own.number r.1 p.number))
         (λ a. waits_on t e h p.seg p.own p.tail p.is p.number a))
 
     pub right_end : (t : Tie) (e : Pending) → Waits (c ∷ aw) seen fs final es t e → way_of w.tables e.reference ≡ t.reference.way → IsRight WaitsThen st.symbols now t e (header_outcome (source_of w.tables) c e)
     right_end t e h way =
-        let ch : chain (source_of w.tables) e.lookup_scope ≡ numbers (h.next ∷ h.rest) = left_chain (c ∷ aw) t e h in
-        let outcome : header_outcome (source_of w.tables) c e ≡ cond (contains (numbers (h.next ∷ h.rest)) c) (outcome_or (waits_outside (source_of w.tables) c) (lookup t.reference.name t.reference.way (map (source_answer (source_of w.tables) t.reference.name) (up_to c (numbers (h.next ∷ h.rest)))))) (waits h.next.number) =
-        λ i. cond (contains (ch i) c) (outcome_or (waits_outside (source_of w.tables) c) (lookup (h.name i) (way i) (map (source_answer (source_of w.tables) (h.name i)) (up_to c (ch i))))) (waits (h.scope i)) in
-        subst (λ o. IsRight WaitsThen st.symbols now t e o) (sym outcome) (by (contains (numbers (h.next ∷ h.rest)) c) refl)
+        subst (λ o. IsRight WaitsThen st.symbols now t e o) (sym (outcome_left w st final es stack seen calls bare fs now_at c (c ∷ aw) t e h way)) (by (contains (numbers (h.next ∷ h.rest)) c) refl)
       where
         by : (b : Bool) → contains (numbers (h.next ∷ h.rest)) c ≡ b
-            → IsRight WaitsThen st.symbols now t e (cond b (outcome_or (waits_outside (source_of w.tables) c) (lookup t.reference.name t.reference.way (map (source_answer (source_of w.tables) t.reference.name) (up_to c (numbers (h.next ∷ h.rest)))))) (waits h.next.number))
+            → IsRight WaitsThen st.symbols now t e (cond b (outcome_or (waits_outside (source_of w.tables) c) (lookup t.reference.name t.reference.way (told_answers w t (up_to c (numbers (h.next ∷ h.rest)))))) (waits e.lookup_scope))
         by true q = right_inside t e h (parted c (h.next ∷ h.rest) q)
-        by false q = goes_on h.next.number (not_now final es t (length seen) c h.asked (h.next ∷ h.rest) h.chain_is h.through h.is_tie h.descends q) (record {
-          asked = h.asked;
-          next = h.next;
-          rest = h.rest;
-          chain_is = h.chain_is;
-          through = h.through;
-          is_tie = h.is_tie;
-          name = h.name;
-          number = h.number;
-          scope = refl;
-          matches = match_past c aw (h.next ∷ h.rest) q h.matches;
-          linked = h.linked;
-          flagged = h.flagged;
-          descends = h.descends;
-        })
-
-  -- in the end no header is awaited
-  none_left : (ss : List OpenScope) → AllMatch [] ss → NoneInHeader ss
-  none_left [] m = tt
-  none_left (s ∷ ss) m = (m.0, none_left ss m.1)
-
-  end_viewed : (x : Name) (ss : List OpenScope) → final ≡ st → NoneInHeader ss → AllViewed st final es x ss
-  end_viewed x [] e n = tt
-  end_viewed x (s ∷ ss) e n = (rw n.0 (ap (λ (v : State). seen_as v (get v.bindings s.number x)) (sym e)), end_viewed x ss e n.1)
+        by false q = goes_on e.lookup_scope (not_now final es t (length seen) c h.asked (h.next ∷ h.rest) h.chain_is h.through h.is_tie h.descends q)
+            (waits_still (c ∷ aw) aw seen seen fs fs final es t e h (match_past c aw (h.next ∷ h.rest) q h.matches) h.linked h.flagged h.descends)
 
   none_by : (l : Lookup) → answered_in l ≡ None → symbol_by l ≡ None
   none_by (tied c s f) h = absurd cc
@@ -150,12 +105,10 @@ module _ (w : WalkState) (st final : State) (es : List Event) (stack : List ℕ)
   right_last t e fin WaitsLast h way =
       let x : Name = t.reference.name in
       let left : List OpenScope = h.next ∷ h.rest in
-      let ch : chain (source_of w.tables) e.lookup_scope ≡ numbers left = left_chain [] t e h in
-      let none : NoneInHeader left = none_left left h.matches in
-      let same : lookup x t.reference.way (map (source_answer (source_of w.tables) x) (numbers left)) ≡ looked_up final es t left =
-      lookup_alike x t.reference.way (map (source_answer (source_of w.tables) x) (numbers left)) (answers_of final es t left)
-      (all_alike (length seen) w st final es x t.reference.way stack seen calls bare fs left now_at.shows now_at.scopes now_at.flags h.flagged (end_viewed x left fin none)) in
-      let outcome : last_outcome (source_of w.tables) e ≡ outcome_or is_free (lookup x t.reference.way (map (source_answer (source_of w.tables) x) (numbers left))) =
+      let ch : chain (source_of w.tables) e.lookup_scope ≡ numbers left = left_chain w st final es stack seen calls bare fs now_at [] t e h in
+      let same : lookup x t.reference.way (told_answers w t (numbers left)) ≡ looked_up final es t left =
+      lookup_alike x t.reference.way (told_answers w t (numbers left)) (answers_of final es t left) (last_alike w st final es stack seen calls bare fs now_at t e h fin) in
+      let outcome : last_outcome (source_of w.tables) e ≡ outcome_or is_free (lookup x t.reference.way (told_answers w t (numbers left))) =
       λ i. outcome_or is_free (lookup (h.name i) (way i) (map (source_answer (source_of w.tables) (h.name i)) (ch i))) in
       let whole : t.lookup ≡ looked_up final es t left = past_asked final es t h.asked left h.chain_is h.through h.is_tie in
       subst (λ o. IsRight WaitsLast st.symbols (λ u. is_last (moment u)) t e o) (sym (outcome ∙ ap (outcome_or is_free) same))
@@ -163,6 +116,6 @@ module _ (w : WalkState) (st final : State) (es : List Event) (stack : List ℕ)
       (λ d a.
       let there : contains (numbers left) d ≡ true = subst (λ l. contains l d ≡ true) (scopes_of final es t left) (answered_among x t.reference.way (answers_of final es t left) d a) in
       let out : contains (numbers h.asked) d ≡ false = apart (length seen) h.asked left d (subst (Descends (length seen)) h.chain_is h.descends) there in
-      let mo : moment t ≡ None = moment_answered t.lookup t.reference.chain d (ap answered_in whole ∙ a) ∙ ap (header_from d) h.chain_is ∙ header_skip d h.asked left out ∙ header_none d left none in
+      let mo : moment t ≡ None = moment_answered t.lookup t.reference.chain d (ap answered_in whole ∙ a) ∙ ap (header_from d) h.chain_is ∙ header_skip d h.asked left out ∙ header_none d left (none_left left h.matches) in
       (whole, ap is_last mo))
       (λ a. frees (ap is_last (moment_unanswered t.lookup t.reference.chain (ap answered_in whole ∙ a))) (ap symbol_by whole ∙ none_by (looked_up final es t left) a) (way_kept t (looked_up final es t left) whole a)))

@@ -57,6 +57,25 @@ pub record Waits (awaiting : List ℕ) (seen : List (List ℕ)) (fs : List ℕ) 
   pub flagged : AreFlagged fs (next ∷ rest)
   pub descends : Descends (length seen) t.reference.chain
 
+-- it waits still, among other headers and scopes
+pub waits_still : (aw aw2 : List ℕ) (seen seen2 : List (List ℕ)) (fs fs2 : List ℕ) (final : State) (es : List Event) (t : Tie) (e : Pending) (h : Waits aw seen fs final es t e)
+    → AllMatch aw2 (h.next ∷ h.rest) → AreLinked seen2 (h.next ∷ h.rest) → AreFlagged fs2 (h.next ∷ h.rest) → Descends (length seen2) t.reference.chain → Waits aw2 seen2 fs2 final es t e
+waits_still aw aw2 seen seen2 fs fs2 final es t e h matches linked flagged descends = record {
+  asked = h.asked;
+  next = h.next;
+  rest = h.rest;
+  chain_is = h.chain_is;
+  through = h.through;
+  is_tie = h.is_tie;
+  name = h.name;
+  number = h.number;
+  scope = h.scope;
+  matches = matches;
+  linked = linked;
+  flagged = flagged;
+  descends = descends;
+}
+
 pub descends_right : (n : ℕ) (xs ys : List OpenScope) → Descends n (xs ++ ys) → Descends n ys
 descends_right n [] ys h = h
 descends_right n (x ∷ xs) ys h = descends_right n xs ys (descends_more x.number n (xs ++ ys) (omega (arith, h.0)) h.1)
@@ -105,7 +124,7 @@ not_now final es t n c xs ys e h i k none = not_at c t.lookup t.reference.chain 
     let from : header_from d ys ≡ Some c = sym (header_skip d xs ys out) ∙ ap (header_from d) (sym e) ∙ q in
     let w : true ≡ false = sym (header_numbers ys c (header_among d ys c from)) ∙ none in absurd cc)
 
-split_answers : (final : State) (es : List Event) (t : Tie) (seg : List OpenScope) (h : OpenScope) (tail : List OpenScope) → answers_of final es t (seg ++ h ∷ tail) ≡ answers_of final es t (seg ++ h ∷ []) ++ answers_of final es t tail
+pub split_answers : (final : State) (es : List Event) (t : Tie) (seg : List OpenScope) (h : OpenScope) (tail : List OpenScope) → answers_of final es t (seg ++ h ∷ tail) ≡ answers_of final es t (seg ++ h ∷ []) ++ answers_of final es t tail
 split_answers final es t seg h tail = ap (answers_of final es t) (sym (append_assoc seg (h ∷ []) tail)) ∙ map-append (answer final es t.reference.name) (seg ++ h ∷ []) tail
 
 -- an answer within the header

@@ -23,7 +23,7 @@ use Rattle.walk_model.proofs.places.Nested.{Descends, linked_more, descends_more
 use Rattle.walk_model.proofs.headers.Headed.{AllMatch, AllLess, ChainLess, match_more, flagged_later, awaiting_past, flags_past, AreHeaded, has_header}
 use Rattle.walk_model.proofs.refers.Lookups.{in_headers, header_among, not_at}
 use Rattle.walk_model.proofs.refers.Settling.{open_entry, Tracks, none, is_done, is_open, AreNumbered}
-use Rattle.walk_model.proofs.refers.HeaderEnds.{Waits}
+use Rattle.walk_model.proofs.refers.HeaderEnds.{Waits, waits_still, descends_right}
 
 abbrev pub tie_of : State → List Event → ℕ → Occurrence → Tie
 tie_of final es n r = record { number = n; reference = r; lookup = look.lookup r.name r.way (answers final es r) }
@@ -107,27 +107,13 @@ chain_less : (n : ℕ) (ss : List OpenScope) → Descends n ss → ChainLess ss 
 chain_less n [] h = tt
 chain_less n (s ∷ ss) h = (h.0, chain_less n ss (descends_more s.number n ss (omega (arith, h.0)) h.1))
 
-descends_right : (n : ℕ) (xs ys : List OpenScope) → Descends n (xs ++ ys) → Descends n ys
-descends_right n [] ys h = h
-descends_right n (x ∷ xs) ys h = descends_right n xs ys (descends_more x.number n (xs ++ ys) (omega (arith, h.0)) h.1)
-
 pub waits_opening : (awaiting : List ℕ) (seen : List (List ℕ)) (fs : List ℕ) (final : State) (es : List Event) (p : Place) (s : OpenScope) (t : Tie) (e : Pending) → s.number ≡ length seen → Waits awaiting seen fs final es t e
     → Waits (awaiting_past awaiting (opening p s)) (seen_past seen (opening p s)) (flags_past fs (opening p s)) final es t e
-waits_opening awaiting seen fs final es p s t e n h = record {
-  asked = h.asked;
-  next = h.next;
-  rest = h.rest;
-  chain_is = h.chain_is;
-  through = h.through;
-  is_tie = h.is_tie;
-  name = h.name;
-  number = h.number;
-  scope = h.scope;
-  matches = by (has_header p);
-  linked = linked_more seen (seen ++ numbers p.chain ∷ []) (h.next ∷ h.rest) (record { added = numbers p.chain ∷ []; is = refl }) h.linked;
-  flagged = flagged_later fs (opening p s ∷ []) (h.next ∷ h.rest) h.flagged;
-  descends = descends_more (length seen) (length (seen ++ numbers p.chain ∷ [])) t.reference.chain (omega (arith, length-append seen (numbers p.chain ∷ []))) h.descends;
-}
+waits_opening awaiting seen fs final es p s t e n h =
+    waits_still awaiting (awaiting_past awaiting (opening p s)) seen (seen_past seen (opening p s)) fs (flags_past fs (opening p s)) final es t e h (by (has_header p))
+    (linked_more seen (seen ++ numbers p.chain ∷ []) (h.next ∷ h.rest) (record { added = numbers p.chain ∷ []; is = refl }) h.linked)
+    (flagged_later fs (opening p s ∷ []) (h.next ∷ h.rest) h.flagged)
+    (descends_more (length seen) (length (seen ++ numbers p.chain ∷ [])) t.reference.chain (omega (arith, length-append seen (numbers p.chain ∷ []))) h.descends)
   where
     less : ChainLess (h.next ∷ h.rest) s.number
     less = subst (ChainLess (h.next ∷ h.rest)) (sym n) (chain_less (length seen) (h.next ∷ h.rest) (descends_right (length seen) h.asked (h.next ∷ h.rest) (subst (Descends (length seen)) h.chain_is h.descends)))
