@@ -1,5 +1,6 @@
 -- As a header ends, what the scopes in it bind is as it stays, and so are the flags of their symbols.
 use Rattle.std.proofs.Common.{◌≡◌, ℕ, ◌<◌, ◌≤◌, List, [], ◌∷◌, ◌++◌, Some, None, Bool, true, false, cond, ◌&&◌, ◌⊎◌, inl, inr, refl, sym, ap, subst, ◌∙◌, map, flat_map, length, nat_lt, arith}
+use Rattle.std.proofs.lemmas.Bool.{and_from, and_left, and_right}
 use Rattle.std.proofs.lemmas.Bool.Decides.{eqb_tells, Decides-ltb}
 use Rattle.std.proofs.lemmas.List.{length-append}
 use Rattle.semantic_kinds.specs.Roles.{same_role}
@@ -72,20 +73,20 @@ below_is s n l = (Decides-ltb s n).1 l
 below_tells : (s n : ℕ) → below n s ≡ true → s < n
 below_tells s n e = (Decides-ltb s n).0 e
 
+below_more : (s n m : ℕ) → n ≤ m → below n s ≡ true → below m s ≡ true
+below_more s n m l e = below_is s m (let q : s < n = below_tells s n e in omega arith)
+
+below_not : (s n : ℕ) → below n s ≡ true → above n s ≡ false
+below_not s n e = above_not n s (let q : s < n = below_tells s n e in omega arith)
+
 pub within_more : (n m : ℕ) (st : State) → n ≤ m → IsWithin n st → IsWithin m st
-within_more n m st l h = record {
-  bindings = λ e a. below_is e.scope m (let q : e.scope < n = below_tells e.scope n (h.bindings e a) in omega arith);
-  remembered = λ e a. below_is e.scope m (let q : e.scope < n = below_tells e.scope n (h.remembered e a) in omega arith);
-}
+within_more n m st l h = record { bindings = λ e a. below_more e.scope n m l (h.bindings e a); remembered = λ e a. below_more e.scope n m l (h.remembered e a) }
 
 -- nothing is held above the last scope
 pub sided_new : (n : ℕ) (st : State) → IsWithin n st → SidedAt n st
 sided_new n st h = record {
   side = λ y. false;
-  sided = record {
-    bindings = λ e a. above_not n e.scope (let q : e.scope < n = below_tells e.scope n (h.bindings e a) in omega arith);
-    remembered = λ e a. above_not n e.scope (let q : e.scope < n = below_tells e.scope n (h.remembered e a) in omega arith);
-  };
+  sided = record { bindings = λ e a. below_not e.scope n (h.bindings e a); remembered = λ e a. below_not e.scope n (h.remembered e a) };
 }
 
 -- between two numbers
@@ -93,17 +94,20 @@ abbrev pub between : ℕ → ℕ → ℕ → Bool
 between c n s = nat_lt c s && nat_lt s n
 
 pub between_is : (c n s : ℕ) → c < s → s < n → between c n s ≡ true
-between_is c n s l k = rw ((Decides-ltb c s).1 l, (Decides-ltb s n).1 k) refl
+between_is c n s l k = and_from (nat_lt c s) (nat_lt s n) (above_is c s l) (below_is s n k)
 
 pub between_low : (c n s : ℕ) → s ≤ c → between c n s ≡ false
-between_low c n s l = ap (λ b. b && nat_lt s n) (above_not c s l)
-
-and_false : (a : Bool) → (a && false) ≡ false
-and_false true = refl
-and_false false = refl
+between_low c n s l = and_left (nat_lt c s) (nat_lt s n) (above_not c s l)
 
 pub between_high : (c n s : ℕ) → n ≤ s → between c n s ≡ false
-between_high c n s l = ap (λ b. nat_lt c s && b) (above_not s n l) ∙ and_false (nat_lt c s)
+between_high c n s l = and_right (nat_lt c s) (nat_lt s n) (above_not s n l)
+
+between_below : (c n s : ℕ) → below n s ≡ true → between c n s ≡ above c s
+between_below c n s e = ap (λ b. nat_lt c s && b) e ∙ by (nat_lt c s)
+  where
+    by : (b : Bool) → (b && true) ≡ b
+    by true = refl
+    by false = refl
 
 pub record Frozen (c n : ℕ) (st final : State) : Type 0 where
   pub bound : (s : ℕ) (x : Name) → c < s → s < n → get final.bindings s x ≡ get st.bindings s x
@@ -117,8 +121,8 @@ pub frozen : (c n : ℕ) (st : State) (es : List Event) → SidedAt c st → IsW
 frozen c n st es h w s t =
     let side : ℕ → Bool = capped h.side (length st.symbols) false in
     let sided : IsSided (between c n) side st = capped_sided (between c n) h.side false st s (record {
-      bindings = λ e a. ap (λ b. nat_lt c e.scope && b) (w.bindings e a) ∙ and_true (nat_lt c e.scope) ∙ h.sided.bindings e a;
-      remembered = λ e a. ap (λ b. nat_lt c e.scope && b) (w.remembered e a) ∙ and_true (nat_lt c e.scope) ∙ h.sided.remembered e a;
+      bindings = λ e a. between_below c n e.scope (w.bindings e a) ∙ h.sided.bindings e a;
+      remembered = λ e a. between_below c n e.scope (w.remembered e a) ∙ h.sided.remembered e a;
     }) in
     let k : Keeps (between c n) side st (run st es) = run_keeps (between c n) side st es (on_other (between c n) side es t) (λ m l. capped_beyond h.side (length st.symbols) false m l) sided in
     record {
@@ -127,10 +131,6 @@ frozen c n st es h w s t =
           let q : IsBelow (length st.symbols) (Some z) = subst (IsBelow (length st.symbols)) e (get_below (length st.symbols) st.bindings x y s.bindings) in
           k.flags z (sym (sided.bindings (record { scope = x; name = y; symbol = z }) (get_among st.bindings x y z e)) ∙ between_is c n x l m) q;
     }
-  where
-    and_true : (a : Bool) → (a && true) ≡ a
-    and_true true = refl
-    and_true false = refl
 
 -- what an opening scope declares is its own
 abbrev AllPlain : List Declaration → Type 0
@@ -284,10 +284,17 @@ opening_touch inside b ds p s g h i =
     touch-append inside b (taken_over p s) (declares_all ds (declared_on_opening p s)) (taken_touch inside b p s g h i)
     (declares_touch inside b (s ∷ p.chain) ds (declared_on_opening p s) (opening_goes p.node.kind p s) (i, h))
 
+seen_longer : (seen : List (List ℕ)) (step : Step) → length seen ≤ length (seen_past seen step)
+seen_longer seen (entering p) = omega arith
+seen_longer seen (header_ending p s) = omega arith
+seen_longer seen (closing p s) = omega arith
+seen_longer seen (leaving p) = omega arith
+seen_longer seen (opening p s) = omega (arith, length-append seen (numbers p.chain ∷ []))
+
 pub within_step : (ds : List Declaration) (st : State) (stack : List ℕ) (seen : List (List ℕ)) (step : Step) → IsNestedStep stack seen step → IsStepGrounded step → IsWithin (length seen) st → IsWithin (length (seen_past seen step)) (run st (events_of ds step))
 within_step ds st stack seen (entering p) k g w = within_run (length seen) st (declares_all ds (declared_on_entering p)) (entering_touch (below (length seen)) true ds p g (chain_below (length seen) (length seen) p.chain (omega arith) k.descends)) w
 within_step ds st stack seen (opening p s) k g w =
-    let more : length seen ≤ length (seen_past seen (opening p s)) = omega (arith, length-append seen (numbers p.chain ∷ [])) in
+    let more : length seen ≤ length (seen_past seen (opening p s)) = seen_longer seen (opening p s) in
     let number : s.number ≡ length seen = ap (λ (o : OpenScope). o.number) k.1 in
     let less : s.number < length (seen_past seen (opening p s)) = omega (arith, number, length-append seen (numbers p.chain ∷ [])) in
     within_run (length (seen_past seen (opening p s))) st (events_of ds (opening p s))
@@ -303,37 +310,18 @@ open_on inside stack [] f h = tt
 open_on inside stack (s ∷ ss) f h = (f s.number h.0, open_on inside stack ss f h.1)
 
 still_open : (stack : List ℕ) (step : Step) (s : ℕ) → contains (open_past stack step) s ≡ true → (contains stack s ≡ true) ⊎ ((p : Place) × (o : OpenScope) × (step ≡ opening p o) × (o.number ≡ s))
-still_open stack (entering p) s h = inl (same stack s h)
-  where
-    same : (l : List ℕ) (s : ℕ) → contains (open_past l (entering p)) s ≡ true → contains l s ≡ true
-    same [] s h = h
-    same (c ∷ cs) s h = h
-still_open stack (header_ending p o) s h = inl (same stack s h)
-  where
-    same : (l : List ℕ) (s : ℕ) → contains (open_past l (header_ending p o)) s ≡ true → contains l s ≡ true
-    same [] s h = h
-    same (c ∷ cs) s h = h
-still_open stack (leaving p) s h = inl (same stack s h)
-  where
-    same : (l : List ℕ) (s : ℕ) → contains (open_past l (leaving p)) s ≡ true → contains l s ≡ true
-    same [] s h = h
-    same (c ∷ cs) s h = h
-still_open stack (closing p o) s h = inl (same stack s h)
-  where
-    same : (l : List ℕ) (s : ℕ) → contains (open_past l (closing p o)) s ≡ true → contains l s ≡ true
-    same [] s h = h
-    same (c ∷ cs) s h = grind (arith, eqb_tells c s)
 still_open stack (opening p o) s h = elim (eqb_tells o.number s) [
   | inl q ↦ inr (p, o, refl, q.1)
   | inr q ↦ inl (rw q.0 at h)
 ]
-
-seen_longer : (seen : List (List ℕ)) (step : Step) → length seen ≤ length (seen_past seen step)
-seen_longer seen (entering p) = omega arith
-seen_longer seen (header_ending p s) = omega arith
-seen_longer seen (closing p s) = omega arith
-seen_longer seen (leaving p) = omega arith
-seen_longer seen (opening p s) = omega (arith, length-append seen (numbers p.chain ∷ []))
+still_open [] (entering p) s h = inl h
+still_open [] (header_ending p o) s h = inl h
+still_open [] (closing p o) s h = inl h
+still_open [] (leaving p) s h = inl h
+still_open (c ∷ cs) (entering p) s h = inl h
+still_open (c ∷ cs) (header_ending p o) s h = inl h
+still_open (c ∷ cs) (closing p o) s h = inl (grind (arith, eqb_tells c s))
+still_open (c ∷ cs) (leaving p) s h = inl h
 
 step_touch : (inside : ℕ → Bool) (ds : List Declaration) (stack : List ℕ) (seen : List (List ℕ)) (step : Step) → IsNestedStep stack seen step → IsStepGrounded step → ((s : ℕ) → contains stack s ≡ true → inside s ≡ false) → ((s : ℕ) → length seen ≤ s → inside s ≡ false) → AllTouch inside false (events_of ds step)
 step_touch inside ds stack seen (entering p) k g f n = entering_touch inside false ds p g (open_on inside stack p.chain f k.are_open)

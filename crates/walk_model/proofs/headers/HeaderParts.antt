@@ -1,8 +1,7 @@
 -- Before the last part of a header there is nothing but parts of it, and the name of a function.
-use Rattle.std.proofs.Common.{◌≡◌, ℕ, List, [], ◌∷◌, ◌++◌, Bool, true, false, not, ◌&&◌, ◌||◌, None, take, drop, length, ◌⊎◌, inl, inr, refl, sym, ap, subst, ◌∙◌, ◌==◌, arith}
+use Rattle.std.proofs.Common.{◌≡◌, ℕ, List, [], ◌∷◌, ◌++◌, Bool, true, false, not, ◌&&◌, ◌||◌, None, take, drop, length, ◌⊎◌, inl, inr, refl, sym, ap, subst, ◌∙◌, arith}
 use Rattle.std.specs.List.{list_all, list_any}
-use Rattle.std.proofs.lemmas.Bool.{cases_Bool}
-use Rattle.std.proofs.lemmas.Bool.Decides.{eqb_tells}
+use Rattle.std.proofs.lemmas.Bool.{cases_Bool, eqb-true}
 use Rattle.std.proofs.lemmas.List.{take-append-drop}
 use Rattle.semantic_kinds.specs.Kinds.{same_kind}
 use Rattle.semantic_kinds.specs.Roles.{same_role}
@@ -75,9 +74,6 @@ run_none k r (c ∷ cs) h s =
     let q : is_in_header k c.0 ≡ false = subst (λ m. is_in_header k m ≡ false) (sym (role_is c.0 r (first_holds (same_role c.0 r) _ s))) h in
     ap (λ b. b || heads k cs) q ∙ run_none k r cs h (second_holds (same_role c.0 r) _ s)
 
-is_number : (m n : ℕ) → (m == n) ≡ true → m ≡ n
-is_number m n h = elim (eqb_tells m n) [ inl k ↦ k.1 | inr k ↦ (let w : false ≡ true = sym k.0 ∙ h in absurd cc) ]
-
 or_first_false : (a b : Bool) → (a || b) ≡ false → a ≡ false
 or_first_false true b h = absurd cc
 or_first_false false b h = refl
@@ -88,7 +84,7 @@ or_second_false false b h = h
 
 none_heads : (k : AstType) (ps : List Part) (cs : List (Role × Node)) → fit ps cs ≡ true → part_heads k ps ≡ false → heads k cs ≡ false
 none_heads k [] [] f h = refl
-none_heads k [] (c ∷ cs) f h = let w : length (c ∷ cs) ≡ 0 = is_number (length (c ∷ cs)) 0 f in absurd (omega arith)
+none_heads k [] (c ∷ cs) f h = let w : length (c ∷ cs) ≡ 0 = eqb-true (length (c ∷ cs)) 0 f in absurd (omega arith)
 none_heads k (p ∷ ps) cs f h =
     let n : ℕ = lead p.role cs in
     let own : heads k (take n cs) ≡ false = run_none k p.role (take n cs) (or_first_false (is_in_header k p.role) (part_heads k ps) h) (lead_in_role p.role cs) in
@@ -129,7 +125,7 @@ lead_none k r ps cs f m = elim (cases_Bool (part_heads k ps)) [
 
 fit_ordered : (k : AstType) (ps : List Part) (cs : List (Role × Node)) → good k ps ≡ true → fit ps cs ≡ true → ordered k cs ≡ true
 fit_ordered k [] [] g f = refl
-fit_ordered k [] (c ∷ cs) g f = let w : length (c ∷ cs) ≡ 0 = is_number (length (c ∷ cs)) 0 f in absurd (omega arith)
+fit_ordered k [] (c ∷ cs) g f = let w : length (c ∷ cs) ≡ 0 = eqb-true (length (c ∷ cs)) 0 f in absurd (omega arith)
 fit_ordered k (p ∷ ps) cs g f =
     let n : ℕ = lead p.role cs in
     let rest : fit ps (drop n cs) ≡ true = second_holds _ (fit ps (drop n cs)) f in

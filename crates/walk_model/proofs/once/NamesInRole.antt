@@ -1,17 +1,20 @@
 -- The names that a node binds are those under its one role; the parameter of a catch clause has one pattern, and an enum's member one id.
-use Rattle.std.proofs.Common.{◌≡◌, ℕ, List, [], ◌∷◌, ◌++◌, Bool, true, false, cond, ◌||◌, if◌then◌else◌, flat_map, length, refl, sym, ap, subst, ◌∙◌, ◌==◌, inl, inr, arith}
-use Rattle.std.proofs.lemmas.Bool.Decides.{eqb_tells}
+use Rattle.std.proofs.Common.{◌≡◌, List, [], ◌∷◌, ◌++◌, Bool, true, false, cond, ◌||◌, if◌then◌else◌, flat_map, length, refl, sym, ap, subst, ◌∙◌, arith}
+use Rattle.std.proofs.lemmas.Bool.{eqb-true}
 use Rattle.std.proofs.lemmas.List.{append-nil}
 use Rattle.semantic_kinds.specs.Kinds.{same_kind}
 use Rattle.semantic_kinds.specs.Roles.{same_role}
 use Rattle.semantic_kinds.specs.Parts.{parts}
 use Rattle.semantic_kinds.specs.declared.kind.AstType.{AstType}
 use Rattle.semantic_kinds.specs.declared.kind.AstType.TheVariants as kind
+use Rattle.semantic_kinds.specs.declared.class.Class.TheVariants as class
+use Rattle.semantic_kinds.specs.declared.part.Count.TheVariants as count
+use Rattle.semantic_kinds.specs.declared.part.Part.{Part}
 use Rattle.semantic_kinds.specs.declared.role.Role.{Role}
 use Rattle.semantic_kinds.specs.declared.role.Role.TheVariants as role
 use Rattle.semantic_tree.specs.Forest.{Forest, nothing, tree}
 use Rattle.semantic_tree.specs.Nodes.{nodes_in}
-use Rattle.semantic_tree.specs.Fit.{fit, Fit, AreInRole}
+use Rattle.semantic_tree.specs.Fit.{allows, fit, Fit, AreInRole}
 use Rattle.semantic_tree.specs.declared.node.Node.{Node}
 use Rattle.semantic_tree.proofs.FitLaws.{fit-Fit}
 use Rattle.semantic_tree.specs.Views.{is, is_role_of, children_of}
@@ -60,25 +63,22 @@ one_in r (c ∷ []) rest l e = by (same_role c.0 r)
     by false = subst AtMostOne (sym e) tt
 one_in r (c ∷ d ∷ more) rest l e = absurd (omega (arith, l))
 
-pub is_number : (m n : ℕ) → (m == n) ≡ true → m ≡ n
-is_number m n h = elim (eqb_tells m n) [ inl k ↦ k.1 | inr k ↦ (let w : false ≡ true = sym k.0 ∙ h in absurd cc) ]
+-- of two parts the first of which has one child
+one_of_two : (p q : Part) (cs : List (Role × Node)) → p.count ≡ count.One → same_role q.role p.role ≡ false → fit (p ∷ q ∷ []) cs ≡ true → AtMostOne (nodes_in p.role cs)
+one_of_two p q cs once apart h = by (fit-Fit (p ∷ q ∷ []) cs h)
+  where
+    by : Fit (p ∷ q ∷ []) cs → AtMostOne (nodes_in p.role cs)
+    by (own, rest, is, in_role, run, (more, end, is_more, in_second, fits, last)) =
+        let all : rest ≡ more = is_more ∙ ap (λ l. more ++ l) last ∙ append-nil more in
+        let none : nodes_in p.role rest ≡ [] = ap (nodes_in p.role) all ∙ none_in p.role q.role more in_second apart in
+        let allowed : allows p.count (length own) ≡ true = first_holds (allows p.count (length own)) _ run in
+        let one : length own ≡ 1 = eqb-true (length own) 1 (subst (λ many. allows many (length own) ≡ true) once allowed) in
+        subst (λ l. AtMostOne (nodes_in p.role l)) (sym is) (one_in p.role own rest one none)
 
 -- the parameter of a catch clause has one pattern
 pub one_pattern : (cs : List (Role × Node)) → fit (parts kind.CatchParameter) cs ≡ true → AtMostOne (nodes_in role.Pattern cs)
-one_pattern cs h = by (fit-Fit (parts kind.CatchParameter) cs h)
-  where
-    by : Fit (parts kind.CatchParameter) cs → AtMostOne (nodes_in role.Pattern cs)
-    by (own, rest, is, in_role, run, (more, end, is_more, in_annotation, fits, last)) =
-        let all : rest ≡ more = is_more ∙ ap (λ l. more ++ l) last ∙ append-nil more in
-        let none : nodes_in role.Pattern rest ≡ [] = ap (nodes_in role.Pattern) all ∙ none_in role.Pattern role.Annotation more in_annotation refl in
-        subst (λ l. AtMostOne (nodes_in role.Pattern l)) (sym is) (one_in role.Pattern own rest (is_number (length own) 1 (first_holds (length own == 1) _ run)) none)
+one_pattern cs h = one_of_two (record { role = role.Pattern; count = count.One; class = class.Pattern }) (record { role = role.Annotation; count = count.AtMostOne; class = class.Only kind.TSTypeAnnotation }) cs refl refl h
 
 -- an enum's member has one id
 pub one_id : (cs : List (Role × Node)) → fit (parts kind.TSEnumMember) cs ≡ true → AtMostOne (nodes_in role.Id cs)
-one_id cs h = by (fit-Fit (parts kind.TSEnumMember) cs h)
-  where
-    by : Fit (parts kind.TSEnumMember) cs → AtMostOne (nodes_in role.Id cs)
-    by (own, rest, is, in_role, run, (more, end, is_more, in_initializer, fits, last)) =
-        let all : rest ≡ more = is_more ∙ ap (λ l. more ++ l) last ∙ append-nil more in
-        let none : nodes_in role.Id rest ≡ [] = ap (nodes_in role.Id) all ∙ none_in role.Id role.Initializer more in_initializer refl in
-        subst (λ l. AtMostOne (nodes_in role.Id l)) (sym is) (one_in role.Id own rest (is_number (length own) 1 (first_holds (length own == 1) _ run)) none)
+one_id cs h = one_of_two (record { role = role.Id; count = count.One; class = class.EnumMemberName }) (record { role = role.Initializer; count = count.AtMostOne; class = class.Expression }) cs refl refl h
