@@ -1,5 +1,5 @@
 -- A program has a reference for each identifier reference.
-use Rattle.std.proofs.Common.{◌≡◌, ℕ, suc, ◌+◌, List, [], ◌∷◌, ◌++◌, Option, Some, None, Bool, true, false, cond, length, refl, ap, arith}
+use Rattle.std.proofs.Common.{◌≡◌, ℕ, ◌+◌, List, [], ◌∷◌, ◌++◌, Option, Some, None, Bool, true, false, cond, length, refl, arith}
 use Rattle.std.specs.List.{cons_option}
 use Rattle.std.proofs.lemmas.List.{length-map}
 use Rattle.semantic_kinds.specs.declared.kind.AstType.TheVariants as kind
@@ -14,13 +14,14 @@ use Rattle.semantic_model.specs.Place.{Place, OpenScope}
 use Rattle.semantic_model.specs.Cursor.{on_entering}
 use Rattle.semantic_model.specs.Step.{Step, entering, opening, header_ending, closing, leaving, opening_at, ending_after, opening_last, steps_below, root_place, steps}
 use Rattle.semantic_model.proofs.steps.Turn.{Turn, turn_at, turn_sum}
-use Rattle.semantic_model.specs.Reference.{Occurrence, reference_at, references}
+use Rattle.semantic_model.specs.Reference.{reference_at, references}
 use Rattle.semantic_model.specs.Event.{Event, events}
-use Rattle.semantic_model.specs.Fold.{State, start}
+use Rattle.semantic_model.specs.Fold.{start}
 use Rattle.semantic_model.specs.Hoist.{run}
 use Rattle.semantic_model.specs.Tie.{ties}
 use Rattle.semantic_model.specs.TablesOf.{entry_of, tables_of}
 use Rattle.semantic_model.proofs.steps.TurnCases.{opening_case, ending_case, last_case}
+use Rattle.walk_model.proofs.refers.TrackedReferences.{ties_length}
 use Rattle.semantic_tree.specs.KindCounts.{how_many}
 use Rattle.count_laws.specs.Counted.{is_reference}
 use Rattle.count_laws.specs.Room.{referred_by, in_all}
@@ -68,10 +69,6 @@ entered_below p own n cursor (tree r k span text marks below id after) =
       entered_below turn.child None turn.next turn.inner below,
       entered_below p turn.scope turn.rest turn.past after,
     )
-
-ties_length : (st : State) (es : List Event) (n : ℕ) (rs : List Occurrence) → length (ties st es n rs) ≡ length rs
-ties_length st es n [] = refl
-ties_length st es n (r ∷ rs) = ap suc (ties_length st es (suc n) rs)
 
 -- and the steps of a program
 pub entered_counted : (p : Tree) → in_all referred_by (steps p) ≡ how_many is_reference (single role.Root p.root)

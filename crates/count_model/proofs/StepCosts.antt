@@ -1,5 +1,5 @@
 -- Step by step, what the walk asks and what is left to ask for the references that wait are what the look-ups ask.
-use Rattle.std.proofs.Common.{◌≡◌, ℕ, ◌+◌, ◌≤◌, List, [], ◌∷◌, ◌++◌, Some, None, Bool, true, false, cond, inl, inr, refl, sym, ap, subst, ◌∙◌, flat_map, length, arith}
+use Rattle.std.proofs.Common.{◌≡◌, ℕ, ◌+◌, List, [], ◌∷◌, ◌++◌, Some, None, Bool, true, false, cond, inl, inr, refl, sym, ap, subst, ◌∙◌, flat_map, length, arith}
 use Rattle.std.specs.Prelude.{slice_get}
 use Rattle.std.specs.List.{AllByRecursion, sum_by, cons_option}
 use Rattle.std.proofs.lemmas.Bool.Decides.{eqb_tells}
@@ -15,7 +15,6 @@ use Rattle.semantic_tree.specs.Views.{is}
 use Rattle.semantic_model.specs.Place.{Place, OpenScope, innermost, at}
 use Rattle.semantic_model.specs.Reference.{Occurrence, reference_at, references}
 use Rattle.semantic_model.specs.Declaration.{Declaration}
-use Rattle.semantic_syntax.specs.Members.{contains}
 use Rattle.semantic_model.specs.Step.{Step, entering, opening, header_ending, closing, leaving, steps}
 use Rattle.semantic_model.specs.Event.{Event, ends_header, events_of, events, written_declarations}
 use Rattle.semantic_model.specs.Fold.{State, start}
@@ -34,7 +33,7 @@ use Rattle.walk_model.proofs.declares.Simulated.{program_nested}
 use Rattle.walk_model.proofs.headers.TouchedScopes.{AllTouch}
 use Rattle.walk_model.proofs.opens.LeftByDeclaring.{acts_untouched}
 use Rattle.walk_model.proofs.opens.OpenedScopes.{bare_past, calls_past, entering_declares, opening_declares}
-use Rattle.walk_model.proofs.headers.Headed.{AllLess, awaiting_past, awaiting_after, flags_past, AreHeaded}
+use Rattle.walk_model.proofs.headers.Headed.{awaiting_past, awaiting_after, flags_past, AreHeaded, first_most}
 use Rattle.walk_model.proofs.headers.HeadedProgram.{program_headed, program_awaits}
 use Rattle.walk_model.proofs.headers.Frozen.{Frozen, frozen, between, between_low, between_high, later_touch}
 use Rattle.walk_model.proofs.refers.HeaderEnds.{At, Waits}
@@ -50,14 +49,6 @@ use Rattle.count_model.proofs.EndCosts.{pays_at_end, pays_last}
 from_innermost : (ss : List OpenScope) → scopes_from (innermost ss).number ss ≡ ss
 from_innermost [] = refl
 from_innermost (s ∷ ss) = elim (eqb_tells s.number s.number) [ inl q ↦ rw q.0 refl | inr q ↦ absurd (q.1 refl) ]
-
--- the innermost of the open scopes is the last that was opened
-first_most : (c : ℕ) (cs : List ℕ) (x : ℕ) → AllLess cs c → contains (c ∷ cs) x ≡ true → x ≤ c
-first_most c cs x l h = elim (eqb_tells c x) [ inl q ↦ omega (arith, q.1) | inr q ↦ among cs (rw q.0 at h) l ]
-  where
-    among : (ds : List ℕ) → contains ds x ≡ true → AllLess ds c → x ≤ c
-    among [] k m = absurd cc
-    among (d ∷ ds) k m = elim (eqb_tells d x) [ inl q ↦ omega (arith, q.1, m.0) | inr q ↦ among ds (rw q.0 at k) m.1 ]
 
 module _ (ds : List Declaration) (final : State) (es : List Event) (final_is : final ≡ run start es) (whole : List Occurrence) where
   -- how many scopes are left to ask

@@ -2,4 +2,5 @@
 pub mod Clauses
 pub mod PartsHold
 pub mod ParameterShape
+pub mod ParameterChains
 pub mod Shape

@@ -1,14 +1,13 @@
 -- Lemmas on forests.
 use Rattle.std.proofs.Common.{◌≡◌, ℕ, ◌+◌, ◌<◌, ◌≤◌, List, [], ◌∷◌, ◌++◌, length, take, drop, get_or, refl, ap, sym, arith, add-zero}
 use Rattle.std.proofs.Math.ListN.{set, drop_of_length-le}
-use Rattle.std.proofs.Math.Seq.{drop-cons}
-use Rattle.std.proofs.Math.Numerals.{add-one}
 use Rattle.std.proofs.lemmas.List.{take_more_set, drop-set-lt, take_all}
 use Rattle.semantic_tree.specs.Forest.{Forest, nothing, tree, count, join, numbered}
 use Rattle.semantic_tree.specs.Children.{forest_of, single, node_count, numbered_node}
 use Rattle.semantic_tree.specs.Nodes.{trees}
 use Rattle.semantic_kinds.specs.declared.role.Role.{Role}
 use Rattle.semantic_tree.specs.declared.node.Node.{Node}
+use Rattle.semantic_tree.proofs.Fits.{drop_here}
 
 pub forest_of-append : (xs ys : List (Role × Node)) → forest_of (xs ++ ys) ≡ join (forest_of xs) (forest_of ys)
 forest_of-append [] ys = refl
@@ -39,9 +38,6 @@ pub join_nothing : (f : Forest) → join f nothing ≡ f
 join_nothing nothing = refl
 join_nothing (tree role kind span text marks below id after) =
     ap (λ f. tree role kind span text marks below id f) (join_nothing after)
-
-pub drop_here : {A : Type 0} (items : List A) (i : ℕ) (here : A) → i < length items → here ≡ get_or items i here → drop i items ≡ here ∷ drop (i + 1) items
-drop_here items i here h e = rw (drop-cons items i here h, ← e, add-one) refl
 
 -- a child in its place gets its numbers, and the rest begins after them
 pub number_turn : (items : List (Role × Node)) (i next : ℕ) (role : Role) (node : Node) → i < length items → (role, node) ≡ get_or items i (role, node) → join (forest_of (take (i + 1) (set items i (role, numbered_node next node)))) (numbered (next + node_count node) (forest_of (drop (i + 1) (set items i (role, numbered_node next node))))) ≡ join (forest_of (take i items)) (numbered next (forest_of (drop i items)))

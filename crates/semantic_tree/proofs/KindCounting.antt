@@ -11,7 +11,7 @@ use Rattle.semantic_tree.specs.Renamed.{renamed, setting_below}
 use Rattle.semantic_tree.specs.KindCounts.{kind_count}
 use Rattle.semantic_tree.specs.declared.node.Node.{Node}
 use Rattle.semantic_tree.specs.declared.swap.Setting.{Setting}
-use Rattle.semantic_tree.proofs.Forests.{drop_here}
+use Rattle.semantic_tree.proofs.Fits.{drop_here}
 
 -- one more at a place
 pub counted_at : (counts : List ℕ) (i k : ℕ) → i < length counts → get_or (slice_set counts i (get_or counts i 0 + 1)) k 0 ≡ get_or counts k 0 + cond (eqb k i) 1 0

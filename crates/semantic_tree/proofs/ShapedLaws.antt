@@ -87,15 +87,15 @@ comments_pass source last i (c ∷ cs) (sound, after, rest) =
     rw (sound, later) (comments_pass source c.span.end (i + 1) cs rest)
 
 -- faults one after another
-or_first : (a b : Option TreeError) → or_fault a b ≡ None → a ≡ None
+pub or_first : (a b : Option TreeError) → or_fault a b ≡ None → a ≡ None
 or_first None b h = refl
 or_first (Some e) b h = h
 
-or_second : (a b : Option TreeError) → or_fault a b ≡ None → b ≡ None
+pub or_second : (a b : Option TreeError) → or_fault a b ≡ None → b ≡ None
 or_second None b h = h
 or_second (Some e) b h = absurd (some_is_not_none e h)
 
-map_none : {A : Type 0} (f : A → TreeError) (o : Option A) → option_map f o ≡ None → o ≡ None
+pub map_none : {A : Type 0} (f : A → TreeError) (o : Option A) → option_map f o ≡ None → o ≡ None
 map_none f None h = refl
 map_none f (Some x) h = absurd (some_is_not_none (f x) h)
 

@@ -1,31 +1,26 @@
 -- Each place of a program in a catch clause's own scope is followed by the take-over of that scope.
-use Rattle.std.proofs.Common.{◌≡◌, ℕ, List, [], ◌∷◌, ◌++◌, Option, Some, None, Bool, true, false, cond, ◌&&◌, ◌||◌, not, ◌⊎◌, inl, inr, refl, sym, ap, subst, ◌∙◌, append_assoc}
-use Rattle.std.proofs.lemmas.Bool.{cases_Bool, not-true}
+use Rattle.std.proofs.Common.{◌≡◌, ℕ, List, [], ◌∷◌, ◌++◌, Option, Some, None, Bool, true, false, cond, ◌&&◌, inl, inr, refl, sym, ap, subst, ◌∙◌, append_assoc}
+use Rattle.std.proofs.lemmas.Bool.{cases_Bool}
 use Rattle.semantic_tree.specs.Forest.{Forest, nothing, tree}
 use Rattle.semantic_tree.specs.Tree.{Tree}
 use Rattle.semantic_tree.specs.declared.node.Node.{Node}
 use Rattle.semantic_kinds.specs.Kinds.{same_kind}
 use Rattle.semantic_kinds.specs.Roles.{same_role}
-use Rattle.semantic_kinds.specs.Classes.{holds_kind}
-use Rattle.semantic_kinds.specs.declared.kind.AstType.{AstType}
 use Rattle.semantic_kinds.specs.declared.kind.AstType.TheVariants as kind
 use Rattle.semantic_kinds.specs.declared.role.Role.{Role}
 use Rattle.semantic_kinds.specs.declared.role.Role.TheVariants as role
 use Rattle.semantic_tree.specs.Views.{is}
 use Rattle.semantic_model.specs.Place.{Place, OpenScope, innermost, outside}
-use Rattle.semantic_model.specs.Inside.{is_inside, is_in_header, is_parameter_decorator}
+use Rattle.semantic_model.specs.Inside.{is_inside, is_in_header}
 use Rattle.semantic_model.specs.ScopeKind.{opened_scope}
 use Rattle.semantic_model.specs.Cursor.{on_entering}
 use Rattle.semantic_model.specs.Step.{Step, entering, leaving, steps_below, steps, root_place, scope_at, child_place, chain_within}
 use Rattle.semantic_model.proofs.steps.Turn.{Turn, turn_at}
 use Rattle.semantic_model.proofs.form.Clauses.{kind_is, first_holds, second_holds, is_nothing, ends_with_block, clauses_end, later_ends}
-use Rattle.semantic_model.proofs.form.ParameterShape.{holds_inside, is_parameter, stands_under, parameters_stand}
-use Rattle.semantic_model.proofs.alone.BodyFollows.{kind_flips, taken_in, taken_later, taken_first, FollowsIn, follows_later, AllFollowed, past_opening, past_last, past_ending, block_opens, body_child, body_comes}
+use Rattle.semantic_model.proofs.form.ParameterShape.{stands_under, parameters_stand}
+use Rattle.semantic_model.proofs.form.ParameterChains.{holds_parameters, is_open_inside, child_within, child_outer}
+use Rattle.semantic_model.proofs.alone.BodyFollows.{taken_in, taken_later, taken_first, FollowsIn, follows_later, AllFollowed, past_opening, past_last, past_ending, block_opens, body_child, body_comes}
 use Rattle.semantic_model.proofs.fold.Orders.{HasForm}
-
--- a list of parameters, or a parameter
-abbrev pub holds_parameters : AstType → Bool
-holds_parameters k = same_kind k kind.FormalParameters || is_parameter k
 
 -- an own scope with a body is a clause's
 abbrev pub OwnFact : Place → Option OpenScope → Type 0
@@ -47,30 +42,6 @@ own_fact p r None n h = go (is_inside p.node.kind r)
 pub record Around (p : Place) (rest : List Step) : Type 0 where
   pub chain : is kind.BlockStatement p.node ≡ false → FollowsIn p.chain rest
   pub outer : holds_parameters p.node.kind ≡ true → FollowsIn (outside p.chain) rest
-
-decorated : (k : AstType) (r : Role) → is_parameter_decorator k r ≡ true → holds_parameters k ≡ true
-decorated k r h = go (cases_Bool (same_kind kind.FormalParameter k)) (first_holds (holds_kind (kind.FormalParameter ∷ kind.FormalParameterRest ∷ []) k) _ h)
-  where
-    or_third : (a b d : Bool) → d ≡ true → (a || (b || d)) ≡ true
-    or_third true b d e = refl
-    or_third false true d e = refl
-    or_third false false d e = e
-
-    or_second : (a b d : Bool) → b ≡ true → (a || (b || d)) ≡ true
-    or_second true b d e = refl
-    or_second false b d e = rw e refl
-
-    last : (a : Bool) → (a || false) ≡ true → a ≡ true
-    last true e = refl
-    last false e = e
-
-    go : (same_kind kind.FormalParameter k ≡ true) ⊎ (same_kind kind.FormalParameter k ≡ false) → (same_kind kind.FormalParameter k || (same_kind kind.FormalParameterRest k || false)) ≡ true → holds_parameters k ≡ true
-    go (inl e) i = or_second (same_kind k kind.FormalParameters) (same_kind k kind.FormalParameter) (same_kind k kind.FormalParameterRest) (kind_flips kind.FormalParameter k e)
-    go (inr e) i = or_third (same_kind k kind.FormalParameters) (same_kind k kind.FormalParameter) (same_kind k kind.FormalParameterRest) (kind_flips kind.FormalParameterRest k (last (same_kind kind.FormalParameterRest k) (rw e at i)))
-
-scope_open : (p : Place) (r : Role) (own : Option OpenScope) (n : ℕ) → is_inside p.node.kind r ≡ true → scope_at p r own n ≡ None → ⊥
-scope_open p r (Some s) n h e = absurd cc
-scope_open p r None n h e = let q : Some (opened_scope p n) ≡ None = rw h at e in absurd cc
 
 block_inside : (p : Place) (r : Role) → is kind.BlockStatement p.node ≡ true → is_inside p.node.kind r ≡ true
 block_inside p r h = subst (λ k. is_inside k r ≡ true) (sym (kind_is p.node.kind kind.BlockStatement h)) refl
@@ -94,55 +65,10 @@ within_follows p r (Some s) ss is_open own around clause = go (is_inside p.node.
     ]
 
 child_follows : (p : Place) (scope : Option OpenScope) (cursor : ℕ) (r : Role) (node : Node) (ss : List Step) → (is_inside p.node.kind r ≡ true → scope ≡ None → ⊥) → OwnFact p scope → Around p ss → (is kind.CatchClause p.node ≡ true → (s : OpenScope) → scope ≡ Some s → taken_in s.number ss ≡ true) → FollowsIn (child_place p scope cursor r node).chain ss
-child_follows p scope cursor r node ss is_open own around clause = go (is_parameter_decorator p.node.kind r) refl
-  where
-    go : (b : Bool) → is_parameter_decorator p.node.kind r ≡ b → FollowsIn (cond b (outside p.chain) (chain_within p r scope)) ss
-    go true e = around.outer (decorated p.node.kind r e)
-    go false e = within_follows p r scope ss is_open own around.chain clause
-
--- a list of parameters stands in a function's own scope
-list_outer : (p : Place) (scope : Option OpenScope) (cursor : ℕ) (r : Role) (node : Node) (ss : List Step) → (is_inside p.node.kind r ≡ true → scope ≡ None → ⊥) → (is kind.BlockStatement p.node ≡ false → FollowsIn p.chain ss) → holds_inside p.node.kind r ≡ true → FollowsIn (outside (child_place p scope cursor r node).chain) ss
-list_outer p scope cursor r node ss is_open around h =
-    let parts : (is_inside p.node.kind r && not (is_parameter_decorator p.node.kind r) && not (same_kind p.node.kind kind.BlockStatement)) ≡ true = first_holds (is_inside p.node.kind r && not (is_parameter_decorator p.node.kind r) && not (same_kind p.node.kind kind.BlockStatement)) (not (same_kind p.node.kind kind.CatchClause)) h in
-    let block : is kind.BlockStatement p.node ≡ false = not-true (same_kind p.node.kind kind.BlockStatement) (second_holds (is_inside p.node.kind r && not (is_parameter_decorator p.node.kind r)) (not (same_kind p.node.kind kind.BlockStatement)) parts) in
-    let two : (is_inside p.node.kind r && not (is_parameter_decorator p.node.kind r)) ≡ true = first_holds (is_inside p.node.kind r && not (is_parameter_decorator p.node.kind r)) (not (same_kind p.node.kind kind.BlockStatement)) parts in
-    let inside : is_inside p.node.kind r ≡ true = first_holds (is_inside p.node.kind r) (not (is_parameter_decorator p.node.kind r)) two in
-    let plain : is_parameter_decorator p.node.kind r ≡ false = not-true (is_parameter_decorator p.node.kind r) (second_holds (is_inside p.node.kind r) (not (is_parameter_decorator p.node.kind r)) two) in
-    rw plain (go scope is_open inside (around block))
-  where
-    go : (o : Option OpenScope) → (is_inside p.node.kind r ≡ true → o ≡ None → ⊥) → is_inside p.node.kind r ≡ true → FollowsIn p.chain ss → FollowsIn (outside (chain_within p r o)) ss
-    go None f i c = absurd (f i refl)
-    go (Some s) f i c = rw i c
-
--- a parameter stands where its list does
-parameter_outer : (p : Place) (scope : Option OpenScope) (cursor : ℕ) (r : Role) (node : Node) (ss : List Step) → same_kind p.node.kind kind.FormalParameters ≡ true → FollowsIn (outside p.chain) ss → FollowsIn (outside (child_place p scope cursor r node).chain) ss
-parameter_outer p scope cursor r node ss h c = subst (λ k. FollowsIn (outside (cond (is_parameter_decorator k r) (outside p.chain) (chain_by k scope))) ss) (sym (kind_is p.node.kind kind.FormalParameters h)) (go scope)
-  where
-    chain_by : AstType → Option OpenScope → List OpenScope
-    chain_by k None = p.chain
-    chain_by k (Some s) = cond (is_inside k r) (record s { in_header = is_in_header k r } ∷ p.chain) p.chain
-
-    go : (o : Option OpenScope) → FollowsIn (outside (chain_by kind.FormalParameters o)) ss
-    go None = c
-    go (Some s) = c
+child_follows p scope cursor r node ss is_open own around clause = child_within (λ chain. FollowsIn chain ss) p scope cursor r node around.outer (within_follows p r scope ss is_open own around.chain clause)
 
 around_later : (p : Place) (xs ys : List Step) → Around p ys → Around p (xs ++ ys)
 around_later p xs ys a = record { chain = λ h. follows_later p.chain xs ys (a.chain h); outer = λ h. follows_later (outside p.chain) xs ys (a.outer h) }
-
-or_same : (a b : Bool) → a ≡ false → (a || b) ≡ true → b ≡ true
-or_same a b e h = rw e at h
-
-or_first : (a b : Bool) → a ≡ true → (a || b) ≡ true
-or_first a b h = rw h refl
-
--- a list or a parameter among the children
-child_outer : (p : Place) (scope : Option OpenScope) (cursor : ℕ) (r : Role) (node : Node) (ss : List Step) → (is_inside p.node.kind r ≡ true → scope ≡ None → ⊥) → Around p ss → stands_under p.node.kind r node.kind ≡ true → holds_parameters node.kind ≡ true → FollowsIn (outside (child_place p scope cursor r node).chain) ss
-child_outer p scope cursor r node ss is_open a s h = elim (cases_Bool (same_kind node.kind kind.FormalParameters)) [
-  | inl e ↦ list_outer p scope cursor r node ss is_open a.chain (rw e at s)
-  | inr e ↦ (let parameter : is_parameter node.kind ≡ true = or_same (same_kind node.kind kind.FormalParameters) (is_parameter node.kind) e h in
-      let under : same_kind p.node.kind kind.FormalParameters ≡ true = rw (e, parameter) at s in
-      parameter_outer p scope cursor r node ss under (a.outer (or_first (same_kind p.node.kind kind.FormalParameters) (is_parameter p.node.kind) under)))
-]
 
 -- the list of steps after a child, in order
 in_turn : (xs ys es ws rest : List Step) (a z : Step) → xs ++ (a ∷ (ys ++ z ∷ [])) ++ es ++ ws ++ rest ≡ xs ++ (a ∷ (ys ++ (z ∷ (es ++ (ws ++ rest)))))
@@ -162,7 +88,7 @@ followed p own n cursor (tree r k span text marks below id after) rest a o c e s
     let node : Node = record { kind = k; span = span; text = text; marks = marks; children = below; node_id = id } in
     let turn : Turn = turn_at p own n cursor r node after in
     let behind : List Step = turn.behind ++ (turn.others ++ rest) in
-    let is_open : is_inside p.node.kind r ≡ true → turn.scope ≡ None → ⊥ = scope_open p r own n in
+    let is_open : is_inside p.node.kind r ≡ true → turn.scope ≡ None → ⊥ = is_open_inside p r own n in
     let o_scope : OwnFact p turn.scope = own_fact p r own n o in
     let e_parts : (clauses_end below && clauses_end after) ≡ true = second_holds (cond (same_kind k kind.CatchClause) (ends_with_block below) true) (clauses_end below && clauses_end after) e in
     let s_parts : (parameters_stand k below && parameters_stand p.node.kind after) ≡ true = second_holds (stands_under p.node.kind r k) (parameters_stand k below && parameters_stand p.node.kind after) s in
@@ -170,7 +96,7 @@ followed p own n cursor (tree r k span text marks below id after) rest a o c e s
     let c_after : is kind.CatchClause p.node ≡ true → is_nothing after ≡ false → ends_with_block after ≡ true = λ i j. clause_after i j in
     let ok_rest : AllFollowed (turn.others ++ rest) = followed p turn.scope turn.rest turn.past after rest a o_scope c_after (second_holds (clauses_end below) (clauses_end after) e_parts) (second_holds (parameters_stand k below) (parameters_stand p.node.kind after) s_parts) h in
     let ok_behind : AllFollowed behind = past_ending p r turn.scope after (turn.others ++ rest) ok_rest in
-    let outer : holds_parameters k ≡ true → FollowsIn (outside turn.child.chain) behind = child_outer p turn.scope cursor r node behind is_open a_behind (first_holds (stands_under p.node.kind r k) (parameters_stand k below && parameters_stand p.node.kind after) s) in
+    let outer : holds_parameters k ≡ true → FollowsIn (outside turn.child.chain) behind = child_outer (λ chain. FollowsIn chain behind) p turn.scope cursor r node is_open (λ e. a_behind.chain) a_behind.outer (first_holds (stands_under p.node.kind r k) (parameters_stand k below && parameters_stand p.node.kind after) s) in
     let c_below : is kind.CatchClause node ≡ true → is_nothing below ≡ false → ends_with_block below ≡ true = λ i j. clause_below (first_holds (cond (same_kind k kind.CatchClause) (ends_with_block below) true) (clauses_end below && clauses_end after) e) i in
     let below_ok : Around turn.child (leaving turn.child ∷ behind) → AllFollowed (turn.below ++ (leaving turn.child ∷ behind)) =
     λ b. followed turn.child None turn.next turn.inner below (leaving turn.child ∷ behind) b tt c_below (first_holds (clauses_end below) (clauses_end after) e_parts) (first_holds (parameters_stand k below) (parameters_stand p.node.kind after) s_parts) ok_behind in

@@ -1,5 +1,5 @@
 -- A program has the form that the laws ask for.
-use Rattle.std.proofs.Common.{◌≡◌, ℕ, zero, suc, ◌≤◌, nat_le, min, ◌+◌, ◌==◌, List, [], ◌∷◌, ◌++◌, length, Option, Some, None, Bool, true, false, cond, ◌&&◌, inl, inr, refl, sym, subst, ◌∙◌, take, drop, if◌then◌else◌, option_map, arith}
+use Rattle.std.proofs.Common.{◌≡◌, ℕ, zero, suc, ◌≤◌, nat_le, min, ◌+◌, ◌==◌, List, [], ◌∷◌, ◌++◌, length, Some, None, Bool, true, false, cond, ◌&&◌, inl, inr, refl, sym, subst, ◌∙◌, take, drop, if◌then◌else◌, option_map, arith}
 use Rattle.std.proofs.lemmas.Bool.{cases_Bool, eqb-true}
 use Rattle.std.proofs.lemmas.Bool.Decides.{leb_tells}
 use Rattle.std.proofs.lemmas.List.{length-take}
@@ -10,11 +10,11 @@ use Rattle.semantic_tree.specs.Nodes.{trees}
 use Rattle.semantic_tree.specs.Fit.{lead, fit, all_of}
 use Rattle.semantic_tree.specs.Place.{root_place, child_place, placed_below, all_placed}
 use Rattle.semantic_tree.specs.Rules.{is_well_formed, is_rooted, keeps_table, stands, names_foreign}
-use Rattle.semantic_tree.specs.Faults.{first_where, is_too_deep, is_misshapen, is_too_large, or_fault, form_fault, first_fault}
+use Rattle.semantic_tree.specs.Faults.{first_where, is_too_deep, is_misshapen, is_too_large, form_fault, first_fault}
 use Rattle.semantic_tree.specs.declared.node.Node.{Node}
 use Rattle.semantic_tree.specs.declared.place.Place.{Place}
-use Rattle.semantic_tree.specs.declared.error.TreeError.{TreeError}
 use Rattle.semantic_tree.specs.declared.error.TreeError.TheVariants.{Shape, TooMany, TooDeep}
+use Rattle.semantic_tree.proofs.ShapedLaws.{or_first, or_second, map_none}
 use Rattle.semantic_kinds.specs.Kinds.{same_kind}
 use Rattle.semantic_kinds.specs.Roles.{same_role}
 use Rattle.semantic_kinds.specs.Parts.{parts}
@@ -149,18 +149,6 @@ forest_parameters place k (tree r k2 span text marks below id after) s h =
     both_hold (stands_under k r k2) (parameters_stand k2 below && parameters_stand k after) (first_holds (stands_under k r k2) (all_stand k (trees after)) s)
     (both_hold (parameters_stand k2 below) (parameters_stand k after) (forest_parameters here k2 below (table_stands k2 below (fit_kept node (table_kept here node q.0))) w.0) (forest_parameters place k after (second_holds (stands_under k r k2) (all_stand k (trees after)) s) w.1))
 
-second_fault : (a b : Option TreeError) → or_fault a b ≡ None → b ≡ None
-second_fault None b h = h
-second_fault (Some e) b h = absurd cc
-
-first_of_faults : (a b : Option TreeError) → or_fault a b ≡ None → a ≡ None
-first_of_faults None b h = refl
-first_of_faults (Some e) b h = absurd cc
-
-none_mapped : (o : Option ℕ) → option_map (λ id. Shape (Some id)) o ≡ None → o ≡ None
-none_mapped None h = refl
-none_mapped (Some id) h = absurd cc
-
 pub none_misshapen : (p : Tree) → first_fault p ≡ None → NoneMisshapen (all_placed p.root)
 none_misshapen p h = go (is_too_large source p.comments p.root) h
   where
@@ -168,7 +156,7 @@ none_misshapen p h = go (is_too_large source p.comments p.root) h
     source = encode_utf8_all p.source
 
     formed : form_fault source p.comments p.root ≡ None → NoneMisshapen (all_placed p.root)
-    formed k = none_mapped (first_where is_misshapen (all_placed p.root)) (first_of_faults (option_map (λ id. Shape (Some id)) (first_where is_misshapen (all_placed p.root))) _ (second_fault (option_map (λ id. TooDeep id) (first_where is_too_deep (all_placed p.root))) _ k))
+    formed k = map_none (λ id. Shape (Some id)) (first_where is_misshapen (all_placed p.root)) (or_first (option_map (λ id. Shape (Some id)) (first_where is_misshapen (all_placed p.root))) _ (or_second (option_map (λ id. TooDeep id) (first_where is_too_deep (all_placed p.root))) _ k))
 
     go : (b : Bool) → (if b then Some TooMany else form_fault source p.comments p.root) ≡ None → NoneMisshapen (all_placed p.root)
     go true k = absurd cc

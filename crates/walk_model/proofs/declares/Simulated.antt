@@ -66,7 +66,7 @@ declares_as n chain w st ds (d ∷ new) g k h =
     let goes : GoesOut chain there = placed_goes chain d.how ds d g.0 in
     declares_as n chain (walk.declare_by there.how w there) (declare_by there.how st there) ds new g.1 k (declare_by_as there.how n chain w st there goes k h)
 
-solid : (n : ℕ) (chain : List OpenScope) → HasVar chain → Descends n chain → Descends n (grounded chain)
+pub solid : (n : ℕ) (chain : List OpenScope) → HasVar chain → Descends n chain → Descends n (grounded chain)
 solid n [] v h = absurd (v refl)
 solid n (s ∷ ss) v h = h
 

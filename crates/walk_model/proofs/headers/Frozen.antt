@@ -28,10 +28,10 @@ use Rattle.semantic_model.proofs.lists.Bounds.{get_below}
 use Rattle.semantic_model.proofs.once.UseLists.{IsBelow}
 use Rattle.semantic_model.proofs.form.Clauses.{kind_is, first_holds}
 use Rattle.walk_model.specs.Walks.{numbers}
-use Rattle.walk_model.proofs.places.Nested.{Descends, AreOpen, IsNestedStep, AreNested, open_past, seen_past}
+use Rattle.walk_model.proofs.places.Nested.{Descends, AreOpen, IsNestedStep, AreNested, open_past, seen_past, seen_longer}
 use Rattle.walk_model.proofs.places.Routes.{grounded, HasVar, entering_goes, opening_goes}
 use Rattle.walk_model.proofs.places.Grounds.{IsGrounded, IsStepGrounded, AllGrounded}
-use Rattle.walk_model.proofs.declares.Simulated.{root_declares_none, body_has_var, first_below}
+use Rattle.walk_model.proofs.declares.Simulated.{solid, root_declares_none, body_has_var, first_below}
 use Rattle.walk_model.proofs.headers.Sides.{IsSided, act_sided}
 use Rattle.walk_model.proofs.headers.OtherSide.{Keeps, AreOnOther, run_keeps, capped, capped_beyond, capped_sided}
 use Rattle.walk_model.proofs.headers.NoStatements.{is_closed}
@@ -201,10 +201,6 @@ taken_new n p s e g k = go (is_catch_body p) refl
         (record { side = false; touches = λ side. (above_not s.number (innermost p.chain).number (omega (arith, l, e)), above_not s.number s.number (omega arith)) }, tt)
     go false q = tt
 
-solid : (n : ℕ) (chain : List OpenScope) → HasVar chain → Descends n chain → Descends n (grounded chain)
-solid n [] v h = absurd (v refl)
-solid n (s ∷ ss) v h = h
-
 solid_on : (inside : ℕ → Bool) (b : Bool) (chain : List OpenScope) → HasVar chain → ChainOn inside b chain → ChainOn inside b (grounded chain)
 solid_on inside b [] v h = absurd (v refl)
 solid_on inside b (s ∷ ss) v h = h
@@ -283,13 +279,6 @@ opening_touch : (inside : ℕ → Bool) (b : Bool) (ds : List Declaration) (p : 
 opening_touch inside b ds p s g h i =
     touch-append inside b (taken_over p s) (declares_all ds (declared_on_opening p s)) (taken_touch inside b p s g h i)
     (declares_touch inside b (s ∷ p.chain) ds (declared_on_opening p s) (opening_goes p.node.kind p s) (i, h))
-
-seen_longer : (seen : List (List ℕ)) (step : Step) → length seen ≤ length (seen_past seen step)
-seen_longer seen (entering p) = omega arith
-seen_longer seen (header_ending p s) = omega arith
-seen_longer seen (closing p s) = omega arith
-seen_longer seen (leaving p) = omega arith
-seen_longer seen (opening p s) = omega (arith, length-append seen (numbers p.chain ∷ []))
 
 pub within_step : (ds : List Declaration) (st : State) (stack : List ℕ) (seen : List (List ℕ)) (step : Step) → IsNestedStep stack seen step → IsStepGrounded step → IsWithin (length seen) st → IsWithin (length (seen_past seen step)) (run st (events_of ds step))
 within_step ds st stack seen (entering p) k g w = within_run (length seen) st (declares_all ds (declared_on_entering p)) (entering_touch (below (length seen)) true ds p g (chain_below (length seen) (length seen) p.chain (omega arith) k.descends)) w

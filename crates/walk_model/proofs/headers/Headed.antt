@@ -80,6 +80,14 @@ abbrev pub AllLess : List ℕ → ℕ → Type 0
 AllLess [] n = Unit {0}
 AllLess (c ∷ cs) n = (c < n) × AllLess cs n
 
+-- the innermost of the open scopes is the last that was opened
+pub first_most : (c : ℕ) (cs : List ℕ) (x : ℕ) → AllLess cs c → contains (c ∷ cs) x ≡ true → x ≤ c
+first_most c cs x l h = elim (eqb_tells c x) [ inl q ↦ omega (arith, q.1) | inr q ↦ among cs (rw q.0 at h) l ]
+  where
+    among : (ds : List ℕ) → contains ds x ≡ true → AllLess ds c → x ≤ c
+    among [] k m = absurd cc
+    among (d ∷ ds) k m = elim (eqb_tells d x) [ inl q ↦ omega (arith, q.1, m.0) | inr q ↦ among ds (rw q.0 at k) m.1 ]
+
 pub record IsHeadedPlace (awaiting fs : List ℕ) (p : Place) : Type 0 where
   pub flagged : AreFlagged fs p.chain
   pub matches : is kind.IdentifierReference p.node ≡ true → AllMatch awaiting p.chain

@@ -17,7 +17,7 @@ use Rattle.semantic_model.specs.Step.{Step, opening, closing, leaving, steps_bel
 use Rattle.semantic_model.proofs.steps.Turn.{Turn, turn_at}
 use Rattle.semantic_model.proofs.form.Clauses.{kind_is, second_holds}
 use Rattle.semantic_model.proofs.steps.Opened.{opened_by_node, openings, none_after, next_opened}
-use Rattle.walk_model.proofs.places.Grounds.{is_open_inside}
+use Rattle.semantic_model.proofs.form.ParameterChains.{is_open_inside}
 use Rattle.walk_model.proofs.places.Shapes.{holds_below}
 use Rattle.walk_model.proofs.headers.NoStatements.{table_closes, place_closes}
 use Rattle.walk_model.proofs.headers.HeaderParts.{is_name, tree_ordered, names_identifier, tree_names, nothing_below}

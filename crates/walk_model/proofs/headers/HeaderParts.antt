@@ -28,7 +28,7 @@ use Rattle.semantic_tree.proofs.FitLaws.{lead_in_role}
 use Rattle.semantic_model.specs.Inside.{header_roles, is_in_header}
 use Rattle.semantic_model.proofs.form.Clauses.{kind_is, role_is, first_holds, second_holds, both_hold}
 use Rattle.semantic_model.proofs.form.Shape.{NoneMisshapen, first_formed, rest_formed, table_kept, fit_kept, none_misshapen}
-use Rattle.walk_model.proofs.places.Shapes.{HoldsPart, HoldParts, holds_below, tree_holds}
+use Rattle.walk_model.proofs.places.Shapes.{HoldsPart, HoldParts, holds_below, tree_holds, only_is}
 
 abbrev pub is_name : AstType → Role → Bool
 is_name k r = same_kind k kind.Function && same_role r role.Id
@@ -171,9 +171,6 @@ all_name : (k : AstType) → list_all (part_names k) (parts k) ≡ true
 unfolding part_names
 all_name kind.Program = refl
 all_name _ = refl
-
-only_is : (k k2 : AstType) (text : List ℕ) → is_of (class.Only k) k2 text ≡ same_kind k2 k
-only_is k k2 text = refl
 
 identifier_class : (c : Class) (k2 : AstType) (text : List ℕ) → is_identifier_class c ≡ true → is_of c k2 text ≡ true → same_kind k2 kind.BindingIdentifier ≡ true
 identifier_class (class.Only k) k2 text e h =

@@ -22,7 +22,7 @@ use Rattle.semantic_tree.specs.declared.node.Node.{Node}
 use Rattle.semantic_tree.specs.declared.place.Place.{Place}
 use Rattle.semantic_model.specs.Inside.{is_in_header, is_parameter_decorator}
 use Rattle.semantic_model.proofs.form.Clauses.{kind_is, first_holds, second_holds}
-use Rattle.walk_model.proofs.places.Shapes.{HoldsPart, HoldParts, holds_below, tree_holds, tree_stands}
+use Rattle.walk_model.proofs.places.Shapes.{HoldsPart, HoldParts, holds_below, tree_holds, tree_stands, only_is}
 
 -- kinds that hold statements, or declare by `var`
 abbrev pub loose_kinds : List AstType
@@ -69,9 +69,6 @@ is_open_class class.ArrowBody = true
 is_open_class class.NamespaceBody = true
 is_open_class (class.Only k) = is_loose k || same_kind k kind.Function
 is_open_class _ = false
-
-only_is : (k k2 : AstType) (text : List ℕ) → is_of (class.Only k) k2 text ≡ same_kind k2 k
-only_is k k2 text = refl
 
 not_any : (k k2 : AstType) → (is_loose k || same_kind k kind.Function) ≡ false → same_kind k2 k ≡ true → is_loose k2 ≡ true → ⊥
 not_any k k2 e h l =

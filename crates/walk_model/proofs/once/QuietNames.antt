@@ -1,7 +1,6 @@
 -- In a tree without a fault the nodes that hand names on to the nodes around them declare nothing themselves.
 use Rattle.std.proofs.Common.{◌≡◌, ℕ, List, [], ◌∷◌, Bool, true, false, not, ◌||◌, None, refl, sym, subst, ◌∙◌}
 use Rattle.std.specs.List.{list_all}
-use Rattle.semantic_kinds.specs.Kinds.{same_kind}
 use Rattle.semantic_kinds.specs.Classes.{is_of, is_pattern}
 use Rattle.semantic_kinds.specs.Parts.{parts}
 use Rattle.semantic_kinds.specs.declared.kind.AstType.{AstType}
@@ -15,7 +14,7 @@ use Rattle.semantic_tree.specs.Faults.{first_fault}
 use Rattle.semantic_tree.specs.Views.{is_role_of}
 use Rattle.semantic_model.specs.Names.{binding_roles}
 use Rattle.semantic_model.proofs.form.Clauses.{kind_is, first_holds, second_holds}
-use Rattle.walk_model.proofs.places.Shapes.{HoldsPart, HoldParts, holds_below, tree_holds}
+use Rattle.walk_model.proofs.places.Shapes.{HoldsPart, HoldParts, holds_below, tree_holds, only_is}
 use Rattle.walk_model.proofs.once.NameTimes.{name_roles}
 
 -- a node of the kind leaves the names that it binds to the node around it, unless it is the rest of a list of parameters
@@ -68,9 +67,6 @@ pattern_quiet k h = by (is_pattern k) h (pattern_table k)
     by : (b : Bool) → b ≡ true → (not b || is_quiet k) ≡ true → is_quiet k ≡ true
     by true e q = q
     by false e q = absurd cc
-
-only_is : (k child : AstType) (text : List ℕ) → is_of (class.Only k) child text ≡ same_kind child k
-only_is k child text = refl
 
 class_quiet : (c : Class) (child : AstType) (text : List ℕ) → is_quiet_class c ≡ true → is_of c child text ≡ true → is_quiet child ≡ true
 class_quiet class.Pattern child text e h = pattern_quiet child h

@@ -28,7 +28,7 @@ use Rattle.walk_model.specs.Settles.{settle, settle_by}
 use Rattle.walk_model.specs.Noted.{with_entry, entries_of}
 use Rattle.walk_model.specs.Walks as walk
 use Rattle.walk_model.proofs.shows.ShownTakeOvers.{Kept, settle_keeps}
-use Rattle.walk_model.proofs.places.Nested.{IsChain, AreOpen, IsNestedStep, AreNested, open_past, open_after, seen_past, seen_after, Extends, get_more}
+use Rattle.walk_model.proofs.places.Nested.{IsChain, AreOpen, IsNestedStep, AreNested, open_past, open_after, seen_past, seen_after, Extends, get_end, get_more}
 use Rattle.walk_model.proofs.places.Routes.{HasVar}
 use Rattle.walk_model.proofs.places.Grounds.{IsGrounded, IsStepGrounded, AllGrounded}
 use Rattle.walk_model.proofs.opens.LeftByDeclaring.{Untouched, AllDeclare, acts_untouched}
@@ -167,12 +167,6 @@ numbered-push i (y ∷ xs) x =
     let n : suc i + length xs ≡ i + length (y ∷ xs) = omega arith in
     ap (λ bs. record { node = y; number = i } ∷ bs) (numbered-push (suc i) xs x ∙ ap (λ m. numbered_from (suc i) xs ++ record { node = x; number = m } ∷ []) n)
 
-get_last : (seen : List (List ℕ)) (x : List ℕ) (n : ℕ) → length seen ≡ n → slice_get (seen ++ x ∷ []) n ≡ Some x
-get_last [] x zero e = refl
-get_last [] x (suc n) e = absurd (omega arith)
-get_last (y ∷ seen) x zero e = absurd (omega arith)
-get_last (y ∷ seen) x (suc n) e = get_last seen x n (omega arith)
-
 pub entries-push : (bs : List Belongs) (b : Belongs) → entries_of (bs ++ b ∷ []) ≡ with_entry (entries_of bs) b
 entries-push bs b = fold-append with_entry [] bs (b ∷ [])
 
@@ -198,7 +192,7 @@ opened stack seen calls bare w p s e f k h =
       parents = map-append (λ x. x.parent) bare (bare_entry p s ∷ []) ∙ (λ i. h.parents i ++ head_number p.chain i ∷ []) ∙ sym (map-append head_of seen (walk.numbers p.chain ∷ []));
       clean = clean-push bare (bare_entry p s) h.clean f;
       linked = all_linked_longer seen new calls longer h.linked;
-      frames = (record { around = walk.numbers p.chain; is = get_last seen (walk.numbers p.chain) s.number (sym e); next = head_open stack p.chain k.are_open; apart = frames_apart seen stack s.number beyond h.frames }, frames_longer seen new stack longer h.frames);
+      frames = (record { around = walk.numbers p.chain; is = get_end seen (walk.numbers p.chain) s.number (sym e); next = head_open stack p.chain k.are_open; apart = frames_apart seen stack s.number beyond h.frames }, frames_longer seen new stack longer h.frames);
       nodes = ap (λ es. with_entry es (record { node = s.opener; number = s.number })) h.nodes
           ∙ sym (entries-push (numbered_from 0 nodes) (record { node = s.opener; number = s.number }))
           ∙ ap (λ n. entries_of (numbered_from 0 nodes ++ record { node = s.opener; number = n } ∷ [])) (sym node_number)

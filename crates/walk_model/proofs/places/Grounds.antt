@@ -1,6 +1,6 @@
 -- Each place below the root stands in some function's scope, or the like.
 use Rattle.std.proofs.Common.{◌≡◌, ℕ, List, [], ◌∷◌, Option, Some, None, Bool, true, false, cond, ◌&&◌, ◌||◌, not, ◌⊎◌, inl, inr, refl, sym, subst, ◌∙◌}
-use Rattle.std.proofs.lemmas.Bool.{cases_Bool, not-true}
+use Rattle.std.proofs.lemmas.Bool.{cases_Bool}
 use Rattle.semantic_tree.specs.Forest.{Forest, nothing, tree}
 use Rattle.semantic_tree.specs.Tree.{Tree}
 use Rattle.semantic_tree.specs.Faults.{first_fault}
@@ -18,7 +18,7 @@ use Rattle.semantic_syntax.specs.Sets.{meets, union}
 use Rattle.semantic_syntax.specs.SourceTypes.{is_module}
 use Rattle.semantic_tree.specs.Views.{has_use_strict}
 use Rattle.semantic_model.specs.Place.{Place, OpenScope, outside, is_strict}
-use Rattle.semantic_model.specs.Inside.{is_inside, is_in_header, is_parameter_decorator}
+use Rattle.semantic_model.specs.Inside.{is_inside, is_in_header}
 use Rattle.semantic_model.specs.ScopeKind.{opened_scope, strict_if}
 use Rattle.semantic_model.specs.Cursor.{on_entering}
 use Rattle.semantic_model.specs.Binder.{is_var}
@@ -26,7 +26,8 @@ use Rattle.semantic_model.specs.Step.{steps_below, steps, opening_at, ending_aft
 use Rattle.semantic_model.proofs.steps.Turn.{Turn, turn_at}
 use Rattle.semantic_model.proofs.steps.EachStep.{each_of_node, each_of_turn}
 use Rattle.semantic_model.proofs.form.Clauses.{kind_is, first_holds, second_holds}
-use Rattle.semantic_model.proofs.form.ParameterShape.{holds_inside, is_parameter, stands_under, parameters_stand}
+use Rattle.semantic_model.proofs.form.ParameterShape.{stands_under, parameters_stand}
+use Rattle.semantic_model.proofs.form.ParameterChains.{holds_parameters, is_open_inside, child_within, child_outer}
 use Rattle.semantic_model.proofs.fold.Orders.{HasForm}
 use Rattle.semantic_model.proofs.form.Shape.{has_form}
 use Rattle.semantic_model.proofs.steps.TurnCases.{opening_case, ending_case, last_case}
@@ -68,9 +69,6 @@ program_parts k = elim (cases_Bool (same_kind k kind.Program)) [
       (λ k2 text h. is_not_list k2 (λ m. is_of (class.Only kind.Directive) m text) refl h, (λ k2 text h. is_not_list k2 (λ m. is_of class.Statement m text) refl h, tt)),
     )
 
-abbrev holds_parameters : AstType → Bool
-holds_parameters k = same_kind k kind.FormalParameters || is_parameter k
-
 opening_grounded : (p : Place) (r : Role) (own : Option OpenScope) (n : ℕ) → IsGrounded p → AllGrounded (opening_at p r own n)
 opening_grounded p r own n g = opening_case AllGrounded p r own n tt (g, tt)
 
@@ -102,11 +100,6 @@ own_var p r None n h = go (is_inside p.node.kind r)
     go true = λ e. root_is_var p n e
     go false = tt
 
--- once a child inside is reached, the scope is open
-pub is_open_inside : (p : Place) (r : Role) (own : Option OpenScope) (n : ℕ) → is_inside p.node.kind r ≡ true → scope_at p r own n ≡ None → ⊥
-is_open_inside p r (Some s) n i e = absurd cc
-is_open_inside p r None n i e = let q : Some (opened_scope p n) ≡ None = rw i at e in absurd cc
-
 deeper_var : (s : OpenScope) (chain : List OpenScope) → HasVar chain ⊎ (is_var s ≡ true) → HasVar (s ∷ chain)
 deeper_var s chain h = go (is_var s) refl h
   where
@@ -129,57 +122,12 @@ within_var p r (Some s) g o i = go (is_inside p.node.kind r) refl g
     go false e (inl g) = g
     go false e (inr g) = let w : true ≡ false = sym (all_inside p.node.kind r g) ∙ e in absurd cc
 
-decorated : (k : AstType) (r : Role) → is_parameter_decorator k r ≡ true → holds_parameters k ≡ true
-decorated kind.FormalParameter r h = refl
-decorated kind.FormalParameterRest r h = refl
-decorated _ r h = absurd cc
-
 child_var : (p : Place) (scope : Option OpenScope) (cursor : ℕ) (r : Role) (node : Node) → IsGrounded p → OwnVar p scope → (is_inside p.node.kind r ≡ true → scope ≡ None → ⊥) → (holds_parameters p.node.kind ≡ true → HasVar (outside p.chain)) → HasVar (child_place p scope cursor r node).chain
-child_var p scope cursor r node g o i outer = go (is_parameter_decorator p.node.kind r) refl
-  where
-    go : (b : Bool) → is_parameter_decorator p.node.kind r ≡ b → HasVar (cond b (outside p.chain) (chain_within p r scope))
-    go true e = outer (decorated p.node.kind r e)
-    go false e = within_var p r scope g o i
+child_var p scope cursor r node g o i outer = child_within HasVar p scope cursor r node outer (within_var p r scope g o i)
 
--- a list of parameters stands in a function's own scope
-list_outer : (p : Place) (scope : Option OpenScope) (cursor : ℕ) (r : Role) (node : Node) → HasVar p.chain → (is_inside p.node.kind r ≡ true → scope ≡ None → ⊥) → holds_inside p.node.kind r ≡ true → HasVar (outside (child_place p scope cursor r node).chain)
-list_outer p scope cursor r node v i h =
-    let three : (is_inside p.node.kind r && not (is_parameter_decorator p.node.kind r) && not (same_kind p.node.kind kind.BlockStatement)) ≡ true = first_holds (is_inside p.node.kind r && not (is_parameter_decorator p.node.kind r) && not (same_kind p.node.kind kind.BlockStatement)) (not (same_kind p.node.kind kind.CatchClause)) h in
-    let two : (is_inside p.node.kind r && not (is_parameter_decorator p.node.kind r)) ≡ true = first_holds (is_inside p.node.kind r && not (is_parameter_decorator p.node.kind r)) (not (same_kind p.node.kind kind.BlockStatement)) three in
-    let inside : is_inside p.node.kind r ≡ true = first_holds (is_inside p.node.kind r) (not (is_parameter_decorator p.node.kind r)) two in
-    let plain : is_parameter_decorator p.node.kind r ≡ false = not-true (is_parameter_decorator p.node.kind r) (second_holds (is_inside p.node.kind r) (not (is_parameter_decorator p.node.kind r)) two) in
-    rw plain (go scope i inside)
-  where
-    go : (o : Option OpenScope) → (is_inside p.node.kind r ≡ true → o ≡ None → ⊥) → is_inside p.node.kind r ≡ true → HasVar (outside (chain_within p r o))
-    go None f k = absurd (f k refl)
-    go (Some s) f k = rw k v
-
--- a parameter stands where its list does
-parameter_outer : (p : Place) (scope : Option OpenScope) (cursor : ℕ) (r : Role) (node : Node) → same_kind p.node.kind kind.FormalParameters ≡ true → HasVar (outside p.chain) → HasVar (outside (child_place p scope cursor r node).chain)
-parameter_outer p scope cursor r node h c = subst (λ k. HasVar (outside (cond (is_parameter_decorator k r) (outside p.chain) (chain_by k scope)))) (sym (kind_is p.node.kind kind.FormalParameters h)) (go scope)
-  where
-    chain_by : AstType → Option OpenScope → List OpenScope
-    chain_by k None = p.chain
-    chain_by k (Some s) = cond (is_inside k r) (record s { in_header = is_in_header k r } ∷ p.chain) p.chain
-
-    go : (o : Option OpenScope) → HasVar (outside (chain_by kind.FormalParameters o))
-    go None = c
-    go (Some s) = c
-
-or_same : (a b : Bool) → a ≡ false → (a || b) ≡ true → b ≡ true
-or_same a b e h = rw e at h
-
-or_first : (a b : Bool) → a ≡ true → (a || b) ≡ true
-or_first a b h = rw h refl
-
-child_outer : (p : Place) (scope : Option OpenScope) (cursor : ℕ) (r : Role) (node : Node) → IsGrounded p → (is_inside p.node.kind r ≡ true → scope ≡ None → ⊥) → (holds_parameters p.node.kind ≡ true → HasVar (outside p.chain))
+child_outer_var : (p : Place) (scope : Option OpenScope) (cursor : ℕ) (r : Role) (node : Node) → IsGrounded p → (is_inside p.node.kind r ≡ true → scope ≡ None → ⊥) → (holds_parameters p.node.kind ≡ true → HasVar (outside p.chain))
     → stands_under p.node.kind r node.kind ≡ true → not_in_program p.node.kind r node.kind node.text ≡ true → holds_parameters node.kind ≡ true → HasVar (outside (child_place p scope cursor r node).chain)
-child_outer p scope cursor r node g i outer s t h = elim (cases_Bool (same_kind node.kind kind.FormalParameters)) [
-  | inl e ↦ list_outer p scope cursor r node (chain_var e g) i (rw e at s)
-  | inr e ↦ (let parameter : is_parameter node.kind ≡ true = or_same (same_kind node.kind kind.FormalParameters) (is_parameter node.kind) e h in
-      let under : same_kind p.node.kind kind.FormalParameters ≡ true = rw (e, parameter) at s in
-      parameter_outer p scope cursor r node under (outer (or_first (same_kind p.node.kind kind.FormalParameters) (is_parameter p.node.kind) under)))
-]
+child_outer_var p scope cursor r node g i outer s t h = child_outer HasVar p scope cursor r node i (λ e block. chain_var e g) outer s h
   where
     chain_var : same_kind node.kind kind.FormalParameters ≡ true → IsGrounded p → HasVar p.chain
     chain_var e (inl v) = v
@@ -201,7 +149,7 @@ grounded_below p own n cursor (tree r k span text marks below id after) g o oute
     each_of_turn IsStepGrounded turn (record {
       before = opening_grounded p r own n g;
       whole = each_of_node IsStepGrounded turn.child turn.below (inl v)
-          (grounded_below turn.child None turn.next turn.inner below (inl v) tt (child_outer p turn.scope cursor r node g i outer s_here t_here) (first_holds (parameters_stand k below) _ s_rest) (first_holds (holds_below not_in_program k below) _ t_rest))
+          (grounded_below turn.child None turn.next turn.inner below (inl v) tt (child_outer_var p turn.scope cursor r node g i outer s_here t_here) (first_holds (parameters_stand k below) _ s_rest) (first_holds (holds_below not_in_program k below) _ t_rest))
           tt;
       behind = ending_grounded p r turn.scope after;
       others = grounded_below p turn.scope turn.rest turn.past after g o_scope outer (second_holds (parameters_stand k below) _ s_rest) (second_holds (holds_below not_in_program k below) _ t_rest);

@@ -43,6 +43,13 @@ seen_past seen (header_ending p s) = seen
 seen_past seen (closing p s) = seen
 seen_past seen (leaving p) = seen
 
+pub seen_longer : (seen : List (List ℕ)) (step : Step) → length seen ≤ length (seen_past seen step)
+seen_longer seen (entering p) = omega arith
+seen_longer seen (header_ending p s) = omega arith
+seen_longer seen (closing p s) = omega arith
+seen_longer seen (leaving p) = omega arith
+seen_longer seen (opening p s) = omega (arith, length-append seen (numbers p.chain ∷ []))
+
 abbrev pub seen_after : List (List ℕ) → List Step → List (List ℕ)
 seen_after seen [] = seen
 seen_after seen (s ∷ more) = seen_after (seen_past seen s) more
@@ -191,7 +198,7 @@ pub record Leads (stack later : List ℕ) (seen : List (List ℕ)) (xs : List St
   pub nested : AreNested stack seen xs
   pub open_is : open_after stack xs ≡ later
 
-get_end : (seen : List (List ℕ)) (x : List ℕ) (n : ℕ) → length seen ≡ n → slice_get (seen ++ x ∷ []) n ≡ Some x
+pub get_end : (seen : List (List ℕ)) (x : List ℕ) (n : ℕ) → length seen ≡ n → slice_get (seen ++ x ∷ []) n ≡ Some x
 get_end [] x zero e = refl
 get_end [] x (suc n) e = absurd (omega arith)
 get_end (y ∷ seen) x zero e = absurd (omega arith)

@@ -1,6 +1,9 @@
 -- What holds of each part of a kind holds of each child in a tree without a fault.
 use Rattle.std.proofs.Common.{◌≡◌, ℕ, List, ◌++◌, Bool, true, ◌&&◌, None, refl}
+use Rattle.semantic_kinds.specs.Kinds.{same_kind}
+use Rattle.semantic_kinds.specs.Classes.{is_of}
 use Rattle.semantic_kinds.specs.Parts.{parts}
+use Rattle.semantic_kinds.specs.declared.class.Class.TheVariants as class
 use Rattle.semantic_kinds.specs.declared.kind.AstType.{AstType}
 use Rattle.semantic_kinds.specs.declared.role.Role.{Role}
 use Rattle.semantic_tree.specs.Forest.{Forest, nothing, tree}
@@ -15,6 +18,9 @@ use Rattle.semantic_model.proofs.form.Clauses.{first_holds, second_holds, both_h
 pub use Rattle.semantic_model.proofs.form.PartsHold.{HoldsPart, HoldParts}
 use Rattle.semantic_model.proofs.form.PartsHold.{hold, fit_holds}
 use Rattle.semantic_model.proofs.form.Shape.{NoneMisshapen, first_formed, rest_formed, table_kept, fit_kept, none_misshapen}
+
+pub only_is : (k child : AstType) (text : List ℕ) → is_of (class.Only k) child text ≡ same_kind child k
+only_is k child text = refl
 
 module _ (q : AstType → Role → AstType → List ℕ → Bool) where
   -- the test holds of each child below a node of the kind

@@ -1,7 +1,6 @@
 -- Each step keeps what is tracked of references.
-use Rattle.std.proofs.Common.{◌≡◌, ℕ, zero, suc, ◌+◌, ◌<◌, ◌≤◌, List, [], ◌∷◌, ◌++◌, Some, Bool, true, false, cond, inl, inr, refl, sym, ap, subst, ◌∙◌, map, flat_map, length, arith}
-use Rattle.std.specs.Prelude.{slice_get, filter}
-use Rattle.std.proofs.lemmas.Bool.Decides.{eqb_tells}
+use Rattle.std.proofs.Common.{◌≡◌, ℕ, suc, ◌+◌, ◌<◌, List, [], ◌∷◌, ◌++◌, Some, Bool, true, false, cond, inl, inr, refl, sym, ap, subst, ◌∙◌, map, flat_map, length, arith}
+use Rattle.std.specs.Prelude.{filter}
 use Rattle.std.proofs.lemmas.Option.{slice_get_within}
 use Rattle.std.proofs.lemmas.List.{length-append, append-nil, map-append}
 use Rattle.semantic_kinds.specs.declared.kind.AstType.TheVariants as kind
@@ -15,7 +14,6 @@ use Rattle.walk_model.proofs.headers.TouchedScopes.{AllTouch}
 use Rattle.semantic_model.specs.Place.{Place, OpenScope, at}
 use Rattle.semantic_model.specs.Reference.{Occurrence, references}
 use Rattle.semantic_model.specs.Declaration.{Declaration}
-use Rattle.semantic_syntax.specs.Members.{contains}
 use Rattle.semantic_model.specs.Step.{Step, entering, opening, header_ending, closing, leaving}
 use Rattle.semantic_model.specs.Event.{Event, ends_header, events_of}
 use Rattle.semantic_model.specs.Fold.{State, start}
@@ -31,12 +29,12 @@ use Rattle.walk_model.specs.Settles.{settle}
 use Rattle.walk_model.specs.Walks as walk
 use Rattle.walk_model.proofs.shows.Represents.{Represents}
 use Rattle.walk_model.proofs.declares.Simulated.{step_as}
-use Rattle.walk_model.proofs.places.Nested.{IsNestedStep, AreNested, open_past, seen_past}
+use Rattle.walk_model.proofs.places.Nested.{IsNestedStep, AreNested, open_past, seen_past, get_end}
 use Rattle.walk_model.proofs.places.Routes.{HasVar}
 use Rattle.walk_model.proofs.places.Grounds.{IsGrounded, AllGrounded}
 use Rattle.walk_model.proofs.opens.LeftByDeclaring.{Untouched, AllDeclare, acts_untouched}
 use Rattle.walk_model.proofs.opens.OpenedScopes.{AreFrames, bare_entry, bare_past, calls_past, scopes_step, entering_declares, opening_declares}
-use Rattle.walk_model.proofs.headers.Headed.{AllLess, less_more, not_among, awaiting_past, flags_past, has_header, IsHeadedStep, AreHeaded}
+use Rattle.walk_model.proofs.headers.Headed.{AllLess, less_more, not_among, awaiting_past, flags_past, has_header, IsHeadedStep, AreHeaded, first_most}
 use Rattle.walk_model.proofs.refers.Settling.{Tracks, Lists, Settled, settle_tracks}
 use Rattle.walk_model.proofs.headers.Frozen.{Frozen, frozen, between, between_low, between_high, sides_step, within_step, later_touch}
 use Rattle.walk_model.proofs.refers.HeaderEnds.{At, Waits}
@@ -99,12 +97,6 @@ module _ (ds : List Declaration) (all : List Tie) (final : State) (es : List Eve
   stack_less seen [] h = tt
   stack_less seen (c ∷ cs) h = (slice_get_within seen c h.0.around h.0.is, stack_less seen cs h.1)
 
-  get_last : (seen : List (List ℕ)) (x : List ℕ) (n : ℕ) → length seen ≡ n → slice_get (seen ++ x ∷ []) n ≡ Some x
-  get_last [] x zero e = refl
-  get_last [] x (suc n) e = absurd (omega arith)
-  get_last (y ∷ seen) x zero e = absurd (omega arith)
-  get_last (y ∷ seen) x (suc n) e = get_last seen x n (omega arith)
-
   root_no_header : (p : Place) → p.node.kind ≡ kind.Program → has_header p ≡ false
   root_no_header p e = ap (λ k. has_role (header_roles k) p.node.children) e ∙ none_of p.node.children
     where
@@ -118,7 +110,7 @@ module _ (ds : List Declaration) (all : List Tie) (final : State) (es : List Eve
     where
       by : (chain : List OpenScope) → p.chain ≡ chain → HasVar chain → IsInner (seen ++ walk.numbers p.chain ∷ []) n
       by [] q v2 = absurd (v2 refl)
-      by (s ∷ ss) q v2 = record { first = s.number; others = walk.numbers ss; is = get_last seen (walk.numbers p.chain) n e ∙ ap (λ c. Some (walk.numbers c)) q }
+      by (s ∷ ss) q v2 = record { first = s.number; others = walk.numbers ss; is = get_end seen (walk.numbers p.chain) n e ∙ ap (λ c. Some (walk.numbers c)) q }
 
   inv_opening : (stack : List ℕ) (seen calls : List (List ℕ)) (bare : List Scope) (awaiting fs : List ℕ) (rs : List Occurrence) (done : List Event) (w : WalkState) (st : State) (p : Place) (s : OpenScope) → length fs ≡ length seen → IsNestedStep stack seen (opening p s) → IsGrounded p → IsHeadedStep awaiting fs (opening p s)
       → Inv all final es stack seen calls bare awaiting fs rs done w st → After stack seen calls bare awaiting fs rs done w st (opening p s)
@@ -178,13 +170,6 @@ module _ (ds : List Declaration) (all : List Tie) (final : State) (es : List Eve
       by : (b : Bool) → filter f (xs ++ ys) ≡ filter f xs ++ filter f ys → cond b (x ∷ filter f (xs ++ ys)) (filter f (xs ++ ys)) ≡ cond b (x ∷ filter f xs) (filter f xs) ++ filter f ys
       by true h = ap (λ l. x ∷ l) h
       by false h = h
-
-  first_most : (c : ℕ) (cs : List ℕ) (x : ℕ) → AllLess cs c → contains (c ∷ cs) x ≡ true → x ≤ c
-  first_most c cs x l h = elim (eqb_tells c x) [ inl q ↦ omega (arith, q.1) | inr q ↦ among cs (rw q.0 at h) l ]
-    where
-      among : (ds : List ℕ) → contains ds x ≡ true → AllLess ds c → x ≤ c
-      among [] k m = absurd cc
-      among (d ∷ ds) k m = elim (eqb_tells d x) [ inl q ↦ omega (arith, q.1, m.0) | inr q ↦ among ds (rw q.0 at k) m.1 ]
 
   -- the end of a header settles what its ties tell
   inv_ending : (around aw : List ℕ) (seen calls : List (List ℕ)) (bare : List Scope) (fs : List ℕ) (rs : List Occurrence) (done : List Event) (w : WalkState) (st : State) (p : Place) (s : OpenScope) (ss : List Step)

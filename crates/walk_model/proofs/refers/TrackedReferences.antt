@@ -19,7 +19,7 @@ use Rattle.semantic_syntax.specs.Lookup as look
 use Rattle.semantic_syntax.specs.Outcome.{Pending}
 use Rattle.semantic_model.specs.TablesOf.{entry_of}
 use Rattle.walk_model.specs.Walks.{numbers}
-use Rattle.walk_model.proofs.places.Nested.{Descends, linked_more, descends_more, IsNestedStep, AreNested, open_past, seen_past}
+use Rattle.walk_model.proofs.places.Nested.{Descends, linked_more, descends_more, IsNestedStep, AreNested, open_past, seen_past, seen_longer}
 use Rattle.walk_model.proofs.headers.Headed.{AllMatch, AllLess, ChainLess, match_more, flagged_later, awaiting_past, flags_past, AreHeaded, has_header}
 use Rattle.walk_model.proofs.refers.Lookups.{in_headers, header_among, not_at}
 use Rattle.walk_model.proofs.refers.Settling.{open_entry, Tracks, none, is_done, is_open, AreNumbered}
@@ -208,13 +208,6 @@ opening_later : (stack : List ℕ) (seen : List (List ℕ)) (c : ℕ) (step : St
 opening_later stack seen c step l k p s e =
     let q : IsNestedStep stack seen (opening p s) = subst (IsNestedStep stack seen) e k in
     let n : s.number ≡ length seen = ap (λ (o : OpenScope). o.number) q.1 in omega arith
-
-seen_longer : (seen : List (List ℕ)) (step : Step) → length seen ≤ length (seen_past seen step)
-seen_longer seen (entering p) = omega arith
-seen_longer seen (header_ending p s) = omega arith
-seen_longer seen (closing p s) = omega arith
-seen_longer seen (leaving p) = omega arith
-seen_longer seen (opening p s) = omega (arith, length-append seen (numbers p.chain ∷ []))
 
 pub none_later : (final : State) (es : List Event) (c k : ℕ) (stack : List ℕ) (seen : List (List ℕ)) (aw fs : List ℕ) (ss : List Step) → AreNested stack seen ss → AreHeaded aw fs ss → c < length seen → contains aw c ≡ false
     → filter (λ t. is_at c (moment t)) (ties final es k (references ss)) ≡ []

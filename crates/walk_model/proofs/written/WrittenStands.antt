@@ -28,7 +28,7 @@ use Rattle.semantic_model.proofs.fold.Orders.{HasForm}
 use Rattle.semantic_model.proofs.form.Shape.{NoneMisshapen, has_form, none_misshapen, first_formed, rest_formed, table_kept, fit_kept}
 use Rattle.semantic_model.proofs.steps.TurnCases.{ending_case}
 use Rattle.walk_model.specs.WrittenNames.{Written, is_written, Openers, openers_at, written_by, written_below, names_written, any_standing}
-use Rattle.walk_model.proofs.places.Grounds.{is_open_inside}
+use Rattle.semantic_model.proofs.form.ParameterChains.{is_open_inside}
 use Rattle.walk_model.proofs.written.OpenersFit.{FitOpeners, IsOwn, own_at, child_fits}
 use Rattle.walk_model.proofs.written.WrittenRows.{or_none, or_assoc, written_inside, is_in, any_in, any_append}
 use Rattle.walk_model.proofs.written.WrittenNodes.{node_written, own_written}
