@@ -3,6 +3,7 @@ use Rattle.std.proofs.Common.{◌≡◌, ℕ, ◌+◌, ◌==◌, ◌<◌, ◌≤
 use Rattle.std.specs.List.{list_any}
 use Rattle.std.specs.List.Sorted.{IsPermutation}
 use Rattle.std.specs.Str.{bytes_eq}
+use Rattle.std.proofs.lemmas.Bool.{and_parts, or_left, or_right}
 use Rattle.std.proofs.lemmas.Bool.Decides.{Decides-eqb, same_from_decides}
 use Rattle.std.proofs.lemmas.Slice.Eq.{bytes_eq-Decides}
 use Rattle.std.proofs.lemmas.List.Elements.{All-cons, All-head, All-tail}
@@ -110,17 +111,6 @@ any-grown names added (key ∷ keys) n x h =
 pub numbered-grown : (names added : List Name) (keys : List (ℕ × ℕ)) → AreNumbered names keys → AreNumbered (names ++ added) keys
 numbered-grown names added keys h k d w = let one : (get_or keys k d).1 < length names = h k d w in omega (arith, one, length-append names added)
 
-and-both : (a b : Bool) → (a && b) ≡ true → (a ≡ true) × (b ≡ true)
-and-both true b h = (refl, h)
-and-both false b h = absurd cc
-
-or-cases : (a b : Bool) → a ≡ true → (a || b) ≡ true
-or-cases a b h = rw h refl
-
-or-later : (a b : Bool) → b ≡ true → (a || b) ≡ true
-or-later true b h = refl
-or-later false b h = h
-
 -- a key that is there already stands for its name
 stands-already : (names : List Name) (keys : List (ℕ × ℕ)) (opener number n : ℕ) (x : Name) → list_any (λ key. opener == key.0 && number == key.1) keys ≡ true
     → is_of names n x (opener, number) ≡ true → list_any (is_of names n x) keys ≡ true
@@ -130,12 +120,12 @@ stands-already names (key ∷ keys) opener number n x h t = go (stands-already n
     go : (list_any (λ k. opener == k.0 && number == k.1) keys ≡ true → is_of names n x (opener, number) ≡ true → list_any (is_of names n x) keys ≡ true)
         → (b : Bool) → (opener == key.0 && number == key.1) ≡ b → (b || list_any (λ k. opener == k.0 && number == k.1) keys) ≡ true → (is_of names n x key || list_any (is_of names n x) keys) ≡ true
     go more true e i =
-        let both = and-both (opener == key.0) (number == key.1) e in
+        let both = and_parts (opener == key.0) (number == key.1) e in
         let first : opener ≡ key.0 = (Decides-eqb opener key.0).0 both.0 in
         let second : number ≡ key.1 = (Decides-eqb number key.1).0 both.1 in
         let same : is_of names n x key ≡ true = ap (λ k. n == k && bytes_eq (name_at names key.1) x) (sym first) ∙ ap (λ k. n == opener && bytes_eq (name_at names k) x) (sym second) ∙ t in
-        or-cases (is_of names n x key) (list_any (is_of names n x) keys) same
-    go more false e i = or-later (is_of names n x key) (list_any (is_of names n x) keys) (more i t)
+        or_left (is_of names n x key) (list_any (is_of names n x) keys) same
+    go more false e i = or_right (is_of names n x key) (list_any (is_of names n x) keys) (more i t)
 
 or-swapped : (a b : Bool) → (a || b) ≡ (b || (a || false))
 or-swapped true true = refl
