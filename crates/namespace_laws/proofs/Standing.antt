@@ -1,20 +1,14 @@
 -- The nodes of a program as statements are known apart by their ids.
 use Rattle.std.proofs.Common.{◌≡◌, ℕ, ◌+◌, ◌<◌, ◌≤◌, List, [], ◌∷◌, ◌⊎◌, inl, inr, ap, sym, ◌∙◌, arith}
-use Rattle.semantic_kinds.specs.declared.kind.AstType.{AstType}
-use Rattle.semantic_kinds.specs.declared.role.Role.{Role}
-use Rattle.semantic_kinds.specs.declared.marks.Marks.{Marks}
-use Rattle.semantic_syntax.specs.declared.spans.Span.{Span}
 use Rattle.semantic_tree.specs.Forest.{Forest, nothing, tree, count, numbered}
 use Rattle.semantic_tree.specs.Children.{node_count}
 use Rattle.semantic_tree.specs.Tree.{IsNumbered}
 use Rattle.semantic_tree.specs.declared.node.Node.{Node}
+use Rattle.semantic_tree.proofs.Forests.{below_same}
 use Rattle.semantic_model.specs.Entries.{Among}
 use Rattle.semantic_model.specs.Namespace.{Item}
 use Rattle.namespace_laws.specs.Statements.{lists_inside, items_below, items_from}
 use Rattle.namespace_laws.proofs.Lists.{among-append}
-
-parts_same : {role : Role} {kind : AstType} {span : Span} {text : List ℕ} {marks : Marks} {b b' : Forest} {n n' : ℕ} {a a' : Forest} → tree role kind span text marks b n a ≡ tree role kind span text marks b' n' a' → (b ≡ b') × (n ≡ n') × (a ≡ a')
-parts_same h = (cc, cc, cc)
 
 record IsWithin (low high : ℕ) (i : Item) : Type 0 where
   from : low ≤ i.node.node_id
@@ -26,7 +20,7 @@ ranged lists nothing m i h a = absurd a
 ranged lists (tree role kind span text marks below id after) m i h a =
     let node : Node = record { kind = kind; span = span; text = text; marks = marks; children = below; node_id = id } in
     let inside : List (List Node) = lists_inside node lists in
-    let (inner, own, rest) = parts_same h in
+    let (inner, own, rest) = below_same h in
     elim (among-append i (record { node = node; lists = lists } ∷ items_below inside below) (items_below lists after) a) [
       | inl b ↦ elim b [
         | inl e ↦ (let same : id ≡ i.node.node_id = ap (λ (x : Item). x.node.node_id) e in record { from = omega (arith, own, same); to = omega (arith, own, same) })
@@ -62,7 +56,7 @@ apart_below lists (tree role kind span text marks below id after) m i j h a b e 
     let node : Node = record { kind = kind; span = span; text = text; marks = marks; children = below; node_id = id } in
     let first : Item = record { node = node; lists = lists } in
     let inside : List (List Node) = lists_inside node lists in
-    let (inner, own, rest) = parts_same h in
+    let (inner, own, rest) = below_same h in
     apart_parts i j first (items_below inside below) (items_below lists after) m (count below) (count after) own
     (λ k a. ranged inside below (m + 1) k inner a)
     (λ k a. ranged lists after (m + 1 + count below) k rest a)

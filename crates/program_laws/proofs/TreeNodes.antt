@@ -2,14 +2,13 @@
 use Rattle.std.proofs.Common.{◌≡◌, ℕ, ◌+◌, ◌<◌, ◌≤◌, List, [], ◌∷◌, ◌++◌, inl, inr, sym, ap, subst, ◌∙◌, arith, if◌then◌else◌, Bool, true, false}
 use Rattle.semantic_kinds.specs.Roles.{same_role}
 use Rattle.semantic_kinds.specs.declared.kind.AstType.{AstType}
-use Rattle.semantic_kinds.specs.declared.marks.Marks.{Marks}
 use Rattle.semantic_kinds.specs.declared.role.Role.{Role}
-use Rattle.semantic_syntax.specs.declared.spans.Span.{Span}
 use Rattle.semantic_tree.specs.Forest.{Forest, nothing, tree, count, numbered}
 use Rattle.semantic_tree.specs.Place.{child_place, placed_below, all_placed}
 use Rattle.semantic_tree.specs.Tree.{IsNumbered}
 use Rattle.semantic_tree.specs.declared.node.Node.{Node}
 use Rattle.semantic_tree.specs.declared.place.Place.{Place}
+use Rattle.semantic_tree.proofs.Forests.{below_same}
 use Rattle.semantic_model.specs.Entries.{Among}
 use Rattle.semantic_tree.specs.Views.{children_of}
 use Rattle.semantic_model.proofs.lists.Members.{among_left, among_right, among_cases}
@@ -35,9 +34,6 @@ placed_in place kind (tree r k span text marks below id after) here x (inr a) =
 pub placed_node : (root : Node) (here : Place) (x : Node) → Among (here, x) (all_placed root) → Among x (nodes_from root)
 placed_node root here x (inl e) = inl (ap (λ q. q.1) e)
 placed_node root here x (inr a) = inr (placed_in _ root.kind root.children here x a)
-
-pub below_same : {role : Role} {kind : AstType} {span : Span} {text : List ℕ} {marks : Marks} {b b' : Forest} {n n' : ℕ} {a a' : Forest} → tree role kind span text marks b n a ≡ tree role kind span text marks b' n' a' → (b ≡ b') × (n ≡ n') × (a ≡ a')
-below_same h = (cc, cc, cc)
 
 -- the ids lie between the first number and the end
 pub ids_between : (n : ℕ) (f : Forest) (x : Node) → numbered n f ≡ f → Among x (nodes_below f) → (n ≤ x.node_id) × (x.node_id < n + count f)

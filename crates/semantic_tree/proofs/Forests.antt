@@ -5,9 +5,16 @@ use Rattle.std.proofs.lemmas.List.{take_more_set, drop-set-lt, take_all}
 use Rattle.semantic_tree.specs.Forest.{Forest, nothing, tree, count, join, numbered}
 use Rattle.semantic_tree.specs.Children.{forest_of, single, node_count, numbered_node}
 use Rattle.semantic_tree.specs.Nodes.{trees}
+use Rattle.semantic_syntax.specs.declared.spans.Span.{Span}
+use Rattle.semantic_kinds.specs.declared.kind.AstType.{AstType}
+use Rattle.semantic_kinds.specs.declared.marks.Marks.{Marks}
 use Rattle.semantic_kinds.specs.declared.role.Role.{Role}
 use Rattle.semantic_tree.specs.declared.node.Node.{Node}
 use Rattle.semantic_tree.proofs.Fits.{drop_here}
+
+-- trees that are equal are equal in their parts
+pub below_same : {role : Role} {kind : AstType} {span : Span} {text : List ℕ} {marks : Marks} {b b' : Forest} {n n' : ℕ} {a a' : Forest} → tree role kind span text marks b n a ≡ tree role kind span text marks b' n' a' → (b ≡ b') × (n ≡ n') × (a ≡ a')
+below_same h = (cc, cc, cc)
 
 pub forest_of-append : (xs ys : List (Role × Node)) → forest_of (xs ++ ys) ≡ join (forest_of xs) (forest_of ys)
 forest_of-append [] ys = refl

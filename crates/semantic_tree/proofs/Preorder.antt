@@ -5,14 +5,13 @@ use Rattle.semantic_kinds.specs.Kinds.{same_kind}
 use Rattle.semantic_kinds.specs.declared.kind.AstType.{AstType}
 use Rattle.semantic_kinds.specs.declared.kind.AstType.TheVariants as kinds
 use Rattle.semantic_kinds.specs.declared.role.Role.{Role}
-use Rattle.semantic_kinds.specs.declared.marks.Marks.{Marks}
-use Rattle.semantic_syntax.specs.declared.spans.Span.{Span}
 use Rattle.semantic_tree.specs.Forest.{Forest, nothing, tree, count, numbered}
 use Rattle.semantic_tree.specs.Children.{numbered_node}
 use Rattle.semantic_tree.specs.Nodes.{trees}
 use Rattle.semantic_tree.specs.Tree.{IsNumbered, IsPreorder}
 use Rattle.semantic_tree.specs.BoundNames.{binds_by, bound_below, bound_names, rising}
 use Rattle.semantic_tree.specs.declared.node.Node.{Node}
+use Rattle.semantic_tree.proofs.Forests.{below_same}
 
 -- the ids rise from the first number, and stay below the second
 abbrev Between : ℕ → ℕ → List Node → Type 0
@@ -69,9 +68,6 @@ names_rise node h =
     let all : rising 0 (bound_below node.kind (numbered (node.node_id + 1) node.children)) ≡ bound_below node.kind (numbered (node.node_id + 1) node.children) =
     all_rise 0 (node.node_id + 1) (node.node_id + 1 + count node.children) (bound_below node.kind (numbered (node.node_id + 1) node.children)) (omega arith) (names_between (node.node_id + 1) node.kind node.children) in
     own_or_below (same_kind node.kind kinds.BindingIdentifier) node (bound_below node.kind node.children) (rw below at all)
-
-below_same : {role : Role} {kind : AstType} {span : Span} {text : List ℕ} {marks : Marks} {b b' : Forest} {n n' : ℕ} {a a' : Forest} → tree role kind span text marks b n a ≡ tree role kind span text marks b' n' a' → (b ≡ b') × (n ≡ n') × (a ≡ a')
-below_same h = (cc, cc, cc)
 
 -- what is numbered from a number on has children that are numbered from their own ids on
 pub child_in_preorder : (f : Forest) (n i : ℕ) (d : Role × Node) → numbered n f ≡ f → i < length (trees f) → IsPreorder (get_or (trees f) i d).1
