@@ -30,13 +30,13 @@ use Rattle.walk_model.proofs.refers.HeaderEnds.{At, Waits, answers_of, descends_
 abbrev pub told_answers : WalkState → Tie → List ℕ → List Asked
 told_answers w t scopes = map (source_answer (source_of w.tables) t.reference.name) scopes
 
--- past the scope of a header's own
+-- what is left to ask past the scope whose header ends
 pub record PastOwn (w : WalkState) (seen : List (List ℕ)) (c : ℕ) (t : Tie) (asked seg : List OpenScope) (own : OpenScope) (tail : List OpenScope) : Type 0 where
   pub chain_is : t.reference.chain ≡ (asked ++ (seg ++ own ∷ [])) ++ tail
   pub linked : AreLinked seen (own ∷ tail)
   pub parent : parent_of w.tables.scopes c ≡ head_of (numbers tail)
 
--- up to the scope of a header's own
+-- what is left to ask up to that scope
 pub record UpToOwn (w : WalkState) (final : State) (es : List Event) (c : ℕ) (t : Tie) (asked left : List OpenScope) (p : Parts c left) : Type 0 where
   pub whole : t.reference.chain ≡ asked ++ (p.seg ++ p.own ∷ p.tail)
   pub none : NoneInHeader p.seg
@@ -94,7 +94,7 @@ module _ (w : WalkState) (st final : State) (es : List Event) (stack : List ℕ)
         alike = all_alike (length seen) w st final es x t.reference.way stack seen calls bare fs (p.seg ++ p.own ∷ []) now_at.shows now_at.scopes now_at.flags (flagged_prefix fs p.seg p.own p.tail f) views;
       }
 
-  -- in the end all that is left
+  -- in the end all that is left is told as it stays
   pub last_alike : (t : Tie) (e : Pending) (h : Waits [] seen fs final es t e) → final ≡ st → AreAlike t.reference.name t.reference.way (told_answers w t (numbers (h.next ∷ h.rest))) (answers_of final es t (h.next ∷ h.rest))
   last_alike t e h fin =
       all_alike (length seen) w st final es t.reference.name t.reference.way stack seen calls bare fs (h.next ∷ h.rest) now_at.shows now_at.scopes now_at.flags h.flagged
