@@ -1,7 +1,7 @@
 -- What the search finds is right for all names from which it starts.
 use Rattle.std.proofs.Common.{◌≡◌, ◌<◌, inl, inr, ℕ, ◌+◌, ◌==◌, List, [], ◌∷◌, Bool, true, false, ◌&&◌, cond, Some, None, refl, sym, ap, subst, ◌∙◌, slice_get, get_or, length, arith, All, nat_lt, eq-eqb}
 use Rattle.std.specs.List.{position, position_or_len}
-use Rattle.std.proofs.lemmas.Bool.{eqb-true}
+use Rattle.std.proofs.lemmas.Bool.{and_parts, eqb-true}
 use Rattle.std.proofs.lemmas.Bool.Decides.{Decides-ltb}
 use Rattle.std.proofs.lemmas.List.Elements.{All-nil, All-cons}
 use Rattle.std.proofs.lemmas.List.Sums.{position_or_len_is}
@@ -27,13 +27,9 @@ use Rattle.link_search.proofs.Ties.{names_of}
 
 -- ---- pairs
 
-both : (x y : Bool) → (x && y) ≡ true → (x ≡ true) × (y ≡ true)
-both true y e = (refl, e)
-both false y e = absurd cc
-
 pairs_same : (p q : Pair) → same_pair p q ≡ true → p ≡ q
 pairs_same p q h =
-    let w : ((p.0 == q.0) ≡ true) × ((p.1 == q.1) ≡ true) = both (p.0 == q.0) (p.1 == q.1) h in
+    let w : ((p.0 == q.0) ≡ true) × ((p.1 == q.1) ≡ true) = and_parts (p.0 == q.0) (p.1 == q.1) h in
     let first : p.0 ≡ q.0 = eqb-true p.0 q.0 w.0 in
     let second : p.1 ≡ q.1 = eqb-true p.1 q.1 w.1 in
     λ i. (first i, second i)

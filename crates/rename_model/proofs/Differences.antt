@@ -1,6 +1,6 @@
 -- The test at each node is the relation, and the search finds the least node at which it fails.
 use Rattle.std.proofs.Common.{◌≡◌, ◌<◌, ◌≤◌, ◌+◌, ℕ, zero, suc, Bool, true, false, ◌&&◌, Option, Some, None, cond, refl, sym, ap, subst, ◌∙◌, inl, inr, ◌⊎◌, arith, eq-eqb}
-use Rattle.std.proofs.lemmas.Bool.{eqb-true, cases_eq}
+use Rattle.std.proofs.lemmas.Bool.{and_parts, eqb-true, cases_eq}
 use Rattle.semantic_tree.specs.Children.{node_count}
 use Rattle.semantic_tree.specs.Tree.{Tree}
 use Rattle.program_names.specs.Analysis.{Analysis, symbol_at, tied_at, analysis_of}
@@ -16,13 +16,9 @@ is_same : (x : Option ℕ) → same_option x x ≡ true
 is_same None = refl
 is_same (Some x) = eq-eqb x x refl
 
-both : (x y : Bool) → (x && y) ≡ true → (x ≡ true) × (y ≡ true)
-both true y e = (refl, e)
-both false y e = absurd cc
-
 same_at : (a b : Analysis) (n : ℕ) → is_same_at a b n ≡ true → SameAt a b n
 same_at a b n e =
-    let w : (same_option (symbol_at a n) (symbol_at b n) ≡ true) × (same_option (tied_at a n) (tied_at b n) ≡ true) = both (same_option (symbol_at a n) (symbol_at b n)) (same_option (tied_at a n) (tied_at b n)) e in
+    let w : (same_option (symbol_at a n) (symbol_at b n) ≡ true) × (same_option (tied_at a n) (tied_at b n) ≡ true) = and_parts (same_option (symbol_at a n) (symbol_at b n)) (same_option (tied_at a n) (tied_at b n)) e in
     record { symbol = same_is (symbol_at a n) (symbol_at b n) w.0; tied = same_is (tied_at a n) (tied_at b n) w.1 }
 
 at_same : (a b : Analysis) (n : ℕ) → SameAt a b n → is_same_at a b n ≡ true
