@@ -1,8 +1,7 @@
 -- In a program without a fault each class ends with its body, and there are no other bodies.
-use Rattle.std.proofs.Common.{◌≡◌, ℕ, List, [], ◌∷◌, ◌++◌, Bool, true, false, not, ◌&&◌, cond, take, drop, length, None, refl, sym, subst, ◌∙◌, inl, inr, ◌==◌, arith}
+use Rattle.std.proofs.Common.{◌≡◌, ℕ, List, [], ◌∷◌, ◌++◌, Bool, true, false, not, ◌&&◌, cond, take, drop, length, None, refl, subst, inl, inr, ◌==◌, arith}
 use Rattle.std.specs.List.{list_all}
-use Rattle.std.proofs.lemmas.Bool.{cases_Bool}
-use Rattle.std.proofs.lemmas.Bool.Decides.{eqb_tells}
+use Rattle.std.proofs.lemmas.Bool.{cases_Bool, eqb-true}
 use Rattle.std.proofs.lemmas.List.{take-append-drop}
 use Rattle.semantic_kinds.specs.Kinds.{same_kind}
 use Rattle.semantic_kinds.specs.Classes.{is_of}
@@ -35,9 +34,6 @@ last_is_body (c ∷ cs) = cond (same_kind c.1.kind kind.ClassBody) (length cs ==
 -- none of the children is a class body
 abbrev none_is_body : List (Role × Node) → Bool
 none_is_body cs = list_all (λ c. not (same_kind c.1.kind kind.ClassBody)) cs
-
-is_number : (m n : ℕ) → (m == n) ≡ true → m ≡ n
-is_number m n h = elim (eqb_tells m n) [ inl k ↦ k.1 | inr k ↦ (let q : false ≡ true = sym k.0 ∙ h in absurd cc) ]
 
 -- no child of the part is a body, or it is that of a class
 takes : Bool → List ℕ → Part → Bool
@@ -90,7 +86,7 @@ runs part ps cs f = (first_holds (is_run part (take (lead part.role cs) cs)) _ f
 
 fit_none : (ps : List Part) (cs : List (Role × Node)) → TakeNone ps → fit ps cs ≡ true → none_is_body cs ≡ true
 fit_none [] [] h f = refl
-fit_none [] (c ∷ cs) h f = let q : length (c ∷ cs) ≡ 0 = is_number (length (c ∷ cs)) 0 f in absurd (omega arith)
+fit_none [] (c ∷ cs) h f = let q : length (c ∷ cs) ≡ 0 = eqb-true (length (c ∷ cs)) 0 f in absurd (omega arith)
 fit_none (p ∷ ps) cs h f =
     let n : ℕ = lead p.role cs in
     let r = runs p ps cs f in
@@ -103,8 +99,8 @@ body_part = record { role = role.Body; count = count.One; class = class.Only kin
 one_body : (xs ys : List (Role × Node)) → (length xs == 1) ≡ true → all_of (class.Only kind.ClassBody) xs ≡ true → (length ys == 0) ≡ true → last_is_body (xs ++ ys) ≡ true
 one_body [] ys n h e = absurd cc
 one_body (x ∷ []) [] n h e = rw (first_holds (same_kind x.1.kind kind.ClassBody) true h) refl
-one_body (x ∷ []) (y ∷ ys) n h e = let q : length (y ∷ ys) ≡ 0 = is_number (length (y ∷ ys)) 0 e in absurd (omega arith)
-one_body (x ∷ y ∷ xs) ys n h e = let q : length (x ∷ y ∷ xs) ≡ 1 = is_number (length (x ∷ y ∷ xs)) 1 n in absurd (omega arith)
+one_body (x ∷ []) (y ∷ ys) n h e = let q : length (y ∷ ys) ≡ 0 = eqb-true (length (y ∷ ys)) 0 e in absurd (omega arith)
+one_body (x ∷ y ∷ xs) ys n h e = let q : length (x ∷ y ∷ xs) ≡ 1 = eqb-true (length (x ∷ y ∷ xs)) 1 n in absurd (omega arith)
 
 fit_last : (ps : List Part) (cs : List (Role × Node)) → TakeNone ps → fit (ps ++ body_part ∷ []) cs ≡ true → last_is_body cs ≡ true
 fit_last [] cs h f =
@@ -135,7 +131,7 @@ last_of (tree r k span text marks below id after) h = by (same_kind k kind.Class
   where
     alone : (f : Forest) → (length (trees f) == 0) ≡ true → is_nothing f ≡ true
     alone nothing e = refl
-    alone (tree r k span text marks below id after) e = let q : length (trees (tree r k span text marks below id after)) ≡ 0 = is_number (length (trees (tree r k span text marks below id after))) 0 e in absurd (omega arith)
+    alone (tree r k span text marks below id after) e = let q : length (trees (tree r k span text marks below id after)) ≡ 0 = eqb-true (length (trees (tree r k span text marks below id after))) 0 e in absurd (omega arith)
 
     by : (b : Bool) → cond b (length (trees after) == 0) (last_is_body (trees after)) ≡ true → (last_is_body (trees after) ≡ true → ends_with_body after ≡ true) → cond b (is_nothing after) (ends_with_body after) ≡ true
     by true e ih = alone after e

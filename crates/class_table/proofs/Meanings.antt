@@ -3,7 +3,8 @@ use Rattle.std.proofs.Common.{◌≡◌, ℕ, ◌+◌, List, [], ◌∷◌, ◌+
 use Rattle.std.specs.List.{list_any}
 use Rattle.std.specs.Map.{lookup}
 use Rattle.std.specs.Str.{bytes_eq}
-use Rattle.std.proofs.lemmas.Bool.{cases_Bool}
+use Rattle.std.proofs.lemmas.Bool.{and_parts, cases_Bool}
+use Rattle.std.proofs.lemmas.Bool.Decides.{same_from_decides}
 use Rattle.std.proofs.lemmas.Slice.Eq.{bytes_eq-Decides}
 use Rattle.indexmap.specs.IndexMap.{insert_entry}
 use Rattle.semantic_syntax.specs.Tables.{Name}
@@ -14,11 +15,6 @@ use Rattle.class_table.specs.Meanings.{Key, Meant, key_eq, key_of, with_more, id
 
 -- equal keys
 
-both : (a b : Bool) → (a && b) ≡ true → (a ≡ true) × (b ≡ true)
-both true true h = (refl, refl)
-both true false h = absurd cc
-both false b h = absurd cc
-
 same_bool : (a b : Bool) → cond b a (not a) ≡ true → a ≡ b
 same_bool true true h = refl
 same_bool true false h = absurd cc
@@ -27,7 +23,7 @@ same_bool false false h = refl
 
 same_key : (k l : Key) → key_eq k l ≡ true → k ≡ l
 same_key k l h =
-    let parts = both (bytes_eq k.0 l.0) _ h in
+    let parts = and_parts (bytes_eq k.0 l.0) _ h in
     λ j. ((bytes_eq-Decides k.0 l.0).0 parts.0 j, same_bool k.1 l.1 parts.1 j)
 
 own_bool : (b : Bool) → cond b b (not b) ≡ true
@@ -37,13 +33,8 @@ own_bool false = refl
 own_key : (k : Key) → key_eq k k ≡ true
 own_key k = ap (λ b. b && cond k.1 k.1 (not k.1)) ((bytes_eq-Decides k.0 k.0).1 refl) ∙ own_bool k.1
 
-same_truth : (b c : Bool) → (b ≡ true → c ≡ true) → (c ≡ true → b ≡ true) → b ≡ c
-same_truth true c f g = sym (f refl)
-same_truth false true f g = g refl
-same_truth false false f g = refl
-
 turned : (k q : Key) → key_eq k q ≡ key_eq q k
-turned k q = same_truth (key_eq k q) (key_eq q k) (λ h. ap (key_eq q) (same_key k q h) ∙ own_key q) (λ h. ap (key_eq k) (same_key q k h) ∙ own_key k)
+turned k q = same_from_decides (key_eq k q) (key_eq q k) (λ h. ap (key_eq q) (same_key k q h) ∙ own_key q, λ h. ap (key_eq k) (same_key q k h) ∙ own_key k) (λ h. h, λ h. h)
 
 -- what is found after one more entry
 
