@@ -1,7 +1,8 @@
 -- In a program without a fault classes have their shape.
 use Rattle.std.proofs.Common.{◌≡◌, ℕ, List, ◌∷◌, ◌++◌, Bool, true, false, not, ◌&&◌, cond, refl, sym, subst, inl, inr, None}
 use Rattle.std.specs.List.{list_all}
-use Rattle.std.proofs.lemmas.Bool.{cases_Bool}
+use Rattle.std.proofs.lemmas.Bool.{cases_Bool, and_from}
+use Rattle.semantic_syntax.proofs.Truth.{and_first, and_second}
 use Rattle.semantic_kinds.specs.Kinds.{same_kind}
 use Rattle.semantic_kinds.specs.Roles.{same_role}
 use Rattle.semantic_kinds.specs.Classes.{is_of}
@@ -21,7 +22,7 @@ use Rattle.semantic_tree.specs.Place.{root_place, child_place, placed_below}
 use Rattle.semantic_tree.specs.Faults.{first_fault}
 use Rattle.semantic_tree.specs.declared.node.Node.{Node}
 use Rattle.semantic_tree.specs.declared.place.Place.{Place}
-use Rattle.semantic_model.proofs.form.Clauses.{kind_is, first_holds, second_holds, both_hold}
+use Rattle.semantic_model.proofs.form.Clauses.{kind_is}
 use Rattle.semantic_model.proofs.form.PartsHold.{hold, passed_hold, fit_holds}
 use Rattle.semantic_model.proofs.form.Shape.{NoneMisshapen, first_formed, rest_formed, table_kept, fit_kept, none_misshapen}
 use Rattle.class_table.specs.Bodies.{end_rightly, all_end_rightly}
@@ -75,7 +76,7 @@ is_own parent r k text = has_own_role parent r k
 own_forest : (parent : AstType) (f : Forest) → hold is_own parent (trees f) ≡ true → have_own_role parent f ≡ true
 own_forest parent nothing h = refl
 own_forest parent (tree r k span text marks below id after) h =
-    both_hold (has_own_role parent r k) (have_own_role parent after) (first_holds (has_own_role parent r k) _ h) (own_forest parent after (second_holds (has_own_role parent r k) _ h))
+    and_from (has_own_role parent r k) (have_own_role parent after) (and_first (has_own_role parent r k) _ h) (own_forest parent after (and_second (has_own_role parent r k) _ h))
 
 -- the children of a node that keeps the table
 kept_own : (k : AstType) (f : Forest) → fit (parts k) (trees f) ≡ true → have_own_role k f ≡ true
@@ -88,13 +89,13 @@ forest_shapes place k (tree r k2 span text marks below id after) h e =
     let here : Place = child_place place k r in
     let q = first_formed (here, node) (placed_below here k2 below ++ placed_below place k after) h in
     let w : NoneMisshapen (placed_below here k2 below) × NoneMisshapen (placed_below place k after) = rest_formed (placed_below here k2 below) (placed_below place k after) q.1 in
-    let ends : end_rightly k2 below ≡ true = first_holds (end_rightly k2 below) _ e in
-    let rest : (all_end_rightly below && all_end_rightly after) ≡ true = second_holds (end_rightly k2 below) _ e in
-    both_hold (is_class_shape k2 below) (are_class_shapes below && are_class_shapes after)
-    (both_hold (end_rightly k2 below) (have_own_role k2 below) ends (kept_own k2 below (fit_kept node (table_kept here node q.0))))
-    (both_hold (are_class_shapes below) (are_class_shapes after)
-    (forest_shapes here k2 below w.0 (first_holds (all_end_rightly below) _ rest))
-    (forest_shapes place k after w.1 (second_holds (all_end_rightly below) _ rest)))
+    let ends : end_rightly k2 below ≡ true = and_first (end_rightly k2 below) _ e in
+    let rest : (all_end_rightly below && all_end_rightly after) ≡ true = and_second (end_rightly k2 below) _ e in
+    and_from (is_class_shape k2 below) (are_class_shapes below && are_class_shapes after)
+    (and_from (end_rightly k2 below) (have_own_role k2 below) ends (kept_own k2 below (fit_kept node (table_kept here node q.0))))
+    (and_from (are_class_shapes below) (are_class_shapes after)
+    (forest_shapes here k2 below w.0 (and_first (all_end_rightly below) _ rest))
+    (forest_shapes place k after w.1 (and_second (all_end_rightly below) _ rest)))
 
 -- the root of a program, and the nodes below it
 pub classes_formed : (p : Tree) → first_fault p ≡ None → (is_class_shape p.root.kind p.root.children ≡ true) × (are_class_shapes p.root.children ≡ true)
@@ -103,7 +104,7 @@ classes_formed p h =
     let q = first_formed (root_place, p.root) (placed_below root_place p.root.kind p.root.children) all in
     let stand = bodies_stand p h in
     let ends : end_rightly p.root.kind p.root.children ≡ true = subst (λ k. end_rightly k p.root.children ≡ true) (sym stand.0) stand.1 in (
-      both_hold (end_rightly p.root.kind p.root.children) (have_own_role p.root.kind p.root.children) ends (kept_own p.root.kind p.root.children (fit_kept p.root (table_kept root_place p.root q.0))),
+      and_from (end_rightly p.root.kind p.root.children) (have_own_role p.root.kind p.root.children) ends (kept_own p.root.kind p.root.children (fit_kept p.root (table_kept root_place p.root q.0))),
       forest_shapes root_place p.root.kind p.root.children q.1 stand.2,
     )
 
@@ -111,7 +112,7 @@ classes_formed p h =
 pub shapes_end : (f : Forest) → are_class_shapes f ≡ true → all_end_rightly f ≡ true
 shapes_end nothing h = refl
 shapes_end (tree r k span text marks below id after) h =
-    let own : is_class_shape k below ≡ true = first_holds (is_class_shape k below) _ h in
-    let rest : (are_class_shapes below && are_class_shapes after) ≡ true = second_holds (is_class_shape k below) _ h in
-    both_hold (end_rightly k below) (all_end_rightly below && all_end_rightly after) (first_holds (end_rightly k below) _ own)
-    (both_hold (all_end_rightly below) (all_end_rightly after) (shapes_end below (first_holds (are_class_shapes below) _ rest)) (shapes_end after (second_holds (are_class_shapes below) _ rest)))
+    let own : is_class_shape k below ≡ true = and_first (is_class_shape k below) _ h in
+    let rest : (are_class_shapes below && are_class_shapes after) ≡ true = and_second (is_class_shape k below) _ h in
+    and_from (end_rightly k below) (all_end_rightly below && all_end_rightly after) (and_first (end_rightly k below) _ own)
+    (and_from (all_end_rightly below) (all_end_rightly after) (shapes_end below (and_first (are_class_shapes below) _ rest)) (shapes_end after (and_second (are_class_shapes below) _ rest)))

@@ -4,6 +4,7 @@ use Rattle.std.specs.Prelude.{filter_map, option_map, ◌&&◌}
 use Rattle.std.specs.Str.{encode_utf8_all}
 use Rattle.std.specs.List.{AllByRecursion, cons_option}
 use Rattle.std.specs.Option.{option_and_then, option_map_or}
+use Rattle.semantic_syntax.proofs.Truth.{and_first}
 use Rattle.semantic_kinds.specs.Kinds.{same_kind}
 use Rattle.semantic_kinds.specs.Roles.{same_role}
 use Rattle.semantic_kinds.specs.declared.kind.AstType.{AstType}
@@ -23,7 +24,6 @@ use Rattle.semantic_tree.proofs.ShapedLaws.{no_fault-IsShaped}
 use Rattle.semantic_model.specs.Element.{Element, element_of, element_with, elements_of}
 use Rattle.semantic_tree.specs.KeyNames.{key_name}
 use Rattle.semantic_tree.specs.Views.{child_of}
-use Rattle.semantic_model.proofs.form.Clauses.{first_holds}
 use Rattle.class_table.specs.Building.{with_body, with_use_under, use_in}
 use Rattle.class_table.specs.Lists.{with_class, with_use}
 use Rattle.class_table.specs.Outward.{parent_in}
@@ -84,7 +84,7 @@ module _ (source : List ℕ) where
   with_sound : (what : ℕ) (member : Node) → HaveGoodSpans source member.children → IfSome (element_with what member) IsSoundElement
   with_sound what member h =
       and_then _ (λ (key : Node). has_good_span source key ≡ true) IsSoundElement
-      (λ key good. of_map _ IsSoundElement (λ name. first_holds (is_sound source key.span) (shows_sign source key.kind key) good) (key_name key))
+      (λ key good. of_map _ IsSoundElement (λ name. and_first (is_sound source key.span) (shows_sign source key.kind key) good) (key_name key))
       (child_of role.Key member) (child_good role.Key member.children h)
 
   unless : (b : Bool) (o : Option Element) → IfSome o IsSoundElement → IfSome (cond b o None) IsSoundElement

@@ -1,14 +1,12 @@
 -- A recursion over a program knows at each place what checks ask.
 use Rattle.std.proofs.Common.{◌≡◌, ℕ, ◌+◌, List, ◌∷◌, None, sym, ap, ◌∙◌}
 use Rattle.std.specs.Str.{encode_utf8_all}
-use Rattle.semantic_syntax.specs.declared.spans.Span.{Span}
-use Rattle.semantic_kinds.specs.declared.marks.Marks.{Marks}
-use Rattle.semantic_kinds.specs.declared.kind.AstType.{AstType}
 use Rattle.semantic_kinds.specs.declared.role.Role.{Role}
 use Rattle.semantic_tree.specs.Faults.{first_fault}
 use Rattle.semantic_tree.specs.Forest.{Forest, tree, count, numbered}
 use Rattle.semantic_tree.specs.Tree.{Tree, IsNumbered, IsPreorder}
 use Rattle.semantic_tree.specs.declared.node.Node.{Node}
+use Rattle.semantic_tree.proofs.Forests.{below_same}
 use Rattle.semantic_tree.proofs.Preorder.{root_in_preorder}
 use Rattle.semantic_model.specs.Place.{Place}
 use Rattle.semantic_model.specs.Step.{root_place}
@@ -21,9 +19,6 @@ use Rattle.check_walk.specs.Ready.{IsReadyAt, IsReadyBetween}
 use Rattle.check_walk.proofs.ClassForm.{classes_formed}
 use Rattle.check_walk.proofs.Conditions.{program_in_source, under_sound, entered_sound, below_sound, left_sound}
 use Rattle.check_walk.proofs.ShownClasses.{begins, comes, turns, child_comes}
-
-below_same : {role : Role} {kind : AstType} {span : Span} {text : List ℕ} {marks : Marks} {b b' : Forest} {n n' : ℕ} {a a' : Forest} → tree role kind span text marks b n a ≡ tree role kind span text marks b' n' a' → (b ≡ b') × (n ≡ n') × (a ≡ a')
-below_same h = (cc, cc, cc)
 
 pub ready_begins : (p : Tree) → first_fault p ≡ None → IsNumbered p.root → (w : WalkState) → HasApart w → IsReadyAt (encode_utf8_all p.source) w begun (root_place p)
 ready_begins p h e w a =

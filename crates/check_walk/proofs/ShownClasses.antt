@@ -2,9 +2,10 @@
 use Rattle.std.proofs.Common.{◌≡◌, ℕ, ◌+◌, ◌<◌, List, [], ◌∷◌, ◌++◌, Bool, true, false, ◌&&◌, not, cond, Option, None, Some, refl, sym, ap, subst, ◌∙◌, map, length, arith, inl, inr, get_or}
 use Rattle.std.specs.List.{AllByRecursion}
 use Rattle.std.specs.Option.{option_map_or}
-use Rattle.std.proofs.lemmas.Bool.{cases_Bool}
+use Rattle.std.proofs.lemmas.Bool.{cases_Bool, and_from}
 use Rattle.std.proofs.lemmas.List.{append-nil, get_or-set_same, get_or_append_left, length-append}
 use Rattle.std.proofs.Math.ListN.{set, length-set}
+use Rattle.semantic_syntax.proofs.Truth.{and_first, and_second}
 use Rattle.semantic_kinds.specs.Kinds.{same_kind}
 use Rattle.semantic_kinds.specs.Roles.{same_role}
 use Rattle.semantic_kinds.specs.declared.kind.AstType.{AstType}
@@ -17,7 +18,7 @@ use Rattle.semantic_tree.specs.Views.{is, children_of}
 use Rattle.semantic_model.specs.Place.{Place}
 use Rattle.semantic_model.specs.Element.{Element, elements_of}
 use Rattle.semantic_model.specs.Class.{Class, PrivateUse, uses_under, uses_below, classes_below}
-use Rattle.semantic_model.proofs.form.Clauses.{kind_is, first_holds, second_holds, both_hold}
+use Rattle.semantic_model.proofs.form.Clauses.{kind_is}
 use Rattle.class_table.specs.Lists.{ClassLists, IsInside, uses_in, with_class, with_use}
 use Rattle.class_table.specs.Building.{with_body, with_use_under, use_in}
 use Rattle.class_table.specs.Bodies.{is_nothing, ends_with_body, has_no_body, end_rightly}
@@ -152,7 +153,7 @@ left_other b p h k = record {
 -- no child is left
 ends_empty : (k : AstType) → is_class_shape k nothing ≡ true → same_kind k kind.Class ≡ false
 ends_empty k h = elim (cases_Bool (same_kind k kind.Class)) [
-  | inl q ↦ (let w : end_rightly k nothing ≡ true = first_holds (end_rightly k nothing) _ h in let e : false ≡ true = rw q at w in absurd cc)
+  | inl q ↦ (let w : end_rightly k nothing ≡ true = and_first (end_rightly k nothing) _ h in let e : false ≡ true = rw q at w in absurd cc)
   | inr q ↦ q
 ]
 
@@ -187,7 +188,7 @@ comes b p shape below h = between (entered_under p.path p.node b) p p.node.child
 
 later_ends : (is_class is_body : Bool) (after : Forest) → is_body ≡ false → cond is_class (cond is_body (is_nothing after) (ends_with_body after)) (not is_body && has_no_body after) ≡ true → cond is_class (ends_with_body after) (has_no_body after) ≡ true
 later_ends true is_body after e h = rw e at h
-later_ends false is_body after e h = second_holds (not is_body) (has_no_body after) h
+later_ends false is_body after e h = and_second (not is_body) (has_no_body after) h
 
 no_role : (r : Role) (is_class is_body : Bool) → is_class ≡ true → is_body ≡ false → cond is_class (cond (same_role r role.Body) is_body (not is_body)) true ≡ true → same_role r role.Body ≡ false
 no_role r is_class is_body c b h = by (same_role r role.Body) (rw (c, b) at h)
@@ -211,23 +212,23 @@ turns_other b p r here after other h =
     let F : Forest = tree r here.kind here.span here.text here.marks here.children here.node_id after in
     let alone : Forest = tree r here.kind here.span here.text here.marks here.children here.node_id nothing in
     let around : List SeenClass = classes_around (p.node ∷ p.path) in
-    let rest : (are_class_shapes here.children && are_class_shapes after) ≡ true = second_holds (is_class_shape k here.children) _ h.below in
+    let rest : (are_class_shapes here.children && are_class_shapes after) ≡ true = and_second (is_class_shape k here.children) _ h.below in
     let ends : end_rightly p.node.kind after ≡ true =
-    later_ends (is kind.Class p.node) (same_kind k kind.ClassBody) after other (first_holds (end_rightly p.node.kind F) (have_own_role p.node.kind F) h.shape) in
-    let roles : have_own_role p.node.kind F ≡ true = second_holds (end_rightly p.node.kind F) (have_own_role p.node.kind F) h.shape in
+    later_ends (is kind.Class p.node) (same_kind k kind.ClassBody) after other (and_first (end_rightly p.node.kind F) (have_own_role p.node.kind F) h.shape) in
+    let roles : have_own_role p.node.kind F ≡ true = and_second (end_rightly p.node.kind F) (have_own_role p.node.kind F) h.shape in
     let shape : is_class_shape p.node.kind after ≡ true =
-    both_hold (end_rightly p.node.kind after) (have_own_role p.node.kind after) ends (second_holds (has_own_role p.node.kind r k) (have_own_role p.node.kind after) roles) in
+    and_from (end_rightly p.node.kind after) (have_own_role p.node.kind after) ends (and_second (has_own_role p.node.kind r k) (have_own_role p.node.kind after) roles) in
     let none : has_no_body alone ≡ true = rw other refl in
     let formed : are_class_shapes alone ≡ true =
-    both_hold (is_class_shape k here.children) (are_class_shapes here.children && true) (first_holds (is_class_shape k here.children) _ h.below)
-    (both_hold (are_class_shapes here.children) true (first_holds (are_class_shapes here.children) _ rest) refl) in
+    and_from (is_class_shape k here.children) (are_class_shapes here.children && true) (and_first (is_class_shape k here.children) _ h.below)
+    (and_from (are_class_shapes here.children) true (and_first (are_class_shapes here.children) _ rest) refl) in
     let bodies : is kind.Class p.node ≡ true → bodies_of p.node ≡ children_of role.Body after =
     λ e.
     h.bodies e
     ∙ ap (λ c. cond c (here ∷ children_of role.Body after) (children_of role.Body after))
-    (no_role r (is kind.Class p.node) (same_kind k kind.ClassBody) e other (first_holds (has_own_role p.node.kind r k) (have_own_role p.node.kind after) roles)) in
+    (no_role r (is kind.Class p.node) (same_kind k kind.ClassBody) e other (and_first (has_own_role p.node.kind r k) (have_own_role p.node.kind after) roles)) in
     between (left here.kind (noted_below here.kind here.node_id here.children (entered p.node.kind p.node.node_id here b))) p after
-    (walked_in alone p.node.kind p.node.node_id b around none formed h.around) shape (second_holds (are_class_shapes here.children) (are_class_shapes after) rest) bodies
+    (walked_in alone p.node.kind p.node.node_id b around none formed h.around) shape (and_second (are_class_shapes here.children) (are_class_shapes after) rest) bodies
 
 -- a class body is entered in a walk that notes classes
 enters_body : (lists : ClassLists) (current : Option ℕ) (parent : AstType) (node : ℕ) (here : Node) → here.kind ≡ kind.ClassBody
@@ -253,7 +254,7 @@ turns_body b p r here e is body shape below h =
     let own : IsInClasses (noting_in (Some n) first) (class_of p.node here ∷ around) = declared_in lists current around pid es begun_here in
     let us : List PrivateUse = uses_below (current_elements first (Some n)) here.kind f in
     let cs : List Class = classes_below (length first.nodes) (Some n) here.node_id f in
-    let none : has_no_body f ≡ true = subst (λ k. end_rightly k f ≡ true) is (first_holds (end_rightly here.kind f) (have_own_role here.kind f) shape) in
+    let none : has_no_body f ≡ true = subst (λ k. end_rightly k f ≡ true) is (and_first (end_rightly here.kind f) (have_own_role here.kind f) shape) in
     let into : entered p.node.kind pid here b ≡ noting_in (Some n) first =
     ap (entered p.node.kind pid here) (as_noting b h.enabled) ∙ enters_body lists current p.node.kind pid here is in
     let walked : left here.kind (noted_below here.kind here.node_id f (entered p.node.kind pid here b)) ≡ noting_in (Some n) (told first (Some n) us cs) =
@@ -289,15 +290,15 @@ turns b p r here after h = elim (cases_Bool (same_kind here.kind kind.ClassBody)
         → ShowsBetween (left here.kind (noted_below here.kind here.node_id here.children (entered p.node.kind p.node.node_id here b))) p f
     with_body_last nothing k q =
         let F : Forest = tree r here.kind here.span here.text here.marks here.children here.node_id nothing in
-        let ends : end_rightly p.node.kind F ≡ true = first_holds (end_rightly p.node.kind F) (have_own_role p.node.kind F) k.shape in
-        let roles : have_own_role p.node.kind F ≡ true = second_holds (end_rightly p.node.kind F) (have_own_role p.node.kind F) k.shape in
+        let ends : end_rightly p.node.kind F ≡ true = and_first (end_rightly p.node.kind F) (have_own_role p.node.kind F) k.shape in
+        let roles : have_own_role p.node.kind F ≡ true = and_second (end_rightly p.node.kind F) (have_own_role p.node.kind F) k.shape in
         let c = class_around (is kind.Class p.node) nothing (rw q at ends) in
-        let own : same_role r role.Body ≡ true = own_role r (is kind.Class p.node) (same_kind here.kind kind.ClassBody) c.0 q (first_holds (has_own_role p.node.kind r here.kind) true roles) in
-        turns_body b p r here c.0 (kind_is here.kind kind.ClassBody q) (k.bodies c.0 ∙ ap (λ t. cond t (here ∷ []) []) own) (first_holds (is_class_shape here.kind here.children) _ k.below)
-        (first_holds (are_class_shapes here.children) true (second_holds (is_class_shape here.kind here.children) _ k.below)) k.around
+        let own : same_role r role.Body ≡ true = own_role r (is kind.Class p.node) (same_kind here.kind kind.ClassBody) c.0 q (and_first (has_own_role p.node.kind r here.kind) true roles) in
+        turns_body b p r here c.0 (kind_is here.kind kind.ClassBody q) (k.bodies c.0 ∙ ap (λ t. cond t (here ∷ []) []) own) (and_first (is_class_shape here.kind here.children) _ k.below)
+        (and_first (are_class_shapes here.children) true (and_second (is_class_shape here.kind here.children) _ k.below)) k.around
     with_body_last (tree r2 k2 span text marks below id more) k q =
         let F : Forest = tree r here.kind here.span here.text here.marks here.children here.node_id (tree r2 k2 span text marks below id more) in
-        let ends : end_rightly p.node.kind F ≡ true = first_holds (end_rightly p.node.kind F) (have_own_role p.node.kind F) k.shape in
+        let ends : end_rightly p.node.kind F ≡ true = and_first (end_rightly p.node.kind F) (have_own_role p.node.kind F) k.shape in
         let c = class_around (is kind.Class p.node) (tree r2 k2 span text marks below id more) (rw q at ends) in
         let w : false ≡ true = c.1 in absurd cc
 
@@ -305,4 +306,4 @@ turns b p r here after h = elim (cases_Bool (same_kind here.kind kind.ClassBody)
 pub child_comes : (b : ClassTableBuilder) (p : Place) (r : Role) (here : Node) (after : Forest) → ShowsAround b p (tree r here.kind here.span here.text here.marks here.children here.node_id after)
     → (is_class_shape here.kind here.children ≡ true) × (are_class_shapes here.children ≡ true)
 child_comes b p r here after h =
-    (first_holds (is_class_shape here.kind here.children) _ h.below, first_holds (are_class_shapes here.children) (are_class_shapes after) (second_holds (is_class_shape here.kind here.children) _ h.below))
+    (and_first (is_class_shape here.kind here.children) _ h.below, and_first (are_class_shapes here.children) (are_class_shapes after) (and_second (is_class_shape here.kind here.children) _ h.below))

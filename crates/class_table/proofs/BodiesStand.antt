@@ -1,8 +1,9 @@
 -- In a program without a fault each class ends with its body, and there are no other bodies.
 use Rattle.std.proofs.Common.{◌≡◌, ℕ, List, [], ◌∷◌, ◌++◌, Bool, true, false, not, ◌&&◌, cond, take, drop, length, None, refl, subst, inl, inr, ◌==◌, arith}
 use Rattle.std.specs.List.{list_all}
-use Rattle.std.proofs.lemmas.Bool.{cases_Bool, eqb-true}
+use Rattle.std.proofs.lemmas.Bool.{cases_Bool, eqb-true, and_from}
 use Rattle.std.proofs.lemmas.List.{take-append-drop}
+use Rattle.semantic_syntax.proofs.Truth.{and_first, and_second}
 use Rattle.semantic_kinds.specs.Kinds.{same_kind}
 use Rattle.semantic_kinds.specs.Classes.{is_of}
 use Rattle.semantic_kinds.specs.Parts.{parts}
@@ -21,7 +22,7 @@ use Rattle.semantic_tree.specs.Place.{root_place, child_place, placed_below}
 use Rattle.semantic_tree.specs.Faults.{first_fault}
 use Rattle.semantic_tree.specs.declared.node.Node.{Node}
 use Rattle.semantic_tree.specs.declared.place.Place.{Place}
-use Rattle.semantic_model.proofs.form.Clauses.{kind_is, first_holds, second_holds, both_hold}
+use Rattle.semantic_model.proofs.form.Clauses.{kind_is}
 use Rattle.semantic_model.proofs.fold.Orders.{HasForm}
 use Rattle.semantic_model.proofs.form.Shape.{NoneMisshapen, first_formed, rest_formed, table_kept, fit_kept, none_misshapen, has_form}
 use Rattle.class_table.specs.Bodies.{is_nothing, ends_with_body, has_no_body, end_rightly, all_end_rightly}
@@ -64,17 +65,17 @@ own_none part k text h i = elim (cases_Bool (same_kind k kind.ClassBody)) [
 run_none : (part : Part) (cs : List (Role × Node)) → ((text : List ℕ) → takes false text part ≡ true) → all_of part.class cs ≡ true → none_is_body cs ≡ true
 run_none part [] h i = refl
 run_none part (c ∷ cs) h i =
-    both_hold (not (same_kind c.1.kind kind.ClassBody)) (none_is_body cs)
-    (own_none part c.1.kind c.1.text (h c.1.text) (first_holds (is_of part.class c.1.kind c.1.text) _ i))
-    (run_none part cs h (second_holds (is_of part.class c.1.kind c.1.text) _ i))
+    and_from (not (same_kind c.1.kind kind.ClassBody)) (none_is_body cs)
+    (own_none part c.1.kind c.1.text (h c.1.text) (and_first (is_of part.class c.1.kind c.1.text) _ i))
+    (run_none part cs h (and_second (is_of part.class c.1.kind c.1.text) _ i))
 
 none_append : (xs ys : List (Role × Node)) → none_is_body xs ≡ true → none_is_body ys ≡ true → none_is_body (xs ++ ys) ≡ true
 none_append [] ys h i = i
-none_append (x ∷ xs) ys h i = both_hold (not (same_kind x.1.kind kind.ClassBody)) (none_is_body (xs ++ ys)) (first_holds (not (same_kind x.1.kind kind.ClassBody)) _ h) (none_append xs ys (second_holds (not (same_kind x.1.kind kind.ClassBody)) _ h) i)
+none_append (x ∷ xs) ys h i = and_from (not (same_kind x.1.kind kind.ClassBody)) (none_is_body (xs ++ ys)) (and_first (not (same_kind x.1.kind kind.ClassBody)) _ h) (none_append xs ys (and_second (not (same_kind x.1.kind kind.ClassBody)) _ h) i)
 
 last_append : (xs ys : List (Role × Node)) → none_is_body xs ≡ true → last_is_body ys ≡ true → last_is_body (xs ++ ys) ≡ true
 last_append [] ys h i = i
-last_append (x ∷ xs) ys h i = by (same_kind x.1.kind kind.ClassBody) (first_holds (not (same_kind x.1.kind kind.ClassBody)) _ h) (last_append xs ys (second_holds (not (same_kind x.1.kind kind.ClassBody)) _ h) i)
+last_append (x ∷ xs) ys h i = by (same_kind x.1.kind kind.ClassBody) (and_first (not (same_kind x.1.kind kind.ClassBody)) _ h) (last_append xs ys (and_second (not (same_kind x.1.kind kind.ClassBody)) _ h) i)
   where
     by : (b : Bool) → not b ≡ true → last_is_body (xs ++ ys) ≡ true → cond b (length (xs ++ ys) == 0) (last_is_body (xs ++ ys)) ≡ true
     by false n l = l
@@ -82,7 +83,7 @@ last_append (x ∷ xs) ys h i = by (same_kind x.1.kind kind.ClassBody) (first_ho
 
 -- the first part and those behind it
 runs : (part : Part) (ps : List Part) (cs : List (Role × Node)) → fit (part ∷ ps) cs ≡ true → (is_run part (take (lead part.role cs) cs) ≡ true) × (fit ps (drop (lead part.role cs) cs) ≡ true)
-runs part ps cs f = (first_holds (is_run part (take (lead part.role cs) cs)) _ f, second_holds (is_run part (take (lead part.role cs) cs)) _ f)
+runs part ps cs f = (and_first (is_run part (take (lead part.role cs) cs)) _ f, and_second (is_run part (take (lead part.role cs) cs)) _ f)
 
 fit_none : (ps : List Part) (cs : List (Role × Node)) → TakeNone ps → fit ps cs ≡ true → none_is_body cs ≡ true
 fit_none [] [] h f = refl
@@ -91,14 +92,14 @@ fit_none (p ∷ ps) cs h f =
     let n : ℕ = lead p.role cs in
     let r = runs p ps cs f in
     subst (λ xs. none_is_body xs ≡ true) (take-append-drop n cs)
-    (none_append (take n cs) (drop n cs) (run_none p (take n cs) (λ text. first_holds (takes false text p) _ (h text)) (second_holds _ (all_of p.class (take n cs)) r.0)) (fit_none ps (drop n cs) (λ text. second_holds (takes false text p) _ (h text)) r.1))
+    (none_append (take n cs) (drop n cs) (run_none p (take n cs) (λ text. and_first (takes false text p) _ (h text)) (and_second _ (all_of p.class (take n cs)) r.0)) (fit_none ps (drop n cs) (λ text. and_second (takes false text p) _ (h text)) r.1))
 
 abbrev body_part : Part
 body_part = record { role = role.Body; count = count.One; class = class.Only kind.ClassBody }
 
 one_body : (xs ys : List (Role × Node)) → (length xs == 1) ≡ true → all_of (class.Only kind.ClassBody) xs ≡ true → (length ys == 0) ≡ true → last_is_body (xs ++ ys) ≡ true
 one_body [] ys n h e = absurd cc
-one_body (x ∷ []) [] n h e = rw (first_holds (same_kind x.1.kind kind.ClassBody) true h) refl
+one_body (x ∷ []) [] n h e = rw (and_first (same_kind x.1.kind kind.ClassBody) true h) refl
 one_body (x ∷ []) (y ∷ ys) n h e = let q : length (y ∷ ys) ≡ 0 = eqb-true (length (y ∷ ys)) 0 e in absurd (omega arith)
 one_body (x ∷ y ∷ xs) ys n h e = let q : length (x ∷ y ∷ xs) ≡ 1 = eqb-true (length (x ∷ y ∷ xs)) 1 n in absurd (omega arith)
 
@@ -107,12 +108,12 @@ fit_last [] cs h f =
     let n : ℕ = lead role.Body cs in
     let r = runs body_part [] cs f in
     subst (λ xs. last_is_body xs ≡ true) (take-append-drop n cs)
-    (one_body (take n cs) (drop n cs) (first_holds (length (take n cs) == 1) _ r.0) (second_holds (length (take n cs) == 1) (all_of (class.Only kind.ClassBody) (take n cs)) r.0) r.1)
+    (one_body (take n cs) (drop n cs) (and_first (length (take n cs) == 1) _ r.0) (and_second (length (take n cs) == 1) (all_of (class.Only kind.ClassBody) (take n cs)) r.0) r.1)
 fit_last (p ∷ ps) cs h f =
     let n : ℕ = lead p.role cs in
     let r = runs p (ps ++ body_part ∷ []) cs f in
     subst (λ xs. last_is_body xs ≡ true) (take-append-drop n cs)
-    (last_append (take n cs) (drop n cs) (run_none p (take n cs) (λ text. first_holds (takes false text p) _ (h text)) (second_holds _ (all_of p.class (take n cs)) r.0)) (fit_last ps (drop n cs) (λ text. second_holds (takes false text p) _ (h text)) r.1))
+    (last_append (take n cs) (drop n cs) (run_none p (take n cs) (λ text. and_first (takes false text p) _ (h text)) (and_second _ (all_of p.class (take n cs)) r.0)) (fit_last ps (drop n cs) (λ text. and_second (takes false text p) _ (h text)) r.1))
 
 -- without the last one
 abbrev before_last : List Part → List Part
@@ -140,7 +141,7 @@ last_of (tree r k span text marks below id after) h = by (same_kind k kind.Class
 none_of : (f : Forest) → none_is_body (trees f) ≡ true → has_no_body f ≡ true
 none_of nothing h = refl
 none_of (tree r k span text marks below id after) h =
-    both_hold (not (same_kind k kind.ClassBody)) (has_no_body after) (first_holds (not (same_kind k kind.ClassBody)) _ h) (none_of after (second_holds (not (same_kind k kind.ClassBody)) _ h))
+    and_from (not (same_kind k kind.ClassBody)) (has_no_body after) (and_first (not (same_kind k kind.ClassBody)) _ h) (none_of after (and_second (not (same_kind k kind.ClassBody)) _ h))
 
 -- the children of a node that keeps the table
 own_end : (k : AstType) (f : Forest) → fit (parts k) (trees f) ≡ true → end_rightly k f ≡ true
@@ -156,8 +157,8 @@ forest_ends place k (tree r k2 span text marks below id after) h =
     let here : Place = child_place place k r in
     let q = first_formed (here, node) (placed_below here k2 below ++ placed_below place k after) h in
     let w : NoneMisshapen (placed_below here k2 below) × NoneMisshapen (placed_below place k after) = rest_formed (placed_below here k2 below) (placed_below place k after) q.1 in
-    both_hold (end_rightly k2 below) (all_end_rightly below && all_end_rightly after) (own_end k2 below (fit_kept node (table_kept here node q.0)))
-    (both_hold (all_end_rightly below) (all_end_rightly after) (forest_ends here k2 below w.0) (forest_ends place k after w.1))
+    and_from (end_rightly k2 below) (all_end_rightly below && all_end_rightly after) (own_end k2 below (fit_kept node (table_kept here node q.0)))
+    (and_from (all_end_rightly below) (all_end_rightly after) (forest_ends here k2 below w.0) (forest_ends place k after w.1))
 
 -- the program is no class, and below it classes end with their bodies
 pub bodies_stand : (p : Tree) → first_fault p ≡ None → (p.root.kind ≡ kind.Program) × (has_no_body p.root.children ≡ true) × (all_end_rightly p.root.children ≡ true)

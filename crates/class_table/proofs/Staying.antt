@@ -1,13 +1,14 @@
 -- A class stays current until its node is left: by the shape nothing comes between that and the end of its body.
 use Rattle.std.proofs.Common.{◌≡◌, ℕ, ◌+◌, Bool, true, false, ◌&&◌, not, cond, Option, Some, length, refl, sym, ap, ◌∙◌, arith, inl, inr}
 use Rattle.std.proofs.lemmas.Bool.{cases_Bool}
+use Rattle.semantic_syntax.proofs.Truth.{and_first, and_second}
 use Rattle.semantic_kinds.specs.Kinds.{same_kind}
 use Rattle.semantic_kinds.specs.declared.kind.AstType.{AstType}
 use Rattle.semantic_kinds.specs.declared.kind.AstType.TheVariants as kind
 use Rattle.semantic_tree.specs.Forest.{Forest, nothing, tree}
 use Rattle.semantic_tree.specs.declared.node.Node.{Node}
 use Rattle.semantic_model.specs.Class.{uses_below, body_count, classes_below}
-use Rattle.semantic_model.proofs.form.Clauses.{kind_is, first_holds, second_holds}
+use Rattle.semantic_model.proofs.form.Clauses.{kind_is}
 use Rattle.class_table.specs.Lists.{ClassLists}
 use Rattle.class_table.specs.Building.{popped}
 use Rattle.class_table.specs.Noted.{noting_in, entered, left, noted_below}
@@ -50,13 +51,13 @@ agrees (tree r k span text marks below id after) h parent node b =
     let into : ClassTableBuilder = entered parent node here b in
     let X : ClassTableBuilder = noted_below k id below into in
     let Y : ClassTableBuilder = noted_bodies k id below into in
-    let own : end_rightly k below ≡ true = first_holds (end_rightly k below) _ h in
-    let rest : (all_end_rightly below && all_end_rightly after) ≡ true = second_holds (end_rightly k below) _ h in
-    let step : left k X ≡ Y = tree_left k id below into (agrees below (first_holds (all_end_rightly below) _ rest)) own in
-    let later = agrees after (second_holds (all_end_rightly below) _ rest) parent node (left k X) in
+    let own : end_rightly k below ≡ true = and_first (end_rightly k below) _ h in
+    let rest : (all_end_rightly below && all_end_rightly after) ≡ true = and_second (end_rightly k below) _ h in
+    let step : left k X ≡ Y = tree_left k id below into (agrees below (and_first (all_end_rightly below) _ rest)) own in
+    let later = agrees after (and_second (all_end_rightly below) _ rest) parent node (left k X) in
     let same : (c : Bool) → same_kind k kind.ClassBody ≡ c → left_body k Y ≡ cond c (popped Y) Y = λ c q. ap (λ c. cond c (popped Y) Y) q in (
       λ e.
-          later.0 (second_holds (not (same_kind k kind.ClassBody)) _ e)
+          later.0 (and_second (not (same_kind k kind.ClassBody)) _ e)
           ∙ ap (noted_bodies parent node after) (step ∙ sym (same false (no_body (same_kind k kind.ClassBody) (has_no_body after) e))),
       λ e. elim (cases_Bool (same_kind k kind.ClassBody)) [
         | inl q ↦
@@ -91,10 +92,10 @@ notes_class (tree r k span text marks below id after) h e parent node current li
     let n = length lists.nodes in
     let b = same_kind k kind.ClassBody in
     let lists1 = told_tree lists current parent node here in
-    let own : end_rightly k below ≡ true = first_holds (end_rightly k below) _ h in
-    let rest : (all_end_rightly below && all_end_rightly after) ≡ true = second_holds (end_rightly k below) _ h in
+    let own : end_rightly k below ≡ true = and_first (end_rightly k below) _ h in
+    let rest : (all_end_rightly below && all_end_rightly after) ≡ true = and_second (end_rightly k below) _ h in
     let walked : left k (noted_below k id below into) ≡ noting_in (cond b (Some n) current) lists1 =
-    tree_left k id below into (agrees below (first_holds (all_end_rightly below) _ rest)) own ∙ tree_open parent node current lists here (notes below) fits in
+    tree_left k id below into (agrees below (and_first (all_end_rightly below) _ rest)) own ∙ tree_open parent node current lists here (notes below) fits in
     let joined = tree_joined parent node current lists r here after fits in
     let place = tree_length parent node current lists here in
     elim (cases_Bool b) [
@@ -109,7 +110,7 @@ notes_class (tree r k span text marks below id after) h e parent node current li
           (let ends : ends_with_body after ≡ true = rw q at e in
           let numbered : length lists1.nodes ≡ n + body_count below = place ∙ ap (λ c. n + cond c 1 0 + body_count below) q ∙ omega arith in
           ap (noted_below parent node after) (walked ∙ ap (λ c. noting_in (cond c (Some n) current) lists1) q)
-          ∙ notes_class after (second_holds (all_end_rightly below) _ rest) ends parent node current lists1 (fits_tree parent node current lists here fits)
+          ∙ notes_class after (and_second (all_end_rightly below) _ rest) ends parent node current lists1 (fits_tree parent node current lists here fits)
           ∙ ap (noting_in (current_behind (length lists1.nodes) current after)) joined
           ∙ ap (λ m. noting_in (current_behind m current after) (told lists current (uses_below (current_elements lists current) parent (tree r k span text marks below id after)) (classes_below n current node (tree r k span text marks below id after)))) numbered
           ∙ ap (λ c. noting_in (cond c (Some n) (current_behind (n + body_count below) current after)) (told lists current (uses_below (current_elements lists current) parent (tree r k span text marks below id after)) (classes_below n current node (tree r k span text marks below id after)))) (sym q))
@@ -119,7 +120,7 @@ none_current : (f : Forest) (n : ℕ) (current : Option ℕ) → has_no_body f �
 none_current nothing n current h = refl
 none_current (tree r k span text marks below id after) n current h =
     ap (λ c. cond c (Some n) (current_behind (n + body_count below) current after)) (no_body (same_kind k kind.ClassBody) (has_no_body after) h)
-    ∙ none_current after (n + body_count below) current (second_holds (not (same_kind k kind.ClassBody)) _ h)
+    ∙ none_current after (n + body_count below) current (and_second (not (same_kind k kind.ClassBody)) _ h)
 
 -- the children of another node
 pub notes_other : (f : Forest) → all_end_rightly f ≡ true → has_no_body f ≡ true → (parent : AstType) (node : ℕ) (current : Option ℕ) (lists : ClassLists) → FitCurrent lists current

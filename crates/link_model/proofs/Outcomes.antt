@@ -2,7 +2,7 @@
 use Rattle.std.proofs.Common.{◌≡◌, ◌⊎◌, inl, inr, ℕ, zero, suc, ◌==◌, List, [], ◌∷◌, ◌++◌, Bool, true, false, ◌&&◌, ◌||◌, Some, None, cond, refl, sym, ap, subst, ◌∙◌, bytes_eq, eq-eqb}
 use Rattle.std.specs.Prelude.{flat_map, filter}
 use Rattle.std.specs.List.{list_any}
-use Rattle.std.proofs.lemmas.Bool.{eqb-true}
+use Rattle.std.proofs.lemmas.Bool.{eqb-true, and_parts}
 use Rattle.semantic_syntax.specs.Tables.{Name}
 use Rattle.reachability.specs.Rows.{Among}
 use Rattle.reachability.proofs.Lists.{among_left, among_right, among_either}
@@ -16,24 +16,20 @@ use Rattle.link_model.specs.Computed.{same_end, is_among, new_ends, reached_with
 not_true : {P : Type 0} → false ≡ true → P
 not_true h = absurd cc
 
-both : (x y : Bool) → (x && y) ≡ true → (x ≡ true) × (y ≡ true)
-both true y e = (refl, e)
-both false y e = not_true e
-
 names_are : (x y : Name) → bytes_eq x y ≡ true → x ≡ y
 names_are [] [] e = refl
 names_are [] (d ∷ y) e = not_true e
 names_are (c ∷ x) [] e = not_true e
-names_are (c ∷ x) (d ∷ y) e = let w : ((c == d) ≡ true) × (bytes_eq x y ≡ true) = both (c == d) (bytes_eq x y) e in λ i. eqb-true c d w.0 i ∷ names_are x y w.1 i
+names_are (c ∷ x) (d ∷ y) e = let w : ((c == d) ≡ true) × (bytes_eq x y ≡ true) = and_parts (c == d) (bytes_eq x y) e in λ i. eqb-true c d w.0 i ∷ names_are x y w.1 i
 
 same_is : (e f : End) → same_end e f ≡ true → e ≡ f
-same_is (pair m x) (pair n y) e = let w : ((m == n) ≡ true) × (bytes_eq x y ≡ true) = both (m == n) (bytes_eq x y) e in λ i. pair (eqb-true m n w.0 i) (names_are x y w.1 i)
+same_is (pair m x) (pair n y) e = let w : ((m == n) ≡ true) × (bytes_eq x y ≡ true) = and_parts (m == n) (bytes_eq x y) e in λ i. pair (eqb-true m n w.0 i) (names_are x y w.1 i)
 same_is (pair m x) (symbol n s) e = not_true e
 same_is (pair m x) (default_of n) e = not_true e
 same_is (pair m x) (namespace_of n) e = not_true e
 same_is (pair m x) (outside s y) e = not_true e
 same_is (symbol m s) (pair n y) e = not_true e
-same_is (symbol m s) (symbol n r) e = let w : ((m == n) ≡ true) × ((s == r) ≡ true) = both (m == n) (s == r) e in λ i. symbol (eqb-true m n w.0 i) (eqb-true s r w.1 i)
+same_is (symbol m s) (symbol n r) e = let w : ((m == n) ≡ true) × ((s == r) ≡ true) = and_parts (m == n) (s == r) e in λ i. symbol (eqb-true m n w.0 i) (eqb-true s r w.1 i)
 same_is (symbol m s) (default_of n) e = not_true e
 same_is (symbol m s) (namespace_of n) e = not_true e
 same_is (symbol m s) (outside t y) e = not_true e
@@ -51,10 +47,10 @@ same_is (outside s x) (pair n y) e = not_true e
 same_is (outside s x) (symbol n r) e = not_true e
 same_is (outside s x) (default_of n) e = not_true e
 same_is (outside s x) (namespace_of n) e = not_true e
-same_is (outside s None) (outside t None) e = let w : (bytes_eq s t ≡ true) × (true ≡ true) = both (bytes_eq s t) true e in ap (λ u. outside u None) (names_are s t w.0)
-same_is (outside s None) (outside t (Some y)) e = let w : (bytes_eq s t ≡ true) × (false ≡ true) = both (bytes_eq s t) false e in not_true w.1
-same_is (outside s (Some x)) (outside t None) e = let w : (bytes_eq s t ≡ true) × (false ≡ true) = both (bytes_eq s t) false e in not_true w.1
-same_is (outside s (Some x)) (outside t (Some y)) e = let w : (bytes_eq s t ≡ true) × (bytes_eq x y ≡ true) = both (bytes_eq s t) (bytes_eq x y) e in λ i. outside (names_are s t w.0 i) (Some (names_are x y w.1 i))
+same_is (outside s None) (outside t None) e = let w : (bytes_eq s t ≡ true) × (true ≡ true) = and_parts (bytes_eq s t) true e in ap (λ u. outside u None) (names_are s t w.0)
+same_is (outside s None) (outside t (Some y)) e = let w : (bytes_eq s t ≡ true) × (false ≡ true) = and_parts (bytes_eq s t) false e in not_true w.1
+same_is (outside s (Some x)) (outside t None) e = let w : (bytes_eq s t ≡ true) × (false ≡ true) = and_parts (bytes_eq s t) false e in not_true w.1
+same_is (outside s (Some x)) (outside t (Some y)) e = let w : (bytes_eq s t ≡ true) × (bytes_eq x y ≡ true) = and_parts (bytes_eq s t) (bytes_eq x y) e in λ i. outside (names_are s t w.0 i) (Some (names_are x y w.1 i))
 
 name_itself : (x : Name) → bytes_eq x x ≡ true
 name_itself [] = refl
@@ -162,13 +158,13 @@ module _ (ms : List Analysed) where
 
   each_among : (all es : List End) (x : End) → are_among all es ≡ true → Among x es → Among x all
   each_among all [] x h i = absurd i
-  each_among all (e ∷ es) x h (inl same) = subst (λ y. Among y all) same (is_there e all (both (is_among e all) (are_among all es) h).0)
-  each_among all (e ∷ es) x h (inr i) = each_among all es x (both (is_among e all) (are_among all es) h).1 i
+  each_among all (e ∷ es) x h (inl same) = subst (λ y. Among y all) same (is_there e all (and_parts (is_among e all) (are_among all es) h).0)
+  each_among all (e ∷ es) x h (inr i) = each_among all es x (and_parts (is_among e all) (are_among all es) h).1 i
 
   leads_in : (all es : List End) (x y : End) → leads_within ms all es ≡ true → Among x es → Among y (leads ms x) → Among y all
   leads_in all [] x y h i j = absurd i
-  leads_in all (e ∷ es) x y h (inl same) j = each_among all (leads ms e) y (both (are_among all (leads ms e)) (leads_within ms all es) h).0 (subst (λ z. Among y (leads ms z)) (sym same) j)
-  leads_in all (e ∷ es) x y h (inr i) j = leads_in all es x y (both (are_among all (leads ms e)) (leads_within ms all es) h).1 i j
+  leads_in all (e ∷ es) x y h (inl same) j = each_among all (leads ms e) y (and_parts (are_among all (leads ms e)) (leads_within ms all es) h).0 (subst (λ z. Among y (leads ms z)) (sym same) j)
+  leads_in all (e ∷ es) x y h (inr i) j = leads_in all es x y (and_parts (are_among all (leads ms e)) (leads_within ms all es) h).1 i j
 
   -- a closed list has all that its members reach
   closed_has : (all : List End) (x y : End) → is_closed ms all ≡ true → Among x all → Reaches (leads ms) x y → Among y all
@@ -249,16 +245,16 @@ module _ (ms : List Analysed) where
 
     closed_at : (es : List End) (x : End) → all_return_closed ms es ≡ true → Among x es → is_closed ms (returned_from ms x) ≡ true
     closed_at [] x h i = absurd i
-    closed_at (f ∷ es) x h (inl same) = subst (λ y. is_closed ms (returned_from ms y) ≡ true) same (both (is_closed ms (returned_from ms f)) (all_return_closed ms es) h).0
-    closed_at (f ∷ es) x h (inr i) = closed_at es x (both (is_closed ms (returned_from ms f)) (all_return_closed ms es) h).1 i
+    closed_at (f ∷ es) x h (inl same) = subst (λ y. is_closed ms (returned_from ms y) ≡ true) same (and_parts (is_closed ms (returned_from ms f)) (all_return_closed ms es) h).0
+    closed_at (f ∷ es) x h (inr i) = closed_at es x (and_parts (is_closed ms (returned_from ms f)) (all_return_closed ms es) h).1 i
 
     one_of : (t : End) (more : List End) → all_same t more ≡ true → (u : End) → Among u (t ∷ more) → u ≡ t
     one_of t more h u (inl same) = sym same
     one_of t [] h u (inr i) = absurd i
-    one_of t (f ∷ more) h u (inr i) = one_of t more (both (same_end t f) (all_same t more) h).1 u (next i)
+    one_of t (f ∷ more) h u (inr i) = one_of t more (and_parts (same_end t f) (all_same t more) h).1 u (next i)
       where
         next : Among u (f ∷ more) → Among u (t ∷ more)
-        next (inl same) = inl (same_is t f (both (same_end t f) (all_same t more) h).0 ∙ same)
+        next (inl same) = inl (same_is t f (and_parts (same_end t f) (all_same t more) h).0 ∙ same)
         next (inr j) = inr j
 
     another : (t : End) (more : List End) → all_same t more ≡ false → (u : End) × Among u more × (t ≡ u → ⊥)
@@ -280,10 +276,10 @@ module _ (ms : List Analysed) where
     computed h = go (filter is_terminal (reached_from ms e)) refl
       where
         closed : is_closed ms (reached_from ms e) ≡ true
-        closed = (both (is_closed ms (reached_from ms e)) (all_return_closed ms (reached_from ms e)) h).0
+        closed = (and_parts (is_closed ms (reached_from ms e)) (all_return_closed ms (reached_from ms e)) h).0
 
         closed_each : all_return_closed ms (reached_from ms e) ≡ true
-        closed_each = (both (is_closed ms (reached_from ms e)) (all_return_closed ms (reached_from ms e)) h).1
+        closed_each = (and_parts (is_closed ms (reached_from ms e)) (all_return_closed ms (reached_from ms e)) h).1
 
         in' : (ts : List End) → filter is_terminal (reached_from ms e) ≡ ts → (t : End) → Among t ts → ReachesTerminal (leads ms) is_terminal e t
         in' ts k t i = found t (subst (λ l. Among t l) (sym k) i)

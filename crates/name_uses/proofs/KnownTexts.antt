@@ -10,6 +10,7 @@ use Rattle.std.proofs.lemmas.Slice.Eq.{bytes_eq-Decides}
 use Rattle.indexmap.specs.IndexSet.{insert_key}
 use Rattle.semantic_syntax.proofs.SameTexts.{same_texts}
 use Rattle.semantic_syntax.specs.Tables.{Name}
+use Rattle.semantic_syntax.proofs.Truth.{or_false}
 use Rattle.name_uses.specs.Known.{names_of}
 use Rattle.name_uses.specs.Undeclared.{is_known}
 
@@ -18,10 +19,6 @@ either_swaps : (a b c : Bool) → ((a || b) || c) ≡ (b || (a || c))
 either_swaps true true c = refl
 either_swaps true false c = refl
 either_swaps false b c = refl
-
-or_false : (a : Bool) → (a || false) ≡ a
-or_false true = refl
-or_false false = refl
 
 known_append : (xs ys : List Name) (name : Name) → is_known (xs ++ ys) name ≡ (is_known xs name || is_known ys name)
 known_append [] ys name = refl

@@ -14,31 +14,23 @@ use Rattle.semantic_syntax.specs.Tables.{Name}
 use Rattle.scoping.specs.Names.{name_at, IsUnknown, IsNumberOf, IsInterned}
 use Rattle.semantic_tree.specs.Children.{forest_of}
 use Rattle.semantic_tree.specs.declared.node.Node.{Node}
-use Rattle.semantic_tree.proofs.Fits.{drop_here}
 use Rattle.walk_model.specs.WrittenNames.{Openers, Written, is_written, openers_at, written_below, written_in}
 use Rattle.namesakes.specs.WrittenNames.{Adds, written_of}
 use Rattle.std.proofs.Math.ListN.{drop_of_length-le}
-
-or-assoc : (a b c : Bool) → ((a || b) || c) ≡ (a || (b || c))
-or-assoc true b c = refl
-or-assoc false b c = refl
-
-or-none : (a : Bool) → (a || false) ≡ a
-or-none true = refl
-or-none false = refl
+use Rattle.semantic_syntax.proofs.Truth.{or_assoc, or_false, drop_here}
 
 pub written-append : (xs ys : List Written) (n : ℕ) (x : Name) → is_written (xs ++ ys) n x ≡ (is_written xs n x || is_written ys n x)
 written-append [] ys n x = refl
 written-append (w ∷ xs) ys n x =
     ap (λ b. (n == w.opener && bytes_eq w.name x) || b) (written-append xs ys n x)
-    ∙ sym (or-assoc (n == w.opener && bytes_eq w.name x) (is_written xs n x) (is_written ys n x))
+    ∙ sym (or_assoc (n == w.opener && bytes_eq w.name x) (is_written xs n x) (is_written ys n x))
 
 pub adds-none : (ws : List Written) → Adds ws ws []
-adds-none ws n x = sym (or-none (is_written ws n x))
+adds-none ws n x = sym (or_false (is_written ws n x))
 
 pub adds-both : (a b c xs ys : List Written) → Adds a b xs → Adds b c ys → Adds a c (xs ++ ys)
 adds-both a b c xs ys h k n x =
-    k n x ∙ ap (λ o. o || is_written ys n x) (h n x) ∙ or-assoc (is_written a n x) (is_written xs n x) (is_written ys n x) ∙ ap (λ o. is_written a n x || o) (sym (written-append xs ys n x))
+    k n x ∙ ap (λ o. o || is_written ys n x) (h n x) ∙ or_assoc (is_written a n x) (is_written xs n x) (is_written ys n x) ∙ ap (λ o. is_written a n x || o) (sym (written-append xs ys n x))
 
 -- with those that are left, all are added
 pub record Rests (now left start all : List Written) : Type 0 where
@@ -49,12 +41,12 @@ rests-start start all = record { same = λ n x. refl }
 
 pub rests-step : (now then_ mine left start all : List Written) → Rests now (mine ++ left) start all → Adds now then_ mine → Rests then_ left start all
 rests-step now then_ mine left start all h k = record {
-  same = λ n x. ap (λ o. o || is_written left n x) (k n x) ∙ or-assoc (is_written now n x) (is_written mine n x) (is_written left n x)
+  same = λ n x. ap (λ o. o || is_written left n x) (k n x) ∙ or_assoc (is_written now n x) (is_written mine n x) (is_written left n x)
       ∙ ap (λ o. is_written now n x || o) (sym (written-append mine left n x)) ∙ h.same n x;
 }
 
 pub rests-end : (now start all : List Written) → Rests now [] start all → Adds start now all
-rests-end now start all h n x = sym (or-none (is_written now n x)) ∙ h.same n x
+rests-end now start all h n x = sym (or_false (is_written now n x)) ∙ h.same n x
 
 pub written-turn : (parent : Node) (o : Openers) (items : List (Role × Node)) (i : ℕ) (child : Role × Node) → i < length items → child ≡ get_or items i child
     → written_below parent o (forest_of (drop i items)) ≡ written_in child.1 (Some parent) (openers_at parent child.0 o) ++ written_below parent o (forest_of (drop (i + 1) items))

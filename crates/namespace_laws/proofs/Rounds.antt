@@ -2,6 +2,7 @@
 use Rattle.std.proofs.Common.{◌≡◌, ℕ, zero, suc, ◌+◌, ◌==◌, ◌||◌, ◌<◌, ◌≤◌, List, [], ◌∷◌, ◌++◌, Bool, true, false, cond, ◌⊎◌, inl, inr, map, flat_map, length, refl, ap, sym, subst, ◌∙◌, arith, length-append, All}
 use Rattle.std.proofs.lemmas.Bool.Decides.{nat_tests}
 use Rattle.std.proofs.lemmas.List.Elements.{All-nil, All-cons}
+use Rattle.std.proofs.lemmas.Bool.{eqb-true}
 use Rattle.reachability.specs.Rows.{AreDistinct, Among as IsListed}
 use Rattle.reachability.proofs.Distinct.{few_distinct}
 use Rattle.semantic_model.specs.Entries.{Among}
@@ -12,9 +13,6 @@ use Rattle.namespace_laws.proofs.Lists.{among-append, among-left, among-right, a
 abbrev ids : List Item → List ℕ
 ids xs = map (λ i. i.node.node_id) xs
 
-same-number : (a b : ℕ) → (a == b) ≡ true → a ≡ b
-same-number a b h = grind (arith, nat_tests)
-
 other-number : (a b : ℕ) → (a == b) ≡ false → a ≡ b → ⊥
 other-number a b h e = grind (arith, nat_tests)
 
@@ -24,7 +22,7 @@ found-among i [] h = absurd cc
 found-among i (x ∷ xs) h = go (i.node.node_id == x.node.node_id) refl h (λ k. found-among i xs k)
   where
     go : (b : Bool) → (i.node.node_id == x.node.node_id) ≡ b → (b || is_among i xs) ≡ true → (is_among i xs ≡ true → (y : Item) × (Among y xs × (i.node.node_id ≡ y.node.node_id))) → (y : Item) × (Among y (x ∷ xs) × (i.node.node_id ≡ y.node.node_id))
-    go true q h k = (x, (inl refl, same-number i.node.node_id x.node.node_id q))
+    go true q h k = (x, (inl refl, eqb-true i.node.node_id x.node.node_id q))
     go false q h k = let (y, (a, e)) = k h in (y, (inr a, e))
 
 none-among : (i : Item) (xs : List Item) → is_among i xs ≡ false → (x : Item) → Among x xs → i.node.node_id ≡ x.node.node_id → ⊥

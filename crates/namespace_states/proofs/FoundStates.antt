@@ -1,9 +1,9 @@
 -- Whether a statement reaches a value or a `const` enum is whether it is reached backward.
-use Rattle.std.proofs.Common.{◌≡◌, ℕ, zero, suc, ◌+◌, ◌<◌, ◌≤◌, List, [], ◌∷◌, ◌++◌, Bool, true, false, inl, inr, length, get_or, drop, All, Vec, Result, Ok, Err, IfOk, refl, ap, sym, subst, ◌∙◌, arith, append_assoc, add-one}
+use Rattle.std.proofs.Common.{◌≡◌, ℕ, zero, suc, ◌+◌, ◌<◌, ◌≤◌, List, [], ◌∷◌, ◌++◌, Bool, true, false, inl, inr, length, get_or, drop, All, Vec, Result, Ok, Err, IfOk, refl, ap, sym, subst, ◌∙◌, arith, append_assoc}
 use Rattle.std.proofs.lemmas.List.{map-append, length-map}
 use Rattle.std.specs.declared.alloc.Global.{Global}
 use Rattle.std.proofs.Math.ListN.{drop_of_length-le}
-use Rattle.std.proofs.Math.Seq.{drop-cons}
+use Rattle.semantic_syntax.proofs.Truth.{drop_here}
 use Rattle.reachability.specs.Rows.{lists, rows_of, Reached, seed, onward as step, AreWithin, Among as IsListed}
 use Rattle.reachability.specs.Marked.{is_marked}
 use Rattle.reachability.proofs.Pairs.{rows_have, rows_have_only}
@@ -165,9 +165,6 @@ state_at [] cs n e h = absurd (omega arith)
 state_at (v ∷ vs) [] n e h = absurd (omega (arith, e))
 state_at (v ∷ vs) (c ∷ cs) zero e h = refl
 state_at (v ∷ vs) (c ∷ cs) (suc n) e h = state_at vs cs n (omega (arith, e)) (omega (arith, h))
-
-drop_here : {X : Type 0} (items : List X) (i : ℕ) (x : X) → i < length items → x ≡ get_or items i x → drop i items ≡ x ∷ drop (i + 1) items
-drop_here items i x h e = rw (drop-cons items i x h, ← e, add-one) refl
 
 -- one more state
 pub states_turn : (made : List InstanceState) (values const_enums : List Bool) (i : ℕ) (v c : Bool) → length const_enums ≡ length values → i < length values → v ≡ get_or values i v → c ≡ get_or const_enums i c

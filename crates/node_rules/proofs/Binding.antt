@@ -2,12 +2,12 @@
 use Rattle.std.proofs.Common.{◌≡◌, ℕ, ◌+◌, ◌<◌, ◌≤◌, true, false, List, [], ◌++◌, cond, length, get_or, drop, sym, ap, ◌∙◌}
 use Rattle.std.proofs.Math.ListN.{drop_of_length-le}
 use Rattle.std.proofs.lemmas.List.{append_assoc}
+use Rattle.semantic_syntax.proofs.Truth.{drop_here}
 use Rattle.semantic_kinds.specs.declared.kind.AstType.{AstType}
 use Rattle.semantic_kinds.specs.declared.role.Role.{Role}
 use Rattle.semantic_tree.specs.Children.{forest_of}
 use Rattle.semantic_tree.specs.Views.{is_role_of}
 use Rattle.semantic_tree.specs.declared.node.Node.{Node}
-use Rattle.semantic_tree.proofs.Fits.{drop_here}
 use Rattle.semantic_model.specs.Names.{binding_roles, bound_below, bound_names}
 
 module _ (parent : AstType) (items : List (Role × Node)) (i : ℕ) (child : Role × Node) (within : i < length items) (is : child ≡ get_or items i child) where

@@ -5,6 +5,7 @@ use Rattle.semantic_kinds.specs.Kinds.{same_kind}
 use Rattle.node_store.specs.NodeList.{SeenNode}
 use Rattle.semantic_kinds.specs.declared.kind.AstType.{AstType}
 use Rattle.std.proofs.Math.Dec.{eqb, eqb-zero-suc, eqb-suc-zero, eqb-suc-suc}
+use Rattle.semantic_syntax.proofs.Truth.{or_assoc}
 
 or_false : (b : Bool) → b ≡ b || false
 or_false true = refl
@@ -25,10 +26,6 @@ set_at (b ∷ bs) (suc i) (suc k) h = rw (eqb-suc-suc k i) (set_at bs i k (omega
 pub all_alike : (p q : AstType → Bool) → ((k : AstType) → p k ≡ q k) → (kinds : List AstType) → list_all p kinds ≡ list_all q kinds
 all_alike p q same [] = refl
 all_alike p q same (k ∷ ks) = rw (same k, all_alike p q same ks) refl
-
-or_assoc : (a b c : Bool) → ((a || b) || c) ≡ (a || (b || c))
-or_assoc true b c = refl
-or_assoc false b c = refl
 
 -- a kind that is set for a node before the others
 pub one_more : (k ty : AstType) (a b : Bool) (s : SeenNode) (rest left : List SeenNode) → b ≡ (a || same_kind k ty) → ty ≡ s.node.kind → left ≡ s ∷ rest

@@ -1,13 +1,13 @@
 -- What is looked up in tables is what their analysis tells.
-use Rattle.std.proofs.Common.{◌≡◌, ℕ, zero, suc, ◌<◌, ◌≤◌, ◌==◌, List, [], ◌∷◌, Option, Some, None, cond, inl, inr, length, map, nat_eq, refl, sym, ap, ◌∙◌, arith}
+use Rattle.std.proofs.Common.{◌≡◌, ℕ, zero, suc, ◌<◌, ◌≤◌, ◌==◌, List, [], ◌∷◌, Option, Some, None, cond, length, map, nat_eq, refl, sym, ap, ◌∙◌, arith}
 use Rattle.std.specs.Prelude.{slice_get, option_and_then}
 use Rattle.std.specs.Map.{lookup}
-use Rattle.std.proofs.lemmas.Bool.Decides.{eqb_tells}
 use Rattle.std.proofs.lemmas.Option.{slice_get-get_or}
 use Rattle.scoping.specs.NodeEntries.{NodeEntries}
 use Rattle.semantic_syntax.specs.Reading.{no_reference, reference_of}
 use Rattle.semantic_syntax.specs.Tables.{Tables}
 use Rattle.semantic_syntax.specs.declared.references.Reference.{Reference}
+use Rattle.semantic_syntax.proofs.Truth.{same_turned}
 use Rattle.semantic_model.specs.NodeTable.{Belongs, number_of, node_tables}
 use Rattle.semantic_model.specs.Step.{steps}
 use Rattle.semantic_model.specs.TablesOf.{tables_of}
@@ -15,16 +15,10 @@ use Rattle.semantic_tree.specs.Tree.{Tree}
 use Rattle.program_names.specs.Analysis.{tied_at, analysis_of}
 use Rattle.node_symbols.specs.Shown.{belonging, entries, shown}
 
-same_either_way : (m n : ℕ) → (m == n) ≡ (n == m)
-same_either_way m n = elim (eqb_tells m n) [
-  | inl e ↦ elim (eqb_tells n m) [ inl f ↦ e.0 ∙ sym f.0 | inr f ↦ absurd (f.1 (sym e.1)) ]
-  | inr e ↦ elim (eqb_tells n m) [ inl f ↦ absurd (e.1 (sym f.1)) | inr f ↦ e.0 ∙ sym f.0 ]
-]
-
 pub number_found : (es : List (ℕ × ℕ)) (node : ℕ) → lookup (nat_eq node) es ≡ number_of (map belonging es) node
 number_found [] node = refl
 number_found (e ∷ es) node =
-    ap (λ b. cond b (Some e.1) (lookup (nat_eq node) es)) (same_either_way node e.0) ∙ ap (λ rest. cond (e.0 == node) (Some e.1) rest) (number_found es node)
+    ap (λ b. cond b (Some e.1) (lookup (nat_eq node) es)) (same_turned node e.0) ∙ ap (λ rest. cond (e.0 == node) (Some e.1) rest) (number_found es node)
 
 abbrev symbol : Reference → Option ℕ
 symbol r = r.symbol_id

@@ -1,10 +1,10 @@
 -- Names that are pushed one after the other.
 use Rattle.std.proofs.Common.{◌≡◌, ℕ, ◌+◌, ◌<◌, List, [], ◌∷◌, ◌++◌, true, false, cond, length, drop, get_or, map, sym, ap, ◌∙◌}
 use Rattle.std.proofs.lemmas.List.{append_assoc}
+use Rattle.semantic_syntax.proofs.Truth.{drop_here}
 use Rattle.semantic_kinds.specs.declared.role.Role.{Role}
 use Rattle.semantic_tree.specs.Children.{forest_of}
 use Rattle.semantic_tree.specs.declared.node.Node.{Node}
-use Rattle.semantic_tree.proofs.Fits.{drop_here}
 use Rattle.semantic_model.specs.Names.{bound_names}
 use Rattle.node_symbols.specs.declared.exports.Export.{Export}
 use Rattle.node_symbols.specs.Given.{gives, names_given, given_below, given_from}

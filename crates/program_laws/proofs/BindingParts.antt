@@ -2,6 +2,7 @@
 use Rattle.std.proofs.Common.{◌≡◌, ℕ, List, [], ◌∷◌, ◌++◌, Bool, true, false, not, ◌&&◌, cond, refl, sym, subst, inl, inr}
 use Rattle.std.specs.List.{list_all}
 use Rattle.std.proofs.lemmas.Bool.{cases_Bool}
+use Rattle.semantic_syntax.proofs.Truth.{and_first, and_second}
 use Rattle.semantic_kinds.specs.Kinds.{same_kind}
 use Rattle.semantic_kinds.specs.Classes.{is_of, holds_kind}
 use Rattle.semantic_kinds.specs.Parts.{parts}
@@ -16,7 +17,7 @@ use Rattle.semantic_tree.specs.Fit.{fit}
 use Rattle.semantic_tree.specs.Nodes.{trees}
 use Rattle.semantic_tree.specs.Views.{is_role_of}
 use Rattle.semantic_model.specs.Names.{binding_roles}
-use Rattle.semantic_model.proofs.form.Clauses.{kind_is, first_holds, second_holds}
+use Rattle.semantic_model.proofs.form.Clauses.{kind_is}
 use Rattle.program_laws.specs.NamesAlike.{binding_kinds, operand_kinds}
 use Rattle.program_laws.proofs.FitChildren.{all_pass, fit_passes}
 
@@ -68,9 +69,9 @@ none_taken c child text [] i h = refl
 none_taken c child text (k ∷ ks) i h = elim (cases_Bool (same_kind k child)) [
   | inl e ↦
       (let taken : is_of c k text ≡ true = subst (λ q. is_of c q text ≡ true) (sym (kind_is k child e)) i in
-      let none : not (is_of c k text) ≡ true = first_holds (not (is_of c k text)) _ h in
+      let none : not (is_of c k text) ≡ true = and_first (not (is_of c k text)) _ h in
       let q : false ≡ true = rw taken at none in absurd cc)
-  | inr e ↦ rw e (none_taken c child text ks i (second_holds (not (is_of c k text)) _ h))
+  | inr e ↦ rw e (none_taken c child text ks i (and_second (not (is_of c k text)) _ h))
 ]
 
 if_less : (a b x y : Bool) → (x ≡ true → y ≡ true) → cond a true (cond b x true) ≡ true → cond a true (cond b y true) ≡ true

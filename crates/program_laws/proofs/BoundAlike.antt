@@ -1,6 +1,7 @@
 -- The names by role of nodes of a program without a fault are those by kind and role.
 use Rattle.std.proofs.Common.{◌≡◌, List, [], ◌∷◌, ◌++◌, Bool, true, false, not, ◌&&◌, cond, if◌then◌else◌, refl, subst, ◌∙◌, inl, inr, None, flat_map}
 use Rattle.std.proofs.lemmas.Bool.{cases_Bool, not-true}
+use Rattle.semantic_syntax.proofs.Truth.{and_first, and_second}
 use Rattle.semantic_kinds.specs.Kinds.{same_kind}
 use Rattle.semantic_kinds.specs.Roles.{same_role}
 use Rattle.semantic_kinds.specs.Classes.{holds_kind}
@@ -18,7 +19,7 @@ use Rattle.semantic_tree.specs.Views.{is_role_of, children_of}
 use Rattle.semantic_tree.specs.declared.node.Node.{Node}
 use Rattle.semantic_tree.specs.declared.place.Place.{Place}
 use Rattle.semantic_model.specs.Names as by_kind
-use Rattle.semantic_model.proofs.form.Clauses.{kind_is, first_holds, second_holds}
+use Rattle.semantic_model.proofs.form.Clauses.{kind_is}
 use Rattle.semantic_model.proofs.form.Shape.{NoneMisshapen, first_formed, rest_formed, table_kept, fit_kept}
 use Rattle.program_laws.specs.NamesAlike.{binding_kinds, operand_kinds, NamesAlike, NamesInRole, NoOtherNames}
 use Rattle.program_laws.proofs.FormedNodes.{IsFormed, formed_in}
@@ -44,10 +45,10 @@ silent_below place k (tree r k2 span text marks below id after) l s h =
     let here : Place = child_place place k r in
     let q = first_formed (here, node) (placed_below here k2 below ++ placed_below place k after) h in
     let w : NoneMisshapen (placed_below here k2 below) × NoneMisshapen (placed_below place k after) = rest_formed (placed_below here k2 below) (placed_below place k after) q.1 in
-    let own : cond (by_role.binds_by k r) (not (holds_kind naming_kinds k2)) true ≡ true = rw l at (first_holds (is_silent_child k r k2) _ s) in
+    let own : cond (by_role.binds_by k r) (not (holds_kind naming_kinds k2)) true ≡ true = rw l at (and_first (is_silent_child k r k2) _ s) in
     rw (
       own_silent (by_role.binds_by k r) k2 node (by_role.bound_below k2 below) own (λ e. silent_below here k2 below (not-true (holds_kind naming_kinds k2) e) (silent_children k2 below (fit_kept node (table_kept here node q.0))) w.0),
-      silent_below place k after l (second_holds (is_silent_child k r k2) _ s) w.1,
+      silent_below place k after l (and_second (is_silent_child k r k2) _ s) w.1,
     ) refl
 
 -- the names that one child gives, by role and by kind and role
@@ -65,12 +66,12 @@ alike_below place k (tree r k2 span text marks below id after) l s h =
     let q = first_formed (here, node) (placed_below here k2 below ++ placed_below place k after) h in
     let w : NoneMisshapen (placed_below here k2 below) × NoneMisshapen (placed_below place k after) = rest_formed (placed_below here k2 below) (placed_below place k after) q.1 in
     let fits = fit_kept node (table_kept here node q.0) in
-    let own : cond (is_role_of r (by_kind.binding_roles k)) (by_role.binds_by k r && not (holds_kind operand_kinds k2)) (cond (by_role.binds_by k r) (not (holds_kind naming_kinds k2)) true) ≡ true = rw l at (first_holds (is_alike_child k r k2) _ s) in
+    let own : cond (is_role_of r (by_kind.binding_roles k)) (by_role.binds_by k r && not (holds_kind operand_kinds k2)) (cond (by_role.binds_by k r) (not (holds_kind naming_kinds k2)) true) ≡ true = rw l at (and_first (is_alike_child k r k2) _ s) in
     rw (
       own_alike (is_role_of r (by_kind.binding_roles k)) (by_role.binds_by k r) k2 node (by_role.bound_below k2 below) (by_kind.bound_below k2 below) own
           (λ e. alike_below here k2 below (not-true (holds_kind operand_kinds k2) e) (alike_children k2 below fits) w.0)
           (λ e. silent_below here k2 below (not-true (holds_kind naming_kinds k2) e) (silent_children k2 below fits) w.0),
-      alike_below place k after l (second_holds (is_alike_child k r k2) _ s) w.1,
+      alike_below place k after l (and_second (is_alike_child k r k2) _ s) w.1,
     ) refl
 
 alike_at : (place : Place) (node : Node) → is_well_formed place node ≡ true → NoneMisshapen (placed_below place node.kind node.children) → holds_kind operand_kinds node.kind ≡ false → by_role.bound_names node ≡ by_kind.bound_names node

@@ -24,6 +24,7 @@ use Rattle.semantic_tree.specs.declared.swap.Setting.TheVariants.{InMember, InMe
 use Rattle.semantic_tree.proofs.ShapedLaws.{no_fault-IsShaped}
 use Rattle.semantic_model.specs.Binder.{member_names}
 use Rattle.semantic_syntax.specs.Members.{contains}
+use Rattle.semantic_syntax.proofs.Truth.{and_first, and_second}
 use Rattle.semantic_model.specs.Entries.{Among}
 use Rattle.semantic_model.specs.Event.{events}
 use Rattle.semantic_model.specs.Fold.{State, Made, start}
@@ -34,7 +35,7 @@ use Rattle.semantic_model.specs.Place.{parent_holds}
 use Rattle.semantic_model.specs.Step.{entering, steps}
 use Rattle.semantic_model.specs.TablesOf.{tables_of}
 use Rattle.semantic_model.proofs.fold.Changes.{HasName}
-use Rattle.semantic_model.proofs.form.Clauses.{kind_is, first_holds, second_holds}
+use Rattle.semantic_model.proofs.form.Clauses.{kind_is}
 use Rattle.semantic_model.proofs.fits.NothingInvented.{made_declared, belongs_made}
 use Rattle.semantic_model.proofs.lists.Members.{among_left, among_right}
 use Rattle.semantic_model.proofs.fold.Orders.{HasForm, sound_program}
@@ -209,11 +210,11 @@ module _ (p : Tree) (faultless : first_fault p ≡ None) (numbered : IsNumbered 
 
     member_apart : (setting : Setting) (r : Role) (node : Node) (after : Forest) → names_member setting r node.kind ≡ true → Under setting (tree r node.kind node.span node.text node.marks node.children node.node_id after) → IsApart node.text
     member_apart InMember r node after e h =
-        h node.text (subst (λ b. Among node.text (texts (flat_map member_names (if b then node ∷ children_of role.Id after else children_of role.Id after)))) (sym (first_holds (same_role r role.Id) (same_kind node.kind kind.IdentifierName || same_kind node.kind kind.StringLiteral) e))
-        (texts_left (member_names node) (flat_map member_names (children_of role.Id after)) node.text (word_named node (second_holds (same_role r role.Id) (same_kind node.kind kind.IdentifierName || same_kind node.kind kind.StringLiteral) e))))
+        h node.text (subst (λ b. Among node.text (texts (flat_map member_names (if b then node ∷ children_of role.Id after else children_of role.Id after)))) (sym (and_first (same_role r role.Id) (same_kind node.kind kind.IdentifierName || same_kind node.kind kind.StringLiteral) e))
+        (texts_left (member_names node) (flat_map member_names (children_of role.Id after)) node.text (word_named node (and_second (same_role r role.Id) (same_kind node.kind kind.IdentifierName || same_kind node.kind kind.StringLiteral) e))))
     member_apart InMemberName r node after e h =
-        h node.text (subst (λ b. Among node.text (texts (filter (is kind.TemplateElement) (if b then node ∷ children_of role.Quasis after else children_of role.Quasis after)))) (sym (first_holds (same_role r role.Quasis) (same_kind node.kind kind.TemplateElement) e))
-        (subst (λ b. Among node.text (texts (cond b (node ∷ filter (is kind.TemplateElement) (children_of role.Quasis after)) (filter (is kind.TemplateElement) (children_of role.Quasis after))))) (sym (second_holds (same_role r role.Quasis) (same_kind node.kind kind.TemplateElement) e)) (inl refl)))
+        h node.text (subst (λ b. Among node.text (texts (filter (is kind.TemplateElement) (if b then node ∷ children_of role.Quasis after else children_of role.Quasis after)))) (sym (and_first (same_role r role.Quasis) (same_kind node.kind kind.TemplateElement) e))
+        (subst (λ b. Among node.text (texts (cond b (node ∷ filter (is kind.TemplateElement) (children_of role.Quasis after)) (filter (is kind.TemplateElement) (children_of role.Quasis after))))) (sym (and_second (same_role r role.Quasis) (same_kind node.kind kind.TemplateElement) e)) (inl refl)))
     member_apart Elsewhere r node after e h = absurd (differ e)
 
     -- the names of an enum member are apart
@@ -228,9 +229,9 @@ module _ (p : Tree) (faultless : first_fault p ≡ None) (numbered : IsNumbered 
     -- a template that names a member
     under_template : (r : Role) (node : Node) (after : Forest) → (same_role r role.Id && same_kind node.kind kind.TemplateLiteral) ≡ true → Under InMember (tree r node.kind node.span node.text node.marks node.children node.node_id after) → Under InMemberName node.children
     under_template r node after e h t a =
-        let k : node.kind ≡ kind.TemplateLiteral = kind_is node.kind kind.TemplateLiteral (second_holds (same_role r role.Id) (same_kind node.kind kind.TemplateLiteral) e) in
+        let k : node.kind ≡ kind.TemplateLiteral = kind_is node.kind kind.TemplateLiteral (and_second (same_role r role.Id) (same_kind node.kind kind.TemplateLiteral) e) in
         let named : Among t (texts (member_names node)) = subst (λ j. Among t (texts (cond (holds_kind (kind.IdentifierName ∷ kind.StringLiteral ∷ []) j) (node ∷ []) (cond (same_kind j kind.TemplateLiteral) (filter (is kind.TemplateElement) (children_of role.Quasis node.children)) [])))) (sym k) a in
-        h t (subst (λ b. Among t (texts (flat_map member_names (if b then node ∷ children_of role.Id after else children_of role.Id after)))) (sym (first_holds (same_role r role.Id) (same_kind node.kind kind.TemplateLiteral) e))
+        h t (subst (λ b. Among t (texts (flat_map member_names (if b then node ∷ children_of role.Id after else children_of role.Id after)))) (sym (and_first (same_role r role.Id) (same_kind node.kind kind.TemplateLiteral) e))
         (texts_left (member_names node) (flat_map member_names (children_of role.Id after)) t named))
 
     under_inside : (setting : Setting) (r : Role) (node : Node) (after : Forest) → Under setting (tree r node.kind node.span node.text node.marks node.children node.node_id after) → Under (setting_inside setting r node.kind) node.children

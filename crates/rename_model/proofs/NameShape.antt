@@ -43,7 +43,7 @@ use Rattle.semantic_model.proofs.form.Clauses.{kind_is}
 use Rattle.semantic_model.proofs.lists.Members.{among_left, among_right}
 use Rattle.program_laws.specs.ReadMarks.{without_mark, without_where}
 use Rattle.rename_model.specs.WithName.{is_named_value, sheds, with_name, with_name_in, is_identifier, AreIdentifiers}
-use Rattle.program_laws.proofs.TreeNodes.{below_same}
+use Rattle.semantic_tree.proofs.Forests.{below_same}
 use Rattle.semantic_model.proofs.swapped.Alike.{map_append}
 
 -- ---- identifiers

@@ -10,7 +10,7 @@ use Rattle.semantic_model.specs.Place.{Place, OpenScope}
 use Rattle.semantic_model.specs.Step.{Step, entering, opening, header_ending, closing, leaving, steps_below, steps, opening_at, ending_after, opening_last, root_place}
 use Rattle.semantic_model.proofs.steps.TurnCases.{opening_case, ending_case, last_case}
 use Rattle.semantic_model.proofs.steps.Turn.{Turn, turn_at}
-use Rattle.program_laws.proofs.TreeNodes.{below_same}
+use Rattle.semantic_tree.proofs.Forests.{below_same}
 
 -- the ids of the nodes that are entered rise from the first number, and stay below the second
 abbrev pub Rises : ℕ → ℕ → List Step → Type 0

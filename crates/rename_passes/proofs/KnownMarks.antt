@@ -4,6 +4,7 @@ use Rattle.std.proofs.Math.ListN.{drop_of_length-le}
 use Rattle.std.proofs.lemmas.Bool.{eqb-true}
 use Rattle.std.proofs.lemmas.Bool.Decides.{Decides-ltb}
 use Rattle.std.proofs.lemmas.Nat.{and_assoc, and_le_l, and_le_r, le_or_l}
+use Rattle.semantic_syntax.proofs.Truth.{drop_here}
 use Rattle.semantic_kinds.specs.Allowed.{allowed_marks}
 use Rattle.semantic_kinds.specs.Kinds.{same_kind}
 use Rattle.semantic_kinds.specs.Marks.{mark_bit, all_marks, same_mark}
@@ -22,7 +23,6 @@ use Rattle.semantic_tree.specs.Shaped.{IsWellFormed, OfEach, IsShaped}
 use Rattle.semantic_tree.specs.Tree.{Tree}
 use Rattle.semantic_tree.specs.declared.node.Node.{Node}
 use Rattle.semantic_tree.specs.declared.place.Place.{Place}
-use Rattle.semantic_tree.proofs.Fits.{drop_here}
 use Rattle.semantic_model.proofs.form.Clauses.{kind_is}
 use Rattle.program_laws.specs.ReadMarks.{without_mark}
 use Rattle.rename_passes.specs.Renaming.{IsKnown, AreKnown, is_kept, with_kept}

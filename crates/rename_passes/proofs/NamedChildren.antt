@@ -7,8 +7,8 @@ use Rattle.semantic_tree.specs.Faults.{first_fault}
 use Rattle.semantic_tree.specs.Forest.{Forest, nothing, tree, count, join}
 use Rattle.semantic_tree.specs.Tree.{Tree, IsNumbered, numbered_tree}
 use Rattle.semantic_tree.specs.declared.node.Node.{Node}
-use Rattle.semantic_tree.proofs.Fits.{drop_here}
 use Rattle.std.proofs.Math.ListN.{drop_of_length-le}
+use Rattle.semantic_syntax.proofs.Truth.{drop_here}
 use Rattle.semantic_tree.proofs.Forests.{join_assoc, join_nothing}
 use Rattle.rename_model.specs.WithName.{with_name, with_name_in, AreIdentifiers}
 use Rattle.rename_model.proofs.NameShape.{no_fault_made, numbers_kept}

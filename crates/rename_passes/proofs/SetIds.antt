@@ -1,16 +1,8 @@
 -- Ids that are put into a set one after the other.
 use Rattle.std.proofs.Common.{◌≡◌, ◌||◌, ◌+◌, ◌<◌, ◌≤◌, ℕ, List, Bool, true, false, cond, nat_eq, length, drop, get_or, refl, ap, sym, ◌∙◌}
 use Rattle.std.proofs.Math.ListN.{drop_of_length-le}
-use Rattle.semantic_tree.proofs.Fits.{drop_here}
 use Rattle.semantic_syntax.specs.Members.{contains}
-
-or_true : (b : Bool) → (b || true) ≡ true
-or_true true = refl
-or_true false = refl
-
-or_false : (b : Bool) → (b || false) ≡ b
-or_false true = refl
-or_false false = refl
+use Rattle.semantic_syntax.proofs.Truth.{or_true, or_false, drop_here}
 
 -- with one id more in the set, and one less that is left
 pub one_more : (ids : List ℕ) (i id q : ℕ) (before now : Bool) → i < length ids → id ≡ get_or ids i id → now ≡ cond (nat_eq id q) true before

@@ -8,7 +8,7 @@ use Rattle.std.proofs.lemmas.Map.Keys.{apart_from_distinct}
 use Rattle.std.proofs.lemmas.Slice.Eq.{bytes_eq-Decides}
 use Rattle.std.proofs.Math.ListN.{get_or-append}
 use Rattle.std.proofs.Math.Seq.{get_or-append_seam}
-use Rattle.std.proofs.lemmas.Bool.{cases_lt, ltb-true, ltb-false, eqb-true, eqb-false, eq-eqb, false_from_ne_true}
+use Rattle.std.proofs.lemmas.Bool.{cases_lt, ltb-true, ltb-false, eqb-true, eqb-false, eq-eqb, false_from_ne_true, not-false}
 use Rattle.indexmap.specs.IndexSet.{insert_key}
 use Rattle.std.specs.String.{string_bytes}
 use Rattle.std.specs.Str.{chars, IsUtf8, encode_utf8_all}
@@ -26,10 +26,6 @@ bytes_eq_same a = (bytes_eq-Decides a a).1 refl
 
 pub bytes_eq_flip_false : (a b : Name) → bytes_eq a b ≡ false → bytes_eq b a ≡ false
 bytes_eq_flip_false a b h = false_from_ne_true (bytes_eq b a) (λ t. let e : b ≡ a = (bytes_eq-Decides b a).0 t in let s : bytes_eq a b ≡ true = (bytes_eq-Decides a b).1 (sym e) in cc)
-
-true_from_not_false : (b : Bool) → not b ≡ false → b ≡ true
-true_from_not_false true h = refl
-true_from_not_false false h = sym h
 
 -- the number at which a name stands is its only one
 pub number_at : (names : List Name) (name : Name) (n : ℕ) → AreApart names → n < length names → name_at names n ≡ name → IsNumberOf names name n
@@ -95,7 +91,7 @@ module _ {X : Type 0} (text : X → Name) where
       by true e =
           let lt : index < length keys = ltb-true index (length keys) e in
           let stops : not (test (get_or keys index x)) ≡ false = prefix_len_stops (λ k. not (test k)) keys x lt in
-          let passes : test (get_or keys index x) ≡ true = true_from_not_false (test (get_or keys index x)) stops in
+          let passes : test (get_or keys index x) ≡ true = not-false (test (get_or keys index x)) stops in
           number_at (map text keys) name index (apart_texts keys distinct) (omega (arith, length_map text keys))
           (get_or-map text keys index x [] lt ∙ sym ((bytes_eq-Decides _ _).0 passes))
       by false e = record {

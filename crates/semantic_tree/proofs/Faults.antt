@@ -1,5 +1,6 @@
 -- The first fault among nodes in a row.
 use Rattle.std.proofs.Common.{◌≡◌, ℕ, ◌+◌, ◌<◌, List, [], ◌∷◌, ◌++◌, Bool, true, false, if◌then◌else◌, ◌||◌, Option, Some, None, option_map, length, drop, get_or, refl, ap, sym, ◌∙◌}
+use Rattle.semantic_syntax.proofs.Truth.{drop_here}
 use Rattle.semantic_kinds.specs.declared.kind.AstType.{AstType}
 use Rattle.semantic_kinds.specs.declared.role.Role.{Role}
 use Rattle.semantic_tree.specs.Children.{forest_of}
@@ -11,7 +12,6 @@ use Rattle.semantic_tree.specs.declared.error.TreeError.TheVariants.{Span}
 use Rattle.semantic_tree.specs.declared.error.SpanFault.TheVariants as span
 use Rattle.semantic_tree.specs.declared.node.Node.{Node}
 use Rattle.semantic_tree.specs.declared.place.Place.{Place}
-use Rattle.semantic_tree.proofs.Fits.{drop_here}
 
 abbrev pub or_else : Option ℕ → Option ℕ → Option ℕ
 or_else None second = second

@@ -6,11 +6,11 @@ use Rattle.semantic_tree.specs.Forest.{Forest, nothing, tree, count, join, numbe
 use Rattle.semantic_tree.specs.Children.{forest_of, single, node_count, numbered_node}
 use Rattle.semantic_tree.specs.Nodes.{trees}
 use Rattle.semantic_syntax.specs.declared.spans.Span.{Span}
+use Rattle.semantic_syntax.proofs.Truth.{drop_here}
 use Rattle.semantic_kinds.specs.declared.kind.AstType.{AstType}
 use Rattle.semantic_kinds.specs.declared.marks.Marks.{Marks}
 use Rattle.semantic_kinds.specs.declared.role.Role.{Role}
 use Rattle.semantic_tree.specs.declared.node.Node.{Node}
-use Rattle.semantic_tree.proofs.Fits.{drop_here}
 
 -- trees that are equal are equal in their parts
 pub below_same : {role : Role} {kind : AstType} {span : Span} {text : List ℕ} {marks : Marks} {b b' : Forest} {n n' : ℕ} {a a' : Forest} → tree role kind span text marks b n a ≡ tree role kind span text marks b' n' a' → (b ≡ b') × (n ≡ n') × (a ≡ a')

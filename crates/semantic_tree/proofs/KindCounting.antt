@@ -1,6 +1,7 @@
 -- Laws on how many nodes of each kind there are.
 use Rattle.std.proofs.Common.{◌≡◌, ℕ, zero, suc, ◌+◌, ◌<◌, ◌≤◌, List, [], ◌∷◌, Bool, true, false, cond, length, drop, get_or, slice_set, refl, arith}
 use Rattle.std.proofs.Math.Dec.{eqb, eqb-zero-suc, eqb-suc-zero, eqb-suc-suc}
+use Rattle.semantic_syntax.proofs.Truth.{drop_here}
 use Rattle.semantic_kinds.specs.Kinds.{same_kind}
 use Rattle.semantic_kinds.specs.declared.kind.AstType.{AstType}
 use Rattle.semantic_kinds.specs.declared.role.Role.{Role}
@@ -11,7 +12,6 @@ use Rattle.semantic_tree.specs.Renamed.{renamed, setting_below}
 use Rattle.semantic_tree.specs.KindCounts.{kind_count}
 use Rattle.semantic_tree.specs.declared.node.Node.{Node}
 use Rattle.semantic_tree.specs.declared.swap.Setting.{Setting}
-use Rattle.semantic_tree.proofs.Fits.{drop_here}
 
 -- one more at a place
 pub counted_at : (counts : List ℕ) (i k : ℕ) → i < length counts → get_or (slice_set counts i (get_or counts i 0 + 1)) k 0 ≡ get_or counts k 0 + cond (eqb k i) 1 0

@@ -2,6 +2,7 @@
 use Rattle.std.proofs.Common.{◌≡◌, ℕ, List, [], Bool, true, false, ◌&&◌, ◌||◌, ◌⊎◌, inl, inr, not, if◌then◌else◌, refl, ap, sym, ◌∙◌, subst}
 use Rattle.std.specs.Str.{bytes_eq}
 use Rattle.std.proofs.lemmas.Slice.Eq.{bytes_eq-Decides}
+use Rattle.semantic_syntax.proofs.Truth.{and_second}
 use denote.Enum.Bare.{same_true}
 use Rattle.semantic_kinds.specs.Kinds.{same_kind}
 use Rattle.semantic_kinds.specs.Roles.{same_role}
@@ -25,10 +26,6 @@ either_of : (a b : Bool) → a || b ≡ true → (a ≡ true) ⊎ (b ≡ true)
 either_of true b h = inl refl
 either_of false b h = inr h
 
-second_of : (a b : Bool) → a && b ≡ true → b ≡ true
-second_of true b h = h
-second_of false b h = absurd (not_both h)
-
 and_never : (a : Bool) → a && false ≡ false
 and_never true = refl
 and_never false = refl
@@ -36,11 +33,11 @@ and_never false = refl
 -- what holds of the kinds of members' names holds of such a name
 of_member : (P : AstType → Type 0) → P kinds.IdentifierName → P kinds.StringLiteral → P kinds.TemplateElement → (s : Setting) (r : Role) (k : AstType) → names_member s r k ≡ true → P k
 of_member P name string piece InMember r k h =
-    elim (either_of (same_kind k kinds.IdentifierName) (same_kind k kinds.StringLiteral) (second_of (same_role r roles.Id) (same_kind k kinds.IdentifierName || same_kind k kinds.StringLiteral) h)) [
+    elim (either_of (same_kind k kinds.IdentifierName) (same_kind k kinds.StringLiteral) (and_second (same_role r roles.Id) (same_kind k kinds.IdentifierName || same_kind k kinds.StringLiteral) h)) [
       | inl e ↦ subst P (sym (same_true the_kinds tt k kinds.IdentifierName e)) name
       | inr e ↦ subst P (sym (same_true the_kinds tt k kinds.StringLiteral e)) string
     ]
-of_member P name string piece InMemberName r k h = subst P (sym (same_true the_kinds tt k kinds.TemplateElement (second_of (same_role r roles.Quasis) (same_kind k kinds.TemplateElement) h))) piece
+of_member P name string piece InMemberName r k h = subst P (sym (same_true the_kinds tt k kinds.TemplateElement (and_second (same_role r roles.Quasis) (same_kind k kinds.TemplateElement) h))) piece
 of_member P name string piece Elsewhere r k h = absurd (not_both h)
 
 -- what holds of the five kinds that have names holds of a node with a name

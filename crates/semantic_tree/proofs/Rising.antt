@@ -1,13 +1,13 @@
 -- Names whose ids rise.
 use Rattle.std.proofs.Common.{◌≡◌, ℕ, ◌+◌, ◌<◌, ◌≤◌, nat_le, List, [], ◌∷◌, ◌++◌, true, false, if◌then◌else◌, Option, Some, None, length, drop, get_or, refl, ap, sym, ◌∙◌, arith}
 use Rattle.std.proofs.lemmas.Bool.Decides.{nat_tests}
+use Rattle.semantic_syntax.proofs.Truth.{drop_here}
 use Rattle.semantic_kinds.specs.declared.kind.AstType.{AstType}
 use Rattle.semantic_kinds.specs.declared.role.Role.{Role}
 use Rattle.semantic_tree.specs.Children.{forest_of}
 use Rattle.semantic_tree.specs.Nodes.{first_of}
 use Rattle.semantic_tree.specs.BoundNames.{binds_by, bound_below, bound_names, given_names, rising}
 use Rattle.semantic_tree.specs.declared.node.Node.{Node}
-use Rattle.semantic_tree.proofs.Fits.{drop_here}
 
 nothing_found : (x : Node) → ◌≡◌ {A = Option Node} (Some x) None → ⊥
 nothing_found x h = cc

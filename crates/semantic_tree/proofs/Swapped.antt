@@ -1,13 +1,13 @@
 -- Trees with other names, child by child.
 use Rattle.std.proofs.Common.{◌≡◌, ℕ, ◌+◌, ◌<◌, ◌≤◌, List, length, drop, get_or, ap, sym, ◌∙◌}
 use Rattle.std.proofs.Math.ListN.{drop_of_length-le}
+use Rattle.semantic_syntax.proofs.Truth.{drop_here}
 use Rattle.semantic_kinds.specs.declared.role.Role.{Role}
 use Rattle.semantic_tree.specs.Forest.{Forest, join}
 use Rattle.semantic_tree.specs.Children.{forest_of, single}
 use Rattle.semantic_tree.specs.Renamed.{renamed, renamed_node}
 use Rattle.semantic_tree.specs.declared.node.Node.{Node}
 use Rattle.semantic_tree.specs.declared.swap.Setting.{Setting}
-use Rattle.semantic_tree.proofs.Fits.{drop_here}
 use Rattle.semantic_tree.proofs.Forests.{join_assoc, join_nothing}
 
 -- a child with other names stands before those that are left

@@ -10,6 +10,7 @@ use Rattle.semantic_kinds.specs.declared.role.Role.{Role}
 use Rattle.semantic_kinds.specs.declared.role.Role.TheVariants as role
 use Rattle.semantic_syntax.specs.Sets.{meets}
 use Rattle.semantic_syntax.specs.declared.reference_flags.TheConstants.ReferenceFlags as way
+use Rattle.semantic_syntax.proofs.Truth.{or_false}
 use Rattle.semantic_tree.specs.Forest.{Forest}
 use Rattle.semantic_tree.specs.declared.node.Node.{Node}
 use Rattle.semantic_model.specs.Ambient.{ambient_inside, ambient_round}
@@ -129,10 +130,6 @@ turns_behind : (k : AstType) (r : Role) (before behind : ℕ) → cond (acts_bet
 turns_behind kind.Class r before behind = refl
 turns_behind _ r before behind = refl
 
-or_none : (b : Bool) → (b || false) ≡ b
-or_none true = refl
-or_none false = refl
-
 module _ (p : Place) (even : acts_between p.node.kind ≡ false) where
   no_scope : inside p.node.kind ≡ no_scope_opens
   no_scope = otherwise (acts_between p.node.kind) no_scope_opens (inside p.node.kind) no_scope_opens (scope_of p.node.kind) even
@@ -191,7 +188,7 @@ module _ (p : Place) (even : acts_between p.node.kind ≡ false) where
         ap (λ b. cond (b && same_role r role.Decorators) p.is_ambient (ambient_inside p.node p.is_ambient))
         (otherwise (acts_between p.node.kind) false (holds_kind (kind.Class ∷ kind.PropertyDefinition ∷ []) p.node.kind) false (keeps_mark p.node.kind) even)
         ∙ ap (λ b. p.is_ambient || (b && not (is kind.AccessorProperty p.node))) unmarked
-        ∙ or_none p.is_ambient
+        ∙ or_false p.is_ambient
 
     -- so a walk that comes to the child stands there already
     pub stands_there : (ds : List Declaration) (w : Walker) (turn : Turn) (own : Option OpenScope) (start : ℕ) (f : Forest) → IsBetweenAt ds w turn p own n cursor start f

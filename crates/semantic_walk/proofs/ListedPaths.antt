@@ -2,13 +2,11 @@
 use Rattle.std.proofs.Common.{◌≡◌, ℕ, zero, suc, ◌+◌, ◌-◌, ◌<◌, ◌≤◌, List, [], ◌∷◌, ◌++◌, Option, Some, None, Bool, true, false, ◌&&◌, not, cond, inl, inr, option_map, map, length, drop, slice_get, slice_index, append-nil, refl, sym, ap, subst, ◌∙◌, arith}
 use Rattle.std.specs.List.{cons_option}
 use Rattle.std.proofs.lemmas.Option.{slice_get-map, get_or_from_slice_get}
-use Rattle.semantic_kinds.specs.declared.kind.AstType.{AstType}
-use Rattle.semantic_kinds.specs.declared.marks.Marks.{Marks}
 use Rattle.semantic_kinds.specs.declared.role.Role.{Role}
-use Rattle.semantic_syntax.specs.declared.spans.Span.{Span}
 use Rattle.semantic_tree.specs.Forest.{Forest, nothing, tree, count, numbered}
 use Rattle.semantic_tree.specs.Tree.{Tree, IsNumbered}
 use Rattle.semantic_tree.specs.declared.node.Node.{Node}
+use Rattle.semantic_tree.proofs.Forests.{below_same}
 use Rattle.semantic_model.specs.Cursor.{on_entering}
 use Rattle.semantic_model.specs.Entries.{Among}
 use Rattle.semantic_model.specs.Inside.{opens, is_inside, any_inside, header_roles, is_in_header}
@@ -48,16 +46,13 @@ numbered-append : (m : ℕ) (xs ys : List NodeEntry) → AreNumbered m xs → Ar
 numbered-append m [] ys h k = subst (λ n. AreNumbered n ys) (omega arith) k
 numbered-append m (x ∷ xs) ys h k = (h.0, numbered-append (suc m) xs ys h.1 (subst (λ n. AreNumbered n ys) (omega arith) k))
 
-tree_parts : {role : Role} {kind : AstType} {span : Span} {text : List ℕ} {marks : Marks} {b b' : Forest} {n n' : ℕ} {a a' : Forest} → tree role kind span text marks b n a ≡ tree role kind span text marks b' n' a' → (b ≡ b') × (n ≡ n') × (a ≡ a')
-tree_parts h = (cc, cc, cc)
-
 -- the nodes below a place are entered in the order of their ids
 below_numbered : (p : Place) (own : Option OpenScope) (n cursor : ℕ) (f : Forest) (m : ℕ) → numbered m f ≡ f → AreNumbered m (entered_nodes (steps_below p own n cursor f))
 below_numbered p own n cursor nothing m e = subst (AreNumbered m) (sym (last_without p own n)) tt
 below_numbered p own n cursor (tree r k span text marks below id after) m e =
     let node : Node = record { kind = k; span = span; text = text; marks = marks; children = below; node_id = id } in
     let place : Place = child_place p (scope_at p r own n) cursor r node in
-    let parts = tree_parts e in
+    let parts = below_same e in
     let inner : List Step = first_steps p own n cursor (r, node) after in
     let later : List Step = later_steps p own n cursor (r, node) after in
     let first : AreNumbered m (entered_nodes (entering place ∷ inner)) =
@@ -153,7 +148,7 @@ below_climbs l p own n cursor nothing m e less up all q among = absurd (none_las
 below_climbs l p own n cursor (tree r k span text marks below id after) m e less up all q among =
     let node : Node = record { kind = k; span = span; text = text; marks = marks; children = below; node_id = id } in
     let place : Place = child_place p (scope_at p r own n) cursor r node in
-    let parts = tree_parts e in
+    let parts = below_same e in
     let xs : List Step = opening_at p r own n in
     let inner : List Step = first_steps p own n cursor (r, node) after in
     let zs : List Step = entering place ∷ (inner ++ leaving place ∷ []) in

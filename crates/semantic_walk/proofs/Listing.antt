@@ -1,13 +1,11 @@
 -- The nodes that a walk has entered are those of the steps that it has done.
 use Rattle.std.proofs.Common.{◌≡◌, ℕ, ◌+◌, List, [], ◌∷◌, ◌++◌, Bool, true, false, ◌&&◌, not, cond, Option, Some, None, IfSome, option_map, map, length, append_assoc, append-nil, length-append, slice_index, refl, sym, ap, subst, ◌∙◌, arith}
 use Rattle.std.proofs.lemmas.List.{map-append, length-map, get_or_push, get_or_append_left}
-use Rattle.semantic_kinds.specs.declared.kind.AstType.{AstType}
 use Rattle.semantic_kinds.specs.declared.role.Role.{Role}
-use Rattle.semantic_kinds.specs.declared.marks.Marks.{Marks}
-use Rattle.semantic_syntax.specs.declared.spans.Span.{Span}
 use Rattle.semantic_tree.specs.Forest.{Forest, nothing, tree, count, numbered}
 use Rattle.semantic_tree.specs.Children.{forest_of}
 use Rattle.semantic_tree.specs.declared.node.Node.{Node}
+use Rattle.semantic_tree.proofs.Forests.{below_same}
 use Rattle.semantic_model.specs.Place.{Place, OpenScope, at}
 use Rattle.semantic_model.specs.Inside.{opens, is_inside, any_inside, header_roles, is_in_header, scopes_in}
 use Rattle.semantic_tree.specs.Views.{has_role}
@@ -154,9 +152,6 @@ entered_among p e h =
       parents = parents ∙ sym grown;
     }
 
-tree_parts : {role : Role} {kind : AstType} {span : Span} {text : List ℕ} {marks : Marks} {b b' : Forest} {n n' : ℕ} {a a' : Forest} → tree role kind span text marks b n a ≡ tree role kind span text marks b' n' a' → (b ≡ b') × (n ≡ n') × (a ≡ a')
-tree_parts h = (cc, cc, cc)
-
 module _ (p : Place) (own : Option OpenScope) (n cursor : ℕ) (child : Role × Node) (rest : List (Role × Node)) where
   abbrev place : Place
   place = child_place p (scope_at p child.0 own n) cursor child.0 child.1
@@ -167,7 +162,7 @@ module _ (p : Place) (own : Option OpenScope) (n cursor : ℕ) (child : Role × 
   -- among the children of a node the first comes next
   child_next : (e : Entered) → IsAmong p (forest_of (child ∷ rest)) e → IsNext place e
   child_next e h =
-      let parts = tree_parts h.order in
+      let parts = below_same h.order in
       record {
         next = parts.1;
         above = ap (λ (id : ℕ). (record { node = child.1; scope = at place; parent = id }) ∷ []) (sym h.current);
@@ -178,7 +173,7 @@ module _ (p : Place) (own : Option OpenScope) (n cursor : ℕ) (child : Role × 
   -- and behind it those after it
   rest_among : (e : Entered) → IsAmong p (forest_of (child ∷ rest)) e → IsAmong p (forest_of rest) (all_listed (entering place ∷ inner) e)
   rest_among e h =
-      let parts = tree_parts h.order in
+      let parts = below_same h.order in
       let more : List NodeEntry = entered_nodes (entering place ∷ inner) in
       let below : length (entered_nodes inner) ≡ count child.1.children = count_nodes place None (next_at p child.0 own n) (on_entering child.1.kind place.cursor) child.1.children in
       let grown : length (listed e.list more).nodes ≡ length e.list.nodes + 1 + count child.1.children = listed_count e.list more ∙ omega (arith, below) in

@@ -3,10 +3,11 @@ use Rattle.std.proofs.Common.{◌≡◌, ℕ, ◌<◌, ◌≤◌, ◌==◌, ◌&
 use Rattle.std.specs.Map.{lookup}
 use Rattle.std.specs.Str.{bytes_eq}
 use Rattle.std.proofs.lemmas.Slice.Eq.{bytes_eq-Decides}
-use Rattle.std.proofs.lemmas.Bool.Decides.{same_from_decides, Decides-eqb}
+use Rattle.std.proofs.lemmas.Bool.Decides.{same_from_decides}
 use Rattle.std.proofs.Math.ListN.{get_or-append}
 use Rattle.indexmap.specs.IndexMap.{insert_entry}
 use Rattle.semantic_syntax.specs.Tables.{Name}
+use Rattle.semantic_syntax.proofs.Truth.{same_turned}
 use Rattle.scoping.specs.Flat.{key_eq}
 use Rattle.scoping.specs.Names.{name_at, IsUnknown, IsNumberOf, IsInterned}
 use Rattle.semantic_model.specs.Binding.{is_of, get, put}
@@ -15,10 +16,6 @@ use Rattle.table_building.specs.Numbered.{binding_of, bindings_named, AreNumbere
 pub bytes_eq_flip : (a b : Name) → bytes_eq a b ≡ bytes_eq b a
 bytes_eq_flip a b = same_from_decides (bytes_eq a b) (bytes_eq b a) (bytes_eq-Decides a b)
     (λ t. sym ((bytes_eq-Decides b a).0 t), λ e. (bytes_eq-Decides b a).1 (sym e))
-
-pub eq_flip : (a b : ℕ) → (a == b) ≡ (b == a)
-eq_flip a b = same_from_decides (a == b) (b == a) (Decides-eqb a b)
-    (λ t. sym ((Decides-eqb b a).0 t), λ e. (Decides-eqb b a).1 (sym e))
 
 -- more names change none of the bindings
 pub named_grown : (names added : List Name) (es : List ((ℕ × ℕ) × ℕ)) → AreNumbered (length names) es → bindings_named (names ++ added) es ≡ bindings_named names es
@@ -50,7 +47,7 @@ module _ (names : List Name) (x : Name) (s : ℕ) where
 
   module _ (n : ℕ) (number : IsNumberOf names x n) where
     same_key : (e : (ℕ × ℕ) × ℕ) → e.0.1 < length names → is_of s x (binding_of names e) ≡ key_eq (s, n) e.0
-    same_key e h = rw (bytes_eq_flip (name_at names e.0.1) x, number.only e.0.1 h, eq_flip e.0.0 s) refl
+    same_key e h = rw (bytes_eq_flip (name_at names e.0.1) x, number.only e.0.1 h, same_turned e.0.0 s) refl
 
     pub get_numbered : (es : List ((ℕ × ℕ) × ℕ)) → AreNumbered (length names) es → get (bindings_named names es) s x ≡ lookup (key_eq (s, n)) es
     get_numbered [] h = refl

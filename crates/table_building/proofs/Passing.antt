@@ -1,16 +1,12 @@
 -- Steps of loops over scopes that are passed.
 use Rattle.std.proofs.Common.{◌≡◌, ℕ, ◌+◌, ◌<◌, ◌≤◌, List, [], ◌∷◌, length, get_or, drop, Option, None, Some, refl, sym}
 use Rattle.std.proofs.Math.ListN.{drop_of_length-le}
-use Rattle.std.proofs.Math.Seq.{drop-cons}
-use Rattle.std.proofs.Math.Numerals.{add-one}
 use Rattle.semantic_syntax.specs.Tables.{Name}
+use Rattle.semantic_syntax.proofs.Truth.{drop_here}
 use Rattle.semantic_model.specs.Naming.{Naming}
 use Rattle.walk_model.specs.WalkState.{WalkState}
 use Rattle.walk_model.specs.Declares.{found}
 use Rattle.walk_model.specs.Hoists.{value_symbol, passed_symbol, against_found, against_way, remember, remember_all}
-
-pub drop_here : {A : Type 0} (items : List A) (i : ℕ) (here : A) → i < length items → here ≡ get_or items i here → drop i items ≡ here ∷ drop (i + 1) items
-drop_here items i here h e = rw (drop-cons items i here h, ← e, add-one) refl
 
 pub remember_turn : (w : WalkState) (x : Name) (y : ℕ) (items : List ℕ) (i here : ℕ) → i < length items → here ≡ get_or items i here
     → remember_all w (drop i items) x y ≡ remember_all (remember w here x y) (drop (i + 1) items) x y

@@ -7,12 +7,12 @@ use Rattle.resolver.specs.declared.outcomes.Outcome.{Outcome}
 use Rattle.resolver.specs.declared.pending.UnresolvedReference.{UnresolvedReference}
 use Rattle.resolver.specs.Terms.{outcome_of, pending_of, staying}
 use Rattle.semantic_syntax.specs.Outcome as model
+use Rattle.semantic_syntax.proofs.Truth.{drop_here}
 use Rattle.walk_model.specs.WalkState.{WalkState}
 use Rattle.walk_model.specs.Settles.{settle, settle_one}
 use Rattle.table_building.specs.Made.{walk_state}
 use Rattle.table_building.specs.Settled.{no_pending, settled_from}
 use Rattle.table_building.specs.declared.declared.Declared.TheInside.{Inside}
-use Rattle.table_building.proofs.Passing.{drop_here}
 use Rattle.table_building.proofs.Waiting.{applied_same}
 
 settle_none : (t : Tables) (es : List model.Pending) → settle t es [] ≡ t

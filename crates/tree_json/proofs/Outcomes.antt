@@ -1,6 +1,7 @@
 -- What lists of values give.
-use Rattle.std.proofs.Common.{◌≡◌, ℕ, ◌+◌, ◌<◌, ◌≤◌, Bool, true, false, ◌&&◌, ◌==◌, List, [], ◌∷◌, length, Some, Result, Ok, Err, ok_or, refl, sym, arith, subst}
+use Rattle.std.proofs.Common.{◌≡◌, ℕ, ◌+◌, ◌<◌, ◌≤◌, true, ◌==◌, List, [], ◌∷◌, length, Some, Result, Ok, Err, ok_or, refl, sym, arith, subst}
 use Rattle.std.proofs.lemmas.Grind.{common_steps}
+use Rattle.semantic_syntax.proofs.Truth.{and_second}
 use Rattle.serde_json.specs.Data.{Data, Items, no_items, item}
 use Rattle.serde_json.specs.View.{view as data_of, items_view}
 use Rattle.serde_json.specs.declared.value.Value.{Value}
@@ -24,13 +25,9 @@ pub follows-true : (opened : ℕ) (l : Line) → follows opened l ≡ true → (
 unfolding follows
 follows-true opened l h = grind (arith, common_steps)
 
-both : (a b : Bool) → (a && b) ≡ true → b ≡ true
-both true b h = h
-both false b h = absurd (cc)
-
 pub follows-root : (l : Line) → follows 0 l ≡ true → l.role ≡ Root
 unfolding follows
-follows-root l h = same_true roles tt l.role Root (both (l.depth == 0) (same_role l.role Root) h)
+follows-root l h = same_true roles tt l.role Root (and_second (l.depth == 0) (same_role l.role Root) h)
 
 if_follows-ok : (opened index : ℕ) (k l : Line) → if_follows opened index k ≡ Ok l → follows opened l ≡ true
 if_follows-ok opened index k l h = grind (arith, common_steps)

@@ -1,11 +1,12 @@
 -- The texts of a program are told by their places.
-use Rattle.std.proofs.Common.{◌≡◌, ℕ, suc, ◌+◌, ◌<◌, ◌≤◌, ◌^◌, Bool, true, false, not, cond, ◌||◌, List, [], ◌∷◌, ◌++◌, length, slice_get, nat_lt, Some, refl, ap, sym, ◌∙◌, arith}
+use Rattle.std.proofs.Common.{◌≡◌, ℕ, suc, ◌+◌, ◌<◌, ◌≤◌, ◌^◌, true, false, not, cond, ◌||◌, List, [], ◌∷◌, ◌++◌, length, slice_get, nat_lt, Some, refl, ap, sym, ◌∙◌, arith}
 use Rattle.std.proofs.lemmas.Grind.{common_steps}
 use Rattle.std.proofs.lemmas.List.{length-append}
 use Rattle.std.proofs.lemmas.List.Folds.{list_any-append}
 use Rattle.std.proofs.lemmas.Slice.Eq.{bytes_eq-Decides}
 use Rattle.std.specs.List.{list_any, position_or_len}
 use Rattle.std.specs.Str.{bytes_eq}
+use Rattle.std.proofs.lemmas.Bool.{or_left, or_right}
 use Rattle.tree_json.specs.Form.{in_list}
 use Rattle.tree_json.specs.Lines.{Line}
 use Rattle.tree_json.specs.Written.{and_text, texts_from, place_of, IsTold, Each}
@@ -40,24 +41,16 @@ told-found text texts few any =
 
 -- ---- the texts that are collected
 
-either : (a b : Bool) → a ≡ true → (a || b) ≡ true
-either true b h = refl
-either false b h = absurd (cc)
-
-or_last : (a b : Bool) → b ≡ true → (a || b) ≡ true
-or_last true b h = refl
-or_last false b h = h
-
 and_text-keeps : (text other : List ℕ) (texts : List (List ℕ)) → list_any (bytes_eq text) texts ≡ true → list_any (bytes_eq text) (and_text texts other) ≡ true
 and_text-keeps text other texts any = elim (list_any (bytes_eq other) texts) as (λ b. list_any (bytes_eq text) (cond b texts (texts ++ other ∷ [])) ≡ true) [
   | true ↦ any
-  | false ↦ list_any-append (bytes_eq text) texts (other ∷ []) ∙ either (list_any (bytes_eq text) texts) (list_any (bytes_eq text) (other ∷ [])) any
+  | false ↦ list_any-append (bytes_eq text) texts (other ∷ []) ∙ or_left (list_any (bytes_eq text) texts) (list_any (bytes_eq text) (other ∷ [])) any
 ]
 
 and_text-has : (text : List ℕ) (texts : List (List ℕ)) → list_any (bytes_eq text) (and_text texts text) ≡ true
 and_text-has text texts = elim (list_any (bytes_eq text) texts) as (λ b. list_any (bytes_eq text) texts ≡ b → list_any (bytes_eq text) (cond b texts (texts ++ text ∷ [])) ≡ true) [
   | true ↦ λ is. is
-  | false ↦ λ is. list_any-append (bytes_eq text) texts (text ∷ []) ∙ or_last (list_any (bytes_eq text) texts) (list_any (bytes_eq text) (text ∷ [])) (either (bytes_eq text text) false ((bytes_eq-Decides text text).1 refl))
+  | false ↦ λ is. list_any-append (bytes_eq text) texts (text ∷ []) ∙ or_right (list_any (bytes_eq text) texts) (list_any (bytes_eq text) (text ∷ [])) (or_left (bytes_eq text text) false ((bytes_eq-Decides text text).1 refl))
 ] refl
 
 texts_from-keeps : (text : List ℕ) (ls : List Line) (texts : List (List ℕ)) → list_any (bytes_eq text) texts ≡ true → list_any (bytes_eq text) (texts_from texts ls) ≡ true

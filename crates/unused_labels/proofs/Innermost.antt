@@ -6,6 +6,7 @@ use Rattle.std.proofs.lemmas.Option.{slice_get-map}
 use Rattle.std.specs.List.{list_any}
 use Rattle.std.specs.Str.{chars, bytes_eq}
 use Rattle.semantic_syntax.specs.Tables.{Name}
+use Rattle.semantic_syntax.proofs.Truth.{or_true}
 use Rattle.unused_labels.specs.declared.labels.LabeledScope.{LabeledScope}
 use Rattle.unused_labels.specs.OpenNames.{names_around, next_or_first, last_place}
 use Rattle.unused_labels.specs.LabelStack.{Labelled, LabelLists, label_seen, is_of, innermost_used, if_unused, left}
@@ -13,10 +14,6 @@ use Rattle.unused_labels.specs.LabelStack.{Labelled, LabelLists, label_seen, is_
 neither : (a b : Bool) → (a || b) ≡ false → (a ≡ false) × (b ≡ false)
 neither false b h = (refl, h)
 neither true b h = absurd cc
-
-either : (a : Bool) → (a || true) ≡ true
-either false = refl
-either true = refl
 
 -- where no statement has the label, none is used
 pub unmoved : (name : Name) (ls : List Labelled) → list_any (is_of name) ls ≡ false → innermost_used name ls ≡ ls
@@ -68,7 +65,7 @@ some_has : (name : Name) (items : List LabeledScope) (i : ℕ) (x : LabeledScope
     → is_of name (label_seen x) ≡ true → list_any (is_of name) (map label_seen items) ≡ true
 some_has name [] i x h s e = absurd (omega arith)
 some_has name (l ∷ ls) zero x h s e = let e2 : is_of name (label_seen l) ≡ true = rw s at e in rw e2 refl
-some_has name (l ∷ ls) (suc i) x h s e = rw (some_has name ls i x (omega arith) s e) (either (is_of name (label_seen l)))
+some_has name (l ∷ ls) (suc i) x h s e = rw (some_has name ls i x (omega arith) s e) (or_true (is_of name (label_seen l)))
 
 -- the last statement that has the label is used
 pub moved : (name : Name) (items : List LabeledScope) (i : ℕ) (x : LabeledScope) → i < length items → x ≡ get_or items i x

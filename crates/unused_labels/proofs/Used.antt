@@ -4,6 +4,7 @@ use Rattle.std.specs.List.{list_any}
 use Rattle.semantic_syntax.specs.Tables.{Name}
 use Rattle.std.specs.Prelude.{bytes_eq}
 use Rattle.std.proofs.lemmas.Slice.Eq.{bytes_eq-Decides}
+use Rattle.semantic_syntax.proofs.Truth.{or_false}
 use Rattle.semantic_model.proofs.once.ListedUnder.{name_tells}
 use Rattle.unused_labels.specs.LabelStack.{Labelled, is_of, innermost_used, if_unused, left}
 use Rattle.unused_labels.specs.Labelling.{used_where}
@@ -70,10 +71,6 @@ used_inside test (l ∷ ls) inner =
     ∙ ap (λ b. l.used || b) (not_inner (list_any (is_of l.name) ls) (bytes_eq inner.name l.name) (test l.name)) in
     λ i. marked l (same i) ∷ used_inside test ls inner i
 
-or_false : (u : Bool) → u ≡ (u || false)
-or_false true = refl
-or_false false = refl
-
 or_true : (u : Bool) → true ≡ (u || true)
 or_true true = refl
 or_true false = refl
@@ -96,7 +93,7 @@ used_by_jump name (l ∷ ls) = elim (name_tells l.name name) [ inl q ↦ own (us
     now x e = marked l (l.used || (not x && e)) ∷ rest
 
     here : (b : Bool) → (b ≡ false → inner ≡ ls) → cond b (l ∷ inner) (marked l true ∷ ls) ≡ marked l (l.used || (not b && true)) ∷ inner
-    here true none = λ i. marked l (or_false l.used i) ∷ inner
+    here true none = λ i. marked l ((sym (or_false l.used)) i) ∷ inner
     here false none = λ i. marked l (or_true l.used i) ∷ sym (none refl) i
 
     there : (b : Bool) → (b ≡ false → inner ≡ ls) → cond b (l ∷ inner) (l ∷ ls) ≡ l ∷ inner

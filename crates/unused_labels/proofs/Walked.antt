@@ -3,6 +3,7 @@ use Rattle.std.proofs.Common.{◌≡◌, ℕ, List, [], ◌∷◌, ◌++◌, Boo
 use Rattle.std.specs.Prelude.{bytes_eq}
 use Rattle.std.proofs.lemmas.List.{append-nil}
 use Rattle.semantic_syntax.specs.Tables.{Name}
+use Rattle.semantic_syntax.proofs.Truth.{and_false}
 use Rattle.semantic_kinds.specs.declared.kind.AstType.{AstType}
 use Rattle.semantic_kinds.specs.declared.kind.AstType.TheVariants as kind
 use Rattle.semantic_tree.specs.Forest.{Forest, nothing, tree}
@@ -29,10 +30,6 @@ named_at jump labelled o below label = (jump && holds (has_text label) o) || (no
 
 abbrev own_unused : Bool → Option Node → ℕ → Forest → List ℕ
 own_unused labelled o id below = cond (labelled && not (is_used o below)) (id ∷ []) []
-
-and_false : (a : Bool) → (a && false) ≡ false
-and_false true = refl
-and_false false = refl
 
 without : (jump labelled n : Bool) → n ≡ ((jump && false) || (not (labelled && false) && n))
 without true true n = refl

@@ -1,5 +1,6 @@
 -- Where a walk notes nothing.
-use Rattle.std.proofs.Common.{◌≡◌, List, [], ◌∷◌, Bool, true, false, ◌&&◌, ◌||◌, cond, is_some, refl}
+use Rattle.std.proofs.Common.{◌≡◌, List, [], ◌∷◌, true, false, ◌&&◌, ◌||◌, cond, is_some, refl}
+use Rattle.std.proofs.lemmas.Bool.{or_parts}
 use Rattle.semantic_kinds.specs.Kinds.{same_kind}
 use Rattle.semantic_kinds.specs.declared.kind.AstType.{AstType}
 use Rattle.semantic_kinds.specs.declared.kind.AstType.TheVariants as kind
@@ -40,29 +41,21 @@ labels_class_nothing above here b h = unclassed above here b (no_body here.kind 
 pub others_label_nothing : (here : Node) (w : LabelLists) → has_label_kind here.kind ≡ false → node_entered here w ≡ w
 others_label_nothing = others_met
 
-or_left : (a b : Bool) → (a || b) ≡ false → a ≡ false
-or_left false b h = refl
-or_left true b h = absurd cc
-
-or_right : (a b : Bool) → (a || b) ≡ false → b ≡ false
-or_right false b h = h
-or_right true b h = absurd cc
-
 -- where nothing is noted on entering
 pub enters_nothing : (above : List Node) (here : Node) (x : NoteLists) → is_noted here.kind ≡ false → noting above here x ≡ x
 enters_nothing above here x h =
-    let other : has_label_kind here.kind ≡ false = or_left (has_label_kind here.kind) _ h in
-    let rest : (same_kind here.kind kind.ClassBody || same_kind here.kind kind.PrivateIdentifier) ≡ false = or_right (has_label_kind here.kind) _ h in
+    let other : has_label_kind here.kind ≡ false = (or_parts (has_label_kind here.kind) _ h).0 in
+    let rest : (same_kind here.kind kind.ClassBody || same_kind here.kind kind.PrivateIdentifier) ≡ false = (or_parts (has_label_kind here.kind) _ h).1 in
     λ i. record {
-      classes = unclassed above here x.classes (or_left (same_kind here.kind kind.ClassBody) _ rest) (or_right (same_kind here.kind kind.ClassBody) _ rest) i;
+      classes = unclassed above here x.classes ((or_parts (same_kind here.kind kind.ClassBody) _ rest).0) ((or_parts (same_kind here.kind kind.ClassBody) _ rest).1) i;
       labels = others_met here x.labels other i;
     }
 
 -- and where nothing is noted on leaving
 pub leaves_nothing : (here : Node) (x : NoteLists) → is_noted_behind here.kind ≡ false → leaving here x ≡ x
 leaves_nothing here x h = λ i. record {
-  classes = cond (or_right (is_labelled here.kind) (same_kind here.kind kind.Class) h i) (popped x.classes) x.classes;
-  labels = cond (or_left (is_labelled here.kind) (same_kind here.kind kind.Class) h i && is_some (label_of here.children)) (left x.labels) x.labels;
+  classes = cond ((or_parts (is_labelled here.kind) (same_kind here.kind kind.Class) h).1 i) (popped x.classes) x.classes;
+  labels = cond ((or_parts (is_labelled here.kind) (same_kind here.kind kind.Class) h).0 i && is_some (label_of here.children)) (left x.labels) x.labels;
 }
 
 pub ruleset unnoted = (labels_class_nothing, others_label_nothing)

@@ -1,6 +1,7 @@
 -- Each place of a program in a catch clause's own scope is followed by the take-over of that scope.
 use Rattle.std.proofs.Common.{◌≡◌, ℕ, List, [], ◌∷◌, ◌++◌, Option, Some, None, Bool, true, false, cond, ◌&&◌, inl, inr, refl, sym, ap, subst, ◌∙◌, append_assoc}
 use Rattle.std.proofs.lemmas.Bool.{cases_Bool}
+use Rattle.semantic_syntax.proofs.Truth.{and_first, and_second}
 use Rattle.semantic_tree.specs.Forest.{Forest, nothing, tree}
 use Rattle.semantic_tree.specs.Tree.{Tree}
 use Rattle.semantic_tree.specs.declared.node.Node.{Node}
@@ -16,7 +17,7 @@ use Rattle.semantic_model.specs.ScopeKind.{opened_scope}
 use Rattle.semantic_model.specs.Cursor.{on_entering}
 use Rattle.semantic_model.specs.Step.{Step, entering, leaving, steps_below, steps, root_place, scope_at, child_place, chain_within}
 use Rattle.semantic_model.proofs.steps.Turn.{Turn, turn_at}
-use Rattle.semantic_model.proofs.form.Clauses.{kind_is, first_holds, second_holds, is_nothing, ends_with_block, clauses_end, later_ends}
+use Rattle.semantic_model.proofs.form.Clauses.{kind_is, is_nothing, ends_with_block, clauses_end, later_ends}
 use Rattle.semantic_model.proofs.form.ParameterShape.{stands_under, parameters_stand}
 use Rattle.semantic_model.proofs.form.ParameterChains.{holds_parameters, is_open_inside, child_within, child_outer}
 use Rattle.semantic_model.proofs.alone.BodyFollows.{taken_in, taken_later, taken_first, FollowsIn, follows_later, AllFollowed, past_opening, past_last, past_ending, block_opens, body_child, body_comes}
@@ -90,22 +91,22 @@ followed p own n cursor (tree r k span text marks below id after) rest a o c e s
     let behind : List Step = turn.behind ++ (turn.others ++ rest) in
     let is_open : is_inside p.node.kind r ≡ true → turn.scope ≡ None → ⊥ = is_open_inside p r own n in
     let o_scope : OwnFact p turn.scope = own_fact p r own n o in
-    let e_parts : (clauses_end below && clauses_end after) ≡ true = second_holds (cond (same_kind k kind.CatchClause) (ends_with_block below) true) (clauses_end below && clauses_end after) e in
-    let s_parts : (parameters_stand k below && parameters_stand p.node.kind after) ≡ true = second_holds (stands_under p.node.kind r k) (parameters_stand k below && parameters_stand p.node.kind after) s in
+    let e_parts : (clauses_end below && clauses_end after) ≡ true = and_second (cond (same_kind k kind.CatchClause) (ends_with_block below) true) (clauses_end below && clauses_end after) e in
+    let s_parts : (parameters_stand k below && parameters_stand p.node.kind after) ≡ true = and_second (stands_under p.node.kind r k) (parameters_stand k below && parameters_stand p.node.kind after) s in
     let a_behind : Around p behind = around_later p turn.behind (turn.others ++ rest) (around_later p turn.others rest a) in
     let c_after : is kind.CatchClause p.node ≡ true → is_nothing after ≡ false → ends_with_block after ≡ true = λ i j. clause_after i j in
-    let ok_rest : AllFollowed (turn.others ++ rest) = followed p turn.scope turn.rest turn.past after rest a o_scope c_after (second_holds (clauses_end below) (clauses_end after) e_parts) (second_holds (parameters_stand k below) (parameters_stand p.node.kind after) s_parts) h in
+    let ok_rest : AllFollowed (turn.others ++ rest) = followed p turn.scope turn.rest turn.past after rest a o_scope c_after (and_second (clauses_end below) (clauses_end after) e_parts) (and_second (parameters_stand k below) (parameters_stand p.node.kind after) s_parts) h in
     let ok_behind : AllFollowed behind = past_ending p r turn.scope after (turn.others ++ rest) ok_rest in
-    let outer : holds_parameters k ≡ true → FollowsIn (outside turn.child.chain) behind = child_outer (λ chain. FollowsIn chain behind) p turn.scope cursor r node is_open (λ e. a_behind.chain) a_behind.outer (first_holds (stands_under p.node.kind r k) (parameters_stand k below && parameters_stand p.node.kind after) s) in
-    let c_below : is kind.CatchClause node ≡ true → is_nothing below ≡ false → ends_with_block below ≡ true = λ i j. clause_below (first_holds (cond (same_kind k kind.CatchClause) (ends_with_block below) true) (clauses_end below && clauses_end after) e) i in
+    let outer : holds_parameters k ≡ true → FollowsIn (outside turn.child.chain) behind = child_outer (λ chain. FollowsIn chain behind) p turn.scope cursor r node is_open (λ e. a_behind.chain) a_behind.outer (and_first (stands_under p.node.kind r k) (parameters_stand k below && parameters_stand p.node.kind after) s) in
+    let c_below : is kind.CatchClause node ≡ true → is_nothing below ≡ false → ends_with_block below ≡ true = λ i j. clause_below (and_first (cond (same_kind k kind.CatchClause) (ends_with_block below) true) (clauses_end below && clauses_end after) e) i in
     let below_ok : Around turn.child (leaving turn.child ∷ behind) → AllFollowed (turn.below ++ (leaving turn.child ∷ behind)) =
-    λ b. followed turn.child None turn.next turn.inner below (leaving turn.child ∷ behind) b tt c_below (first_holds (clauses_end below) (clauses_end after) e_parts) (first_holds (parameters_stand k below) (parameters_stand p.node.kind after) s_parts) ok_behind in
+    λ b. followed turn.child None turn.next turn.inner below (leaving turn.child ∷ behind) b tt c_below (and_first (clauses_end below) (clauses_end after) e_parts) (and_first (parameters_stand k below) (parameters_stand p.node.kind after) s_parts) ok_behind in
     subst AllFollowed (sym (in_turn turn.before turn.below turn.behind turn.others rest (entering turn.child) (leaving turn.child)))
     (past_opening p r own n (entering turn.child ∷ (turn.below ++ (leaving turn.child ∷ behind)))
     (elim (cases_Bool (is kind.CatchClause p.node && same_role r role.Body)) [
-      | inl it ↦ (let catch : is kind.CatchClause p.node ≡ true = first_holds (is kind.CatchClause p.node) (same_role r role.Body) it in
-          let body : same_role r role.Body ≡ true = second_holds (is kind.CatchClause p.node) (same_role r role.Body) it in
-          let block : is kind.BlockStatement node ≡ true = first_holds (same_kind k kind.BlockStatement) (is_nothing after) (rw body at (c catch refl)) in (
+      | inl it ↦ (let catch : is kind.CatchClause p.node ≡ true = and_first (is kind.CatchClause p.node) (same_role r role.Body) it in
+          let body : same_role r role.Body ≡ true = and_second (is kind.CatchClause p.node) (same_role r role.Body) it in
+          let block : is kind.BlockStatement node ≡ true = and_first (same_kind k kind.BlockStatement) (is_nothing after) (rw body at (c catch refl)) in (
             λ b q. taken_first (innermost turn.child.chain).number turn.below (leaving turn.child ∷ behind) (block_opens turn.child turn.next turn.inner below (body_child p turn.scope cursor r node catch body block)),
             below_ok (record { chain = λ i. (let w : true ≡ false = sym block ∙ i in absurd cc); outer = outer }),
           ))
@@ -120,7 +121,7 @@ followed p own n cursor (tree r k span text marks below id after) rest a o c e s
   where
     clause_after : is kind.CatchClause p.node ≡ true → is_nothing after ≡ false → ends_with_block after ≡ true
     clause_after i j = elim (cases_Bool (same_role r role.Body)) [
-      | inl b ↦ (let w : is_nothing after ≡ true = second_holds (same_kind k kind.BlockStatement) (is_nothing after) (rw b at (c i refl)) in let v : true ≡ false = sym w ∙ j in absurd cc)
+      | inl b ↦ (let w : is_nothing after ≡ true = and_second (same_kind k kind.BlockStatement) (is_nothing after) (rw b at (c i refl)) in let v : true ≡ false = sym w ∙ j in absurd cc)
       | inr b ↦ later_ends r k after b (c i refl)
     ]
 

@@ -3,6 +3,7 @@ use Rattle.std.proofs.Common.{◌≡◌, ℕ, List, [], ◌∷◌, ◌++◌, Opt
 use Rattle.std.specs.Prelude.{slice_get}
 use Rattle.semantic_kinds.specs.declared.kind.AstType.{AstType}
 use Rattle.semantic_syntax.specs.SourceTypes.{is_typescript}
+use Rattle.semantic_syntax.proofs.Truth.{and_second}
 use Rattle.semantic_model.specs.Place.{Place, OpenScope, innermost, outside, is_strict}
 use Rattle.semantic_model.specs.Declaration.{How, plain, hoisted, moved, caught, Declaration, Route, passed_before, first_with, route_from, outward_to, outward_past}
 use Rattle.semantic_model.specs.Binder.{is_var, is_clause, is_special, is_block_function, declared_by, declared_on_entering, declared_inside, declared_on_opening}
@@ -10,7 +11,6 @@ use Rattle.semantic_model.specs.Event.{Event, declares, takes_over, ends_header,
 use Rattle.semantic_model.specs.Step.{Step, entering, opening, header_ending, closing, leaving}
 use Rattle.semantic_model.proofs.fold.EachDeclared.{EachDeclared, each_on_entering, each_on_opening}
 use Rattle.semantic_model.proofs.fold.BodyChains.{InTable, AllInTable, AllStepsIn}
-use Rattle.semantic_model.proofs.form.Clauses.{second_holds}
 use Rattle.semantic_model.proofs.bindings.NearestVar.{AllNear, AllPlacesNear}
 
 module _ (v : ℕ → ℕ) (table : List (Option ℕ)) where
@@ -92,7 +92,7 @@ module _ (v : ℕ → ℕ) (table : List (Option ℕ)) where
     neither false false k = (refl, refl)
 
     in_block : (p : Place) → is_block_function p ≡ true → (is_var (innermost p.chain) ≡ false) × (is_clause (innermost p.chain) ≡ false)
-    in_block p h = neither (is_var (innermost p.chain)) (is_clause (innermost p.chain)) (second_holds (not (is_special p.node) && not (is_typescript p.source_type) && not (is_strict p.chain)) (not (is_var (innermost p.chain) || is_clause (innermost p.chain))) h)
+    in_block p h = neither (is_var (innermost p.chain)) (is_clause (innermost p.chain)) (and_second (not (is_special p.node) && not (is_typescript p.source_type) && not (is_strict p.chain)) (not (is_var (innermost p.chain) || is_clause (innermost p.chain))) h)
 
     moved_led : (p : Place) → AllNear v p.chain → AllInTable table p.chain → is_block_function p ≡ true → IsLed moved (outward_past is_var p.chain)
     moved_led p a h e = let q : (is_var (innermost p.chain) ≡ false) × (is_clause (innermost p.chain) ≡ false) = in_block p e in past_led p.chain z root q.0 q.1 a h

@@ -12,6 +12,7 @@ use Rattle.semantic_kinds.specs.declared.role.Role.{Role}
 use Rattle.semantic_kinds.specs.declared.role.Role.TheVariants as role
 use Rattle.semantic_syntax.specs.declared.scope_flags.TheConstants.ScopeFlags as scope
 use Rattle.semantic_syntax.specs.Sets.{meets, union}
+use Rattle.semantic_syntax.proofs.Truth.{and_first, and_second}
 use Rattle.semantic_tree.specs.Views.{is, has_role}
 use Rattle.semantic_model.specs.Place.{Place, OpenScope, innermost, outside, is_strict}
 use Rattle.semantic_model.specs.Inside.{opens, is_inside, is_in_header, is_parameter_decorator, scopes_in, body_number}
@@ -22,7 +23,7 @@ use Rattle.semantic_model.proofs.steps.Turn.{Turn, turn_at}
 use Rattle.semantic_model.proofs.steps.OpenedFrom.{OpenedFrom, OpenedRound, opened_round}
 use Rattle.semantic_model.proofs.steps.TurnCases.{ending_case}
 use Rattle.semantic_model.proofs.steps.EachStep.{EachStep, each_of_node, each_of_turn}
-use Rattle.semantic_model.proofs.form.Clauses.{kind_is, first_holds, second_holds, ends_with_block, clauses_end, nothing_follows, later_ends}
+use Rattle.semantic_model.proofs.form.Clauses.{kind_is, ends_with_block, clauses_end, nothing_follows, later_ends}
 
 module _ (table : List (Option ℕ)) where
   -- a scope that opens with number n has this body
@@ -75,7 +76,7 @@ module _ (table : List (Option ℕ)) where
       bodied false f b q = absurd cc
 
   pub block_is : (p : Place) → is_catch_body p ≡ true → p.node.kind ≡ kind.BlockStatement
-  block_is p h = kind_is p.node.kind kind.BlockStatement (first_holds (is kind.BlockStatement p.node) (same_role p.role role.Body) (first_holds (is kind.BlockStatement p.node && same_role p.role role.Body) _ h))
+  block_is p h = kind_is p.node.kind kind.BlockStatement (and_first (is kind.BlockStatement p.node) (same_role p.role role.Body) (and_first (is kind.BlockStatement p.node && same_role p.role role.Body) _ h))
 
   no_body : (p : Place) (n : ℕ) → is kind.CatchClause p.node ≡ false → (opened_scope p n).body ≡ None
   no_body p n h = rw h refl
@@ -165,10 +166,10 @@ module _ (table : List (Option ℕ)) where
 
   -- a block under a clause is the body that the clause's scope tells
   child_body : (p : Place) (own : Option OpenScope) (n cursor : ℕ) (r : Role) (node : Node) (after : Forest) → (is kind.CatchClause p.node ≡ true → own ≡ None → ⊥) → OwnIn own → ClauseFact p own n (tree r node.kind node.span node.text node.marks node.children node.node_id after) → IsBodyOf (child_place p own cursor r node) n
-  child_body p None n cursor r node after is_open o c = λ h. absurd (is_open (second_holds (is kind.BlockStatement node && same_role r role.Body) (is kind.CatchClause p.node) h) refl)
+  child_body p None n cursor r node after is_open o c = λ h. absurd (is_open (and_second (is kind.BlockStatement node && same_role r role.Body) (is kind.CatchClause p.node) h) refl)
   child_body p (Some s) n cursor r node after is_open o c = λ h.
-      let catch : is kind.CatchClause p.node ≡ true = second_holds (is kind.BlockStatement node && same_role r role.Body) (is kind.CatchClause p.node) h in
-      let body : same_role r role.Body ≡ true = second_holds (is kind.BlockStatement node) (same_role r role.Body) (first_holds (is kind.BlockStatement node && same_role r role.Body) (is kind.CatchClause p.node) h) in
+      let catch : is kind.CatchClause p.node ≡ true = and_second (is kind.BlockStatement node && same_role r role.Body) (is kind.CatchClause p.node) h in
+      let body : same_role r role.Body ≡ true = and_second (is kind.BlockStatement node) (same_role r role.Body) (and_first (is kind.BlockStatement node && same_role r role.Body) (is kind.CatchClause p.node) h) in
       let q : (s.body ≡ body_number n (tree r node.kind node.span node.text node.marks node.children node.node_id after)) × (ends_with_block (tree r node.kind node.span node.text node.marks node.children node.node_id after) ≡ true) =
       c catch (or_first (same_role r role.Body || false) (has_role (role.Body ∷ []) after) (or_first (same_role r role.Body) false body)) in
       let b : s.body ≡ Some n = rw body at q.0 in
@@ -206,18 +207,18 @@ module _ (table : List (Option ℕ)) where
       let bodies : OpenedRound HasBody n turn = opened_round HasBody p own n cursor r node after b in
       let o_scope : OwnIn turn.scope = own_in p r own n o bodies.before in
       let c_scope : ClauseFact p turn.scope turn.next (tree r k span text marks below id after) = clause_opened p r own n (tree r k span text marks below id after) c in
-      let e_parts : (clauses_end below && clauses_end after) ≡ true = second_holds (cond (same_kind k kind.CatchClause) (ends_with_block below) true) (clauses_end below && clauses_end after) e in
+      let e_parts : (clauses_end below && clauses_end after) ≡ true = and_second (cond (same_kind k kind.CatchClause) (ends_with_block below) true) (clauses_end below && clauses_end after) e in
       let chain_in : AllInTable turn.child.chain = child_chain_in p turn.scope cursor r node a o_scope in
       each_of_turn IsStepIn turn (record {
         before = opening_in p r own n a f bodies.before;
         whole = each_of_node IsStepIn turn.child turn.below chain_in
             (in_steps turn.child None turn.next turn.inner below chain_in tt
             (child_body p turn.scope turn.next cursor r node after (clause_is_open p r own n) o_scope c_scope)
-            (clause_starts k below (first_holds (cond (same_kind k kind.CatchClause) (ends_with_block below) true) (clauses_end below && clauses_end after) e))
-            (first_holds (clauses_end below) (clauses_end after) e_parts) bodies.below)
+            (clause_starts k below (and_first (cond (same_kind k kind.CatchClause) (ends_with_block below) true) (clauses_end below && clauses_end after) e))
+            (and_first (clauses_end below) (clauses_end after) e_parts) bodies.below)
             tt;
         behind = ending_in p r turn.scope after;
         others = in_steps p turn.scope turn.rest turn.past after a o_scope (body_kept p r own n turn.rest f)
             (clause_passed p turn.scope turn.next r node after (clause_is_open p r own n) c_scope)
-            (second_holds (clauses_end below) (clauses_end after) e_parts) bodies.others;
+            (and_second (clauses_end below) (clauses_end after) e_parts) bodies.others;
       })

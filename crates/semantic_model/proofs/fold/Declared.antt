@@ -6,6 +6,7 @@ use Rattle.semantic_kinds.specs.Kinds.{same_kind}
 use Rattle.semantic_kinds.specs.declared.kind.AstType.{AstType}
 use Rattle.semantic_kinds.specs.declared.kind.AstType.TheVariants as kind
 use Rattle.semantic_syntax.specs.SourceTypes.{is_typescript}
+use Rattle.semantic_syntax.proofs.Truth.{and_second}
 use Rattle.semantic_model.specs.Place.{Place, OpenScope, innermost, outside, is_strict}
 use Rattle.semantic_model.specs.Declaration.{How, plain, hoisted, moved, caught, Declaration, Route, here, passed_before, first_with, route_from, outward_to, outward_past, scope_it_stands_in}
 use Rattle.semantic_model.specs.Binder.{Row, declare, is_var, is_clause, is_conditional, is_special, is_block_function, declared_by, declared_on_entering, declared_inside, declared_on_opening}
@@ -14,7 +15,6 @@ use Rattle.semantic_model.specs.Step.{Step, entering, opening, header_ending, cl
 use Rattle.semantic_model.proofs.fold.Actions.{StandsInBlock}
 use Rattle.semantic_model.proofs.fold.EachDeclared.{EachDeclared, each_on_entering, each_on_opening}
 use Rattle.semantic_model.proofs.fold.BodyChains.{InTable, AllInTable, IsStepIn, AllStepsIn, block_is}
-use Rattle.semantic_model.proofs.form.Clauses.{second_holds}
 
 module _ (table : List (Option ℕ)) (root : slice_get table 0 ≡ Some None) where
   -- the target and the passed scopes stand in the table
@@ -85,7 +85,7 @@ module _ (table : List (Option ℕ)) (root : slice_get table 0 ≡ Some None) wh
 
   -- no statement stands in a clause's own scope, so a block function's scope has no body
   free_of_clause : (p : Place) → is_block_function p ≡ true → is_clause (innermost p.chain) ≡ false
-  free_of_clause p h = go (is_var (innermost p.chain)) (is_clause (innermost p.chain)) (second_holds (not (is_special p.node) && not (is_typescript p.source_type) && not (is_strict p.chain)) (not (is_var (innermost p.chain) || is_clause (innermost p.chain))) h)
+  free_of_clause p h = go (is_var (innermost p.chain)) (is_clause (innermost p.chain)) (and_second (not (is_special p.node) && not (is_typescript p.source_type) && not (is_strict p.chain)) (not (is_var (innermost p.chain) || is_clause (innermost p.chain))) h)
     where
       go : (a b : Bool) → not (a || b) ≡ true → b ≡ false
       go true b k = absurd cc

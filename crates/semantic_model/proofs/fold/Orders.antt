@@ -1,6 +1,7 @@
 -- The events of a program come in order: the fold over them is sound.
 use Rattle.std.proofs.Common.{◌≡◌, ℕ, suc, ◌+◌, List, [], ◌∷◌, ◌++◌, Option, Some, None, true, false, inl, inr, refl, sym, ap, subst, ◌∙◌, ◌&&◌, length, arith, zero-add}
 use Rattle.std.specs.Prelude.{slice_get}
+use Rattle.semantic_syntax.proofs.Truth.{and_second}
 use Rattle.semantic_tree.specs.Forest.{Forest, nothing, tree}
 use Rattle.semantic_tree.specs.Tree.{Tree}
 use Rattle.semantic_kinds.specs.declared.kind.AstType.TheVariants as kind
@@ -20,7 +21,7 @@ use Rattle.semantic_model.proofs.lists.Members.{among_more}
 use Rattle.semantic_model.proofs.fold.Actions.{made_against_all}
 use Rattle.semantic_model.proofs.fold.Changes.{Sound, sound_start}
 use Rattle.semantic_model.proofs.fold.TakeOvers.{IsReady, Orderly, sound_run}
-use Rattle.semantic_model.proofs.form.Clauses.{clauses_end, second_holds, kind_is}
+use Rattle.semantic_model.proofs.form.Clauses.{clauses_end, kind_is}
 use Rattle.semantic_model.proofs.form.ParameterShape.{parameters_stand}
 use Rattle.semantic_model.proofs.fold.BodyChains.{HasBody, IsStepIn, AllStepsIn, in_steps}
 use Rattle.semantic_model.proofs.steps.OpenedFrom.{OpenedFrom, opened_left}
@@ -109,7 +110,7 @@ steps_in p h =
     let below : List Step = steps_below root None 0 (on_entering p.root.kind 0) p.root.children in
     each_of_node (IsStepIn table) root below tt
     (in_steps table root None 0 (on_entering p.root.kind 0) p.root.children tt tt
-    (λ e. (let q : false ≡ true = second_holds (is kind.BlockStatement p.root && same_role role.Root role.Body) false e in absurd cc))
+    (λ e. (let q : false ≡ true = and_second (is kind.BlockStatement p.root && same_role role.Root role.Body) false e in absurd cc))
     (λ e. (let q : kind.Program ≡ kind.CatchClause = sym h.root ∙ kind_is p.root.kind kind.CatchClause e in absurd cc))
     h.clauses (opened_left (HasBody table) 0 below (leaving root ∷ []) all))
     tt

@@ -1,5 +1,6 @@
 -- Catch clauses end with their body, a block. Kinds and roles by their tests.
 use Rattle.std.proofs.Common.{◌≡◌, [], ◌∷◌, refl, Bool, true, false, cond, ◌&&◌}
+use Rattle.semantic_syntax.proofs.Truth.{and_second}
 use denote.Enum.Bare.{same_true}
 use Rattle.semantic_tree.specs.Forest.{Forest, nothing, tree}
 use Rattle.semantic_kinds.specs.Kinds.{same_kind}
@@ -17,17 +18,6 @@ kind_is a b h = same_true the_kinds tt a b h
 
 pub role_is : (a b : Role) → same_role a b ≡ true → a ≡ b
 role_is a b h = same_true the_roles tt a b h
-
-pub first_holds : (a b : Bool) → (a && b) ≡ true → a ≡ true
-first_holds true b h = refl
-first_holds false b h = h
-
-pub second_holds : (a b : Bool) → (a && b) ≡ true → b ≡ true
-second_holds true b h = h
-second_holds false b h = absurd cc
-
-pub both_hold : (a b : Bool) → a ≡ true → b ≡ true → (a && b) ≡ true
-both_hold a b h k = rw (h, k) refl
 
 abbrev pub is_nothing : Forest → Bool
 is_nothing nothing = true
@@ -48,7 +38,7 @@ pub nothing_follows : (r : Role) (k : AstType) (after : Forest) → same_role r 
 nothing_follows r k nothing e h = refl
 nothing_follows r k (tree r2 k2 span text marks below id after) e h =
     let q : (same_kind k kind.BlockStatement && false) ≡ true = rw e at h in
-    let w : false ≡ true = second_holds (same_kind k kind.BlockStatement) false q in absurd cc
+    let w : false ≡ true = and_second (same_kind k kind.BlockStatement) false q in absurd cc
 
 -- the form of what follows another child
 pub later_ends : (r : Role) (k : AstType) (after : Forest) → same_role r role.Body ≡ false → cond (same_role r role.Body) (same_kind k kind.BlockStatement && is_nothing after) (ends_with_block after) ≡ true → ends_with_block after ≡ true

@@ -1,6 +1,7 @@
 -- What holds of the chain round a place holds of those of its children, and round the parameters among them.
 use Rattle.std.proofs.Common.{◌≡◌, ℕ, List, ◌∷◌, Option, Some, None, Bool, true, false, cond, ◌&&◌, ◌||◌, not, inl, inr, refl, sym, subst}
 use Rattle.std.proofs.lemmas.Bool.{cases_Bool, not-true, or_left}
+use Rattle.semantic_syntax.proofs.Truth.{and_first, and_second}
 use Rattle.semantic_kinds.specs.Kinds.{same_kind}
 use Rattle.semantic_kinds.specs.declared.kind.AstType.{AstType}
 use Rattle.semantic_kinds.specs.declared.kind.AstType.TheVariants as kind
@@ -11,7 +12,7 @@ use Rattle.semantic_model.specs.Place.{Place, OpenScope, outside}
 use Rattle.semantic_model.specs.Inside.{is_inside, is_in_header, is_parameter_decorator}
 use Rattle.semantic_model.specs.ScopeKind.{opened_scope}
 use Rattle.semantic_model.specs.Step.{scope_at, child_place, chain_within}
-use Rattle.semantic_model.proofs.form.Clauses.{kind_is, first_holds, second_holds}
+use Rattle.semantic_model.proofs.form.Clauses.{kind_is}
 use Rattle.semantic_model.proofs.form.ParameterShape.{holds_inside, is_parameter, stands_under}
 
 -- a list of parameters, or a parameter
@@ -43,11 +44,11 @@ module _ (P : List OpenScope → Type 0) (p : Place) (scope : Option OpenScope) 
   -- a list of parameters stands in a function's own scope
   list_outer : (is_inside p.node.kind r ≡ true → scope ≡ None → ⊥) → (is kind.BlockStatement p.node ≡ false → P p.chain) → holds_inside p.node.kind r ≡ true → P (outside (child_place p scope cursor r node).chain)
   list_outer is_open chain h =
-      let three : (is_inside p.node.kind r && not (is_parameter_decorator p.node.kind r) && not (same_kind p.node.kind kind.BlockStatement)) ≡ true = first_holds (is_inside p.node.kind r && not (is_parameter_decorator p.node.kind r) && not (same_kind p.node.kind kind.BlockStatement)) (not (same_kind p.node.kind kind.CatchClause)) h in
-      let block : is kind.BlockStatement p.node ≡ false = not-true (same_kind p.node.kind kind.BlockStatement) (second_holds (is_inside p.node.kind r && not (is_parameter_decorator p.node.kind r)) (not (same_kind p.node.kind kind.BlockStatement)) three) in
-      let two : (is_inside p.node.kind r && not (is_parameter_decorator p.node.kind r)) ≡ true = first_holds (is_inside p.node.kind r && not (is_parameter_decorator p.node.kind r)) (not (same_kind p.node.kind kind.BlockStatement)) three in
-      let inside : is_inside p.node.kind r ≡ true = first_holds (is_inside p.node.kind r) (not (is_parameter_decorator p.node.kind r)) two in
-      let plain : is_parameter_decorator p.node.kind r ≡ false = not-true (is_parameter_decorator p.node.kind r) (second_holds (is_inside p.node.kind r) (not (is_parameter_decorator p.node.kind r)) two) in
+      let three : (is_inside p.node.kind r && not (is_parameter_decorator p.node.kind r) && not (same_kind p.node.kind kind.BlockStatement)) ≡ true = and_first (is_inside p.node.kind r && not (is_parameter_decorator p.node.kind r) && not (same_kind p.node.kind kind.BlockStatement)) (not (same_kind p.node.kind kind.CatchClause)) h in
+      let block : is kind.BlockStatement p.node ≡ false = not-true (same_kind p.node.kind kind.BlockStatement) (and_second (is_inside p.node.kind r && not (is_parameter_decorator p.node.kind r)) (not (same_kind p.node.kind kind.BlockStatement)) three) in
+      let two : (is_inside p.node.kind r && not (is_parameter_decorator p.node.kind r)) ≡ true = and_first (is_inside p.node.kind r && not (is_parameter_decorator p.node.kind r)) (not (same_kind p.node.kind kind.BlockStatement)) three in
+      let inside : is_inside p.node.kind r ≡ true = and_first (is_inside p.node.kind r) (not (is_parameter_decorator p.node.kind r)) two in
+      let plain : is_parameter_decorator p.node.kind r ≡ false = not-true (is_parameter_decorator p.node.kind r) (and_second (is_inside p.node.kind r) (not (is_parameter_decorator p.node.kind r)) two) in
       rw plain (go scope is_open inside (chain block))
     where
       go : (o : Option OpenScope) → (is_inside p.node.kind r ≡ true → o ≡ None → ⊥) → is_inside p.node.kind r ≡ true → P p.chain → P (outside (chain_within p r o))

@@ -2,6 +2,7 @@
 use Rattle.std.proofs.Common.{◌≡◌, ℕ, List, Bool, true, false, not, ◌&&◌, ◌||◌, cond, refl, subst, inl, inr}
 use Rattle.std.specs.List.{list_all}
 use Rattle.std.proofs.lemmas.Bool.{cases_Bool}
+use Rattle.semantic_syntax.proofs.Truth.{and_first, and_second}
 use Rattle.semantic_tree.specs.Forest.{Forest, nothing, tree}
 use Rattle.semantic_tree.specs.Nodes.{trees}
 use Rattle.semantic_tree.specs.Fit.{fit}
@@ -15,7 +16,7 @@ use Rattle.semantic_kinds.specs.declared.role.Role.{Role}
 use Rattle.semantic_kinds.specs.declared.part.Part.{Part}
 use Rattle.semantic_model.specs.Inside.{is_inside, is_parameter_decorator}
 use Rattle.semantic_model.proofs.form.PartsHold.{passed_hold, fit_holds}
-use Rattle.semantic_model.proofs.form.Clauses.{kind_is, first_holds, second_holds}
+use Rattle.semantic_model.proofs.form.Clauses.{kind_is}
 
 -- a child in the role stands in the own scope of a node of the kind, which is no block and no catch clause
 abbrev pub holds_inside : AstType → Role → Bool
@@ -52,10 +53,10 @@ not_or false b h e = absurd cc
 part_stands : (k : AstType) (part : Part) (k2 : AstType) (text : List ℕ) → holds_part k text part ≡ true → is_of part.class k2 text ≡ true → stands_under k part.role k2 ≡ true
 unfolding holds_part
 part_stands k part k2 text h i =
-    let first : (not (is_of part.class kind.FormalParameters text) || holds_inside k part.role) ≡ true = first_holds (not (is_of part.class kind.FormalParameters text) || holds_inside k part.role) _ h in
-    let rest : ((not (is_of part.class kind.FormalParameter text) || same_kind k kind.FormalParameters) && (not (is_of part.class kind.FormalParameterRest text) || same_kind k kind.FormalParameters)) ≡ true = second_holds (not (is_of part.class kind.FormalParameters text) || holds_inside k part.role) _ h in
-    let second : (not (is_of part.class kind.FormalParameter text) || same_kind k kind.FormalParameters) ≡ true = first_holds (not (is_of part.class kind.FormalParameter text) || same_kind k kind.FormalParameters) _ rest in
-    let third : (not (is_of part.class kind.FormalParameterRest text) || same_kind k kind.FormalParameters) ≡ true = second_holds (not (is_of part.class kind.FormalParameter text) || same_kind k kind.FormalParameters) _ rest in
+    let first : (not (is_of part.class kind.FormalParameters text) || holds_inside k part.role) ≡ true = and_first (not (is_of part.class kind.FormalParameters text) || holds_inside k part.role) _ h in
+    let rest : ((not (is_of part.class kind.FormalParameter text) || same_kind k kind.FormalParameters) && (not (is_of part.class kind.FormalParameterRest text) || same_kind k kind.FormalParameters)) ≡ true = and_second (not (is_of part.class kind.FormalParameters text) || holds_inside k part.role) _ h in
+    let second : (not (is_of part.class kind.FormalParameter text) || same_kind k kind.FormalParameters) ≡ true = and_first (not (is_of part.class kind.FormalParameter text) || same_kind k kind.FormalParameters) _ rest in
+    let third : (not (is_of part.class kind.FormalParameterRest text) || same_kind k kind.FormalParameters) ≡ true = and_second (not (is_of part.class kind.FormalParameter text) || same_kind k kind.FormalParameters) _ rest in
     elim (cases_Bool (same_kind k2 kind.FormalParameters)) [
       | inl e ↦ rw e (not_or (is_of part.class kind.FormalParameters text) (holds_inside k part.role) first (subst (λ q. is_of part.class q text ≡ true) (kind_is k2 kind.FormalParameters e) i))
       | inr e ↦ rw e (elim (cases_Bool (same_kind k2 kind.FormalParameter)) [

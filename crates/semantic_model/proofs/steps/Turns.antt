@@ -1,10 +1,10 @@
 -- The steps of the children of a node, one child at a time.
 use Rattle.std.proofs.Common.{◌≡◌, ℕ, ◌+◌, ◌<◌, ◌≤◌, List, length, get_or, drop, ◌++◌, Option, cond, refl}
 use Rattle.std.proofs.Math.ListN.{drop_of_length-le}
+use Rattle.semantic_syntax.proofs.Truth.{drop_here}
 use Rattle.semantic_tree.specs.Children.{forest_of}
 use Rattle.semantic_kinds.specs.declared.role.Role.{Role}
 use Rattle.semantic_tree.specs.declared.node.Node.{Node}
-use Rattle.semantic_tree.proofs.Fits.{drop_here}
 use Rattle.semantic_model.specs.Place.{Place, OpenScope}
 use Rattle.semantic_model.specs.Inside.{opens, scopes_in}
 use Rattle.semantic_model.specs.Step.{steps_below, steps_of, opening_at, ending_after, opening_last, scope_at, next_at, child_place, cursor_past}

@@ -1,6 +1,6 @@
 -- Trees that differ in names alone: each name is changed by one map.
 use Rattle.std.proofs.Common.{◌≡◌, ℕ, List, [], ◌∷◌, ◌++◌, cond, Bool, true, false, ◌&&◌, ◌||◌, inl, inr, ◌⊎◌, refl, sym, ap, subst, ◌∙◌, map, if◌then◌else◌}
-use Rattle.std.proofs.lemmas.Bool.{cases_Bool}
+use Rattle.std.proofs.lemmas.Bool.{cases_Bool, and_from}
 use Rattle.std.specs.Prelude.{flat_map, filter}
 use Rattle.semantic_syntax.specs.declared.spans.Span.{Span}
 use Rattle.semantic_syntax.specs.Tables.{Name}
@@ -19,7 +19,7 @@ use Rattle.semantic_kinds.specs.declared.role.Role.{Role}
 use Rattle.semantic_kinds.specs.declared.role.Role.TheVariants as role
 use Rattle.semantic_tree.specs.Views.{is, children_of}
 use Rattle.semantic_model.specs.Binder.{member_names}
-use Rattle.semantic_model.proofs.form.Clauses.{kind_is, both_hold}
+use Rattle.semantic_model.proofs.form.Clauses.{kind_is}
 
 -- the text is a name of the program
 abbrev pub is_name : AstType → Bool
@@ -130,7 +130,7 @@ module _ (f : Name → Name) where
       piece false e h = h
 
       go : (x : Bool) → same_role r role.Quasis ≡ x → labelled span (pieces_in (renamed f InMemberName after)) ≡ map changed (labelled span (pieces_in after)) → labelled span (filter (is kind.TemplateElement) (if x then new ∷ children_of role.Quasis (renamed f InMemberName after) else children_of role.Quasis (renamed f InMemberName after))) ≡ map changed (labelled span (filter (is kind.TemplateElement) (if x then old ∷ children_of role.Quasis after else children_of role.Quasis after)))
-      go true q h = piece (same_kind k kind.TemplateElement) (λ e. member_text InMemberName r k text (both_hold (same_role r role.Quasis) (same_kind k kind.TemplateElement) q e)) h
+      go true q h = piece (same_kind k kind.TemplateElement) (λ e. member_text InMemberName r k text (and_from (same_role r role.Quasis) (same_kind k kind.TemplateElement) q e)) h
       go false q h = h
 
   -- a word or a text
@@ -149,7 +149,7 @@ module _ (f : Name → Name) where
   label_changed : (r : Role) (k : AstType) (s : Span) (text : Name) (marks : Marks) (b : Forest) (id : ℕ) → same_role r role.Id ≡ true → labels_in (record { kind = k; span = s; text = renamed_text f InMember r k text; marks = marks; children = renamed f (setting_below InMember r k) b; node_id = id }) ≡ map changed (labels_in (record { kind = k; span = s; text = text; marks = marks; children = b; node_id = id }))
   label_changed r k s text marks b id e =
       go (holds_kind (kind.IdentifierName ∷ kind.StringLiteral ∷ []) k) (same_kind k kind.TemplateLiteral)
-      (λ h. member_text InMember r k text (both_hold (same_role r role.Id) (same_kind k kind.IdentifierName || same_kind k kind.StringLiteral) e (is_word k h)))
+      (λ h. member_text InMember r k text (and_from (same_role r role.Id) (same_kind k kind.IdentifierName || same_kind k kind.StringLiteral) e (is_word k h)))
       (λ h. subst (λ w. labelled s (pieces_in (renamed f w b)) ≡ map changed (labelled s (pieces_in b))) (below_template r k e h) (pieces s b))
     where
       old : Node

@@ -5,6 +5,7 @@ use Rattle.std.specs.List.{range_with_len}
 use Rattle.std.specs.Ordering.{nat_cmp}
 use Rattle.std.specs.BTreeSet.{insert_key}
 use Rattle.std.proofs.lemmas.Bool.Decides.{eqb_tells, Decides-ltb}
+use Rattle.semantic_syntax.proofs.Truth.{or_assoc, or_false}
 use Rattle.semantic_model.specs.Entries.{Among}
 use Rattle.semantic_model.specs.Fold.{Made}
 use Rattle.semantic_model.specs.TablesOf.{any_pure}
@@ -71,23 +72,15 @@ insert_within f y a (suc k) l m = elim (eqb_tells y a) [
     later true h g = rw g (ap (λ xs. a ∷ xs) h)
     later false h g = h
 
-or_assoc : (a b c : Bool) → ((a || b) || c) ≡ (a || (b || c))
-or_assoc true b c = refl
-or_assoc false b c = refl
-
-or_none : (a : Bool) → a ≡ (a || false)
-or_none true = refl
-or_none false = refl
-
 pure_step : (f : ℕ → Bool) (n : ℕ) (m : Made) → m.symbol < n → with_pure (filter f (range_with_len 0 n)) m ≡ filter (λ s. f s || (m.declaration.naming.is_pure && m.symbol == s)) (range_with_len 0 n)
 pure_step f n m l = go m.declaration.naming.is_pure
   where
     go : (b : Bool) → cond b (insert_key nat_cmp (filter f (range_with_len 0 n)) m.symbol) (filter f (range_with_len 0 n)) ≡ filter (λ s. f s || (b && m.symbol == s)) (range_with_len 0 n)
     go true = insert_within f m.symbol 0 n (omega arith) (omega arith)
-    go false = filter_same f (λ s. f s || false) (range_with_len 0 n) (λ s. or_none (f s))
+    go false = filter_same f (λ s. f s || false) (range_with_len 0 n) (λ s. (sym (or_false (f s))))
 
 pures_from : (f : ℕ → Bool) (n : ℕ) (ms : List Made) → ((m : Made) → Among m ms → m.symbol < n) → fold with_pure (filter f (range_with_len 0 n)) ms ≡ filter (λ s. f s || any_pure ms s) (range_with_len 0 n)
-pures_from f n [] h = filter_same f (λ s. f s || false) (range_with_len 0 n) (λ s. or_none (f s))
+pures_from f n [] h = filter_same f (λ s. f s || false) (range_with_len 0 n) (λ s. (sym (or_false (f s))))
 pures_from f n (m ∷ ms) h =
     ap (λ ys. fold with_pure ys ms) (pure_step f n m (h m (inl refl)))
     ∙ pures_from (λ s. f s || (m.declaration.naming.is_pure && m.symbol == s)) n ms (λ k a. h k (inr a))

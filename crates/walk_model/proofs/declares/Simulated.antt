@@ -18,8 +18,8 @@ use Rattle.semantic_model.specs.Event.{Event, takes_over, is_catch_body, taken_o
 use Rattle.semantic_model.specs.Fold.{State, start}
 use Rattle.semantic_model.specs.Hoist.{declare_by, run}
 use Rattle.semantic_syntax.specs.Outcome.{header_outcome, last_outcome}
+use Rattle.semantic_syntax.proofs.Truth.{and_first}
 use Rattle.semantic_model.proofs.steps.Compose.{run-append}
-use Rattle.semantic_model.proofs.form.Clauses.{first_holds}
 use Rattle.walk_model.specs.WalkState.{WalkState, nothing_made}
 use Rattle.walk_model.specs.Opens.{open_scope}
 use Rattle.walk_model.specs.Walks as walk
@@ -90,7 +90,7 @@ first_below n (s ∷ ss) v h = h.0
 pub body_has_var : (p : Place) → IsGrounded p → is_catch_body p ≡ true → HasVar p.chain
 body_has_var p (inl v) h = v
 body_has_var p (inr e) h =
-    let b : is kind.BlockStatement p.node ≡ true = first_holds (is kind.BlockStatement p.node) (same_role p.role role.Body) (first_holds (is kind.BlockStatement p.node && same_role p.role role.Body) (parent_holds (is kind.CatchClause) p.path) h) in
+    let b : is kind.BlockStatement p.node ≡ true = and_first (is kind.BlockStatement p.node) (same_role p.role role.Body) (and_first (is kind.BlockStatement p.node && same_role p.role role.Body) (parent_holds (is kind.CatchClause) p.path) h) in
     let q : false ≡ true = rw e at b in absurd cc
 
 taken_as : (n : ℕ) (w : WalkState) (st : State) (p : Place) (s : OpenScope) → s.number ≡ n → IsGrounded p → Descends n p.chain → bound_by st.bindings n ≡ [] → Represents (suc n) w st

@@ -16,6 +16,7 @@ use Rattle.semantic_model.specs.Place.{Place, OpenScope, innermost, parent_holds
 use Rattle.semantic_model.specs.Binding.{get}
 use Rattle.semantic_model.specs.Declaration.{How, plain, hoisted, moved, caught, Declaration, here, first_with}
 use Rattle.semantic_syntax.specs.Members.{contains}
+use Rattle.semantic_syntax.proofs.Truth.{and_first}
 use Rattle.semantic_model.specs.Binder.{Row, declare, is_var, is_statement, own_function_row, class_row, type_parameter_row, ids, declared_on_entering, declared_inside, declared_on_opening}
 use Rattle.semantic_model.specs.Event.{Event, declares, takes_over, placed_by, is_catch_body, taken_over, declares_all, events_of}
 use Rattle.semantic_model.specs.Step.{Step, entering, opening, header_ending, closing, leaving}
@@ -26,7 +27,7 @@ use Rattle.semantic_model.proofs.lists.Growth.{act_grows}
 use Rattle.semantic_model.proofs.lists.BindingLaws.{get_among}
 use Rattle.semantic_model.proofs.lists.Bounds.{get_below}
 use Rattle.semantic_model.proofs.once.UseLists.{IsBelow}
-use Rattle.semantic_model.proofs.form.Clauses.{kind_is, first_holds}
+use Rattle.semantic_model.proofs.form.Clauses.{kind_is}
 use Rattle.walk_model.specs.Walks.{numbers}
 use Rattle.walk_model.proofs.places.Nested.{Descends, AreOpen, IsNestedStep, AreNested, open_past, seen_past, seen_longer}
 use Rattle.walk_model.proofs.places.Routes.{grounded, HasVar, entering_goes, opening_goes}
@@ -180,7 +181,7 @@ innermost_above c n (s ∷ ss) h v = by (is_var s) v.is
 
 body_open : (p : Place) → is_catch_body p ≡ true → is_closed p.node.kind p.node.text ≡ false
 body_open p h =
-    let b : is kind.BlockStatement p.node ≡ true = first_holds (is kind.BlockStatement p.node) (same_role p.role role.Body) (first_holds (is kind.BlockStatement p.node && same_role p.role role.Body) (parent_holds (is kind.CatchClause) p.path) h) in
+    let b : is kind.BlockStatement p.node ≡ true = and_first (is kind.BlockStatement p.node) (same_role p.role role.Body) (and_first (is kind.BlockStatement p.node && same_role p.role role.Body) (parent_holds (is kind.CatchClause) p.path) h) in
     let k : p.node.kind ≡ kind.BlockStatement = kind_is p.node.kind kind.BlockStatement b in rw k refl
 
 taken_sided : (c n : ℕ) (p : Place) (s : OpenScope) → s.number ≡ n → c < n → Descends n p.chain → (is_closed p.node.kind p.node.text ≡ true) ⊎ VarAbove c p.chain → AllOneSided c (taken_over p s)

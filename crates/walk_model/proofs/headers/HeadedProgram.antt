@@ -1,5 +1,6 @@
 -- The steps of a program are headed.
 use Rattle.std.proofs.Common.{◌≡◌, ℕ, ◌+◌, ◌≤◌, List, [], ◌∷◌, ◌++◌, Option, Some, None, Bool, true, false, cond, ◌||◌, not, ◌⊎◌, inl, inr, refl, sym, ap, subst, ◌∙◌, length, arith}
+use Rattle.semantic_syntax.proofs.Truth.{and_second}
 use Rattle.semantic_tree.specs.Forest.{Forest, nothing, tree}
 use Rattle.semantic_tree.specs.Tree.{Tree}
 use Rattle.semantic_tree.specs.Faults.{first_fault}
@@ -15,7 +16,7 @@ use Rattle.semantic_model.specs.ScopeKind.{opened_scope}
 use Rattle.semantic_model.specs.Cursor.{on_entering}
 use Rattle.semantic_model.specs.Step.{Step, opening, closing, leaving, steps_below, steps, opening_last, root_place}
 use Rattle.semantic_model.proofs.steps.Turn.{Turn, turn_at}
-use Rattle.semantic_model.proofs.form.Clauses.{kind_is, second_holds}
+use Rattle.semantic_model.proofs.form.Clauses.{kind_is}
 use Rattle.semantic_model.proofs.steps.Opened.{opened_by_node, openings, none_after, next_opened}
 use Rattle.semantic_model.proofs.form.ParameterChains.{is_open_inside}
 use Rattle.walk_model.proofs.places.Shapes.{holds_below}
@@ -46,7 +47,7 @@ which k r k2 text below after h = by (is_in_header k r) (has_role (header_roles 
   where
     named : is_name k r ≡ true → (k2 ≡ kind.BindingIdentifier) × (below ≡ nothing)
     named e =
-        let second : (not (is_name k r) || same_kind k2 kind.BindingIdentifier) ≡ true = second_holds (not (same_kind k kind.BindingIdentifier)) (not (is_name k r) || same_kind k2 kind.BindingIdentifier) h.names in
+        let second : (not (is_name k r) || same_kind k2 kind.BindingIdentifier) ≡ true = and_second (not (same_kind k kind.BindingIdentifier)) (not (is_name k r) || same_kind k2 kind.BindingIdentifier) h.names in
         let q : same_kind k2 kind.BindingIdentifier ≡ true = rw e at second in
         let i : k2 ≡ kind.BindingIdentifier = kind_is k2 kind.BindingIdentifier q in
         (i, nothing_below below (subst (λ m. holds_below names_identifier m below ≡ true) i h.inner.names))

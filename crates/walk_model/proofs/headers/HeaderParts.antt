@@ -1,8 +1,9 @@
 -- Before the last part of a header there is nothing but parts of it, and the name of a function.
 use Rattle.std.proofs.Common.{◌≡◌, ℕ, List, [], ◌∷◌, ◌++◌, Bool, true, false, not, ◌&&◌, ◌||◌, None, take, drop, length, ◌⊎◌, inl, inr, refl, sym, ap, subst, ◌∙◌, arith}
 use Rattle.std.specs.List.{list_all, list_any}
-use Rattle.std.proofs.lemmas.Bool.{cases_Bool, eqb-true}
+use Rattle.std.proofs.lemmas.Bool.{cases_Bool, eqb-true, and_from, or_parts}
 use Rattle.std.proofs.lemmas.List.{take-append-drop}
+use Rattle.semantic_syntax.proofs.Truth.{and_first, and_second}
 use Rattle.semantic_kinds.specs.Kinds.{same_kind}
 use Rattle.semantic_kinds.specs.Roles.{same_role}
 use Rattle.semantic_kinds.specs.Classes.{is_of}
@@ -26,7 +27,7 @@ use Rattle.semantic_tree.specs.declared.place.Place.{Place}
 use Rattle.semantic_tree.specs.Views.{has_role}
 use Rattle.semantic_tree.proofs.FitLaws.{lead_in_role}
 use Rattle.semantic_model.specs.Inside.{header_roles, is_in_header}
-use Rattle.semantic_model.proofs.form.Clauses.{kind_is, role_is, first_holds, second_holds, both_hold}
+use Rattle.semantic_model.proofs.form.Clauses.{kind_is, role_is}
 use Rattle.semantic_model.proofs.form.Shape.{NoneMisshapen, first_formed, rest_formed, table_kept, fit_kept, none_misshapen}
 use Rattle.walk_model.proofs.places.Shapes.{HoldsPart, HoldParts, holds_below, tree_holds, only_is}
 
@@ -71,33 +72,25 @@ heads_append k (x ∷ xs) ys = ap (λ b. is_in_header k x.0 || b) (heads_append 
 run_none : (k : AstType) (r : Role) (own : List (Role × Node)) → is_in_header k r ≡ false → list_all (λ c. same_role c.0 r) own ≡ true → heads k own ≡ false
 run_none k r [] h s = refl
 run_none k r (c ∷ cs) h s =
-    let q : is_in_header k c.0 ≡ false = subst (λ m. is_in_header k m ≡ false) (sym (role_is c.0 r (first_holds (same_role c.0 r) _ s))) h in
-    ap (λ b. b || heads k cs) q ∙ run_none k r cs h (second_holds (same_role c.0 r) _ s)
-
-or_first_false : (a b : Bool) → (a || b) ≡ false → a ≡ false
-or_first_false true b h = absurd cc
-or_first_false false b h = refl
-
-or_second_false : (a b : Bool) → (a || b) ≡ false → b ≡ false
-or_second_false true b h = absurd cc
-or_second_false false b h = h
+    let q : is_in_header k c.0 ≡ false = subst (λ m. is_in_header k m ≡ false) (sym (role_is c.0 r (and_first (same_role c.0 r) _ s))) h in
+    ap (λ b. b || heads k cs) q ∙ run_none k r cs h (and_second (same_role c.0 r) _ s)
 
 none_heads : (k : AstType) (ps : List Part) (cs : List (Role × Node)) → fit ps cs ≡ true → part_heads k ps ≡ false → heads k cs ≡ false
 none_heads k [] [] f h = refl
 none_heads k [] (c ∷ cs) f h = let w : length (c ∷ cs) ≡ 0 = eqb-true (length (c ∷ cs)) 0 f in absurd (omega arith)
 none_heads k (p ∷ ps) cs f h =
     let n : ℕ = lead p.role cs in
-    let own : heads k (take n cs) ≡ false = run_none k p.role (take n cs) (or_first_false (is_in_header k p.role) (part_heads k ps) h) (lead_in_role p.role cs) in
-    let rest : heads k (drop n cs) ≡ false = none_heads k ps (drop n cs) (second_holds _ (fit ps (drop n cs)) f) (or_second_false (is_in_header k p.role) (part_heads k ps) h) in
+    let own : heads k (take n cs) ≡ false = run_none k p.role (take n cs) ((or_parts (is_in_header k p.role) (part_heads k ps) h).0) (lead_in_role p.role cs) in
+    let rest : heads k (drop n cs) ≡ false = none_heads k ps (drop n cs) (and_second _ (fit ps (drop n cs)) f) ((or_parts (is_in_header k p.role) (part_heads k ps) h).1) in
     subst (λ xs. heads k xs ≡ false) (take-append-drop n cs) (heads_append k (take n cs) (drop n cs) ∙ ap (λ b. b || heads k (drop n cs)) own ∙ rest)
 
 -- a run of children in one role, before the others
 run_ordered : (k : AstType) (r : Role) (own rest : List (Role × Node)) → list_all (λ c. same_role c.0 r) own ≡ true → may_lead k r (heads k rest) ≡ true → ordered k rest ≡ true → ordered k (own ++ rest) ≡ true
 run_ordered k r [] rest s m o = o
 run_ordered k r (c ∷ cs) rest s m o =
-    let same : c.0 ≡ r = role_is c.0 r (first_holds (same_role c.0 r) _ s) in
-    let more : list_all (λ (d : Role × Node). same_role d.0 r) cs ≡ true = second_holds (same_role c.0 r) _ s in
-    both_hold (may_lead k c.0 (heads k (cs ++ rest))) (ordered k (cs ++ rest))
+    let same : c.0 ≡ r = role_is c.0 r (and_first (same_role c.0 r) _ s) in
+    let more : list_all (λ (d : Role × Node). same_role d.0 r) cs ≡ true = and_second (same_role c.0 r) _ s in
+    and_from (may_lead k c.0 (heads k (cs ++ rest))) (ordered k (cs ++ rest))
     (subst (λ q. may_lead k q (heads k (cs ++ rest)) ≡ true) (sym same) (by more (cases_Bool (is_in_header k r))))
     (run_ordered k r cs rest more m o)
   where
@@ -128,11 +121,11 @@ fit_ordered k [] [] g f = refl
 fit_ordered k [] (c ∷ cs) g f = let w : length (c ∷ cs) ≡ 0 = eqb-true (length (c ∷ cs)) 0 f in absurd (omega arith)
 fit_ordered k (p ∷ ps) cs g f =
     let n : ℕ = lead p.role cs in
-    let rest : fit ps (drop n cs) ≡ true = second_holds _ (fit ps (drop n cs)) f in
+    let rest : fit ps (drop n cs) ≡ true = and_second _ (fit ps (drop n cs)) f in
     subst (λ xs. ordered k xs ≡ true) (take-append-drop n cs)
     (run_ordered k p.role (take n cs) (drop n cs) (lead_in_role p.role cs)
-    (lead_none k p.role ps (drop n cs) rest (first_holds (may_lead k p.role (part_heads k ps)) (good k ps) g))
-    (fit_ordered k ps (drop n cs) (second_holds (may_lead k p.role (part_heads k ps)) (good k ps) g) rest))
+    (lead_none k p.role ps (drop n cs) rest (and_first (may_lead k p.role (part_heads k ps)) (good k ps) g))
+    (fit_ordered k ps (drop n cs) (and_second (may_lead k p.role (part_heads k ps)) (good k ps) g) rest))
 
 heads_are : (k : AstType) (f : Forest) → has_role (header_roles k) f ≡ heads k (trees f)
 heads_are k nothing = refl
@@ -145,11 +138,11 @@ forest_ordered place k (tree r k2 span text marks below id after) s h =
     let here : Place = child_place place k r in
     let f : (is_well_formed here node ≡ true) × NoneMisshapen (placed_below here k2 below ++ placed_below place k after) = first_formed (here, node) (placed_below here k2 below ++ placed_below place k after) h in
     let w : NoneMisshapen (placed_below here k2 below) × NoneMisshapen (placed_below place k after) = rest_formed (placed_below here k2 below) (placed_below place k after) f.1 in
-    both_hold (may_lead k r (has_role (header_roles k) after)) (ordered_below k2 below && ordered_below k after)
-    (subst (λ b. may_lead k r b ≡ true) (sym (heads_are k after)) (first_holds (may_lead k r (heads k (trees after))) (ordered k (trees after)) s))
-    (both_hold (ordered_below k2 below) (ordered_below k after)
+    and_from (may_lead k r (has_role (header_roles k) after)) (ordered_below k2 below && ordered_below k after)
+    (subst (λ b. may_lead k r b ≡ true) (sym (heads_are k after)) (and_first (may_lead k r (heads k (trees after))) (ordered k (trees after)) s))
+    (and_from (ordered_below k2 below) (ordered_below k after)
     (forest_ordered here k2 below (fit_ordered k2 (parts k2) (trees below) (all_good k2) (fit_kept node (table_kept here node f.0))) w.0)
-    (forest_ordered place k after (second_holds (may_lead k r (heads k (trees after))) (ordered k (trees after)) s) w.1))
+    (forest_ordered place k after (and_second (may_lead k r (heads k (trees after))) (ordered k (trees after)) s) w.1))
 
 pub tree_ordered : (p : Tree) → first_fault p ≡ None → ordered_below p.root.kind p.root.children ≡ true
 tree_ordered p h =
@@ -180,9 +173,9 @@ identifier_class _ k2 text e h = absurd cc
 part_holds : (k : AstType) (part : Part) → part_names k part ≡ true → HoldsPart names_identifier k part
 unfolding part_names
 part_holds k part e k2 text h =
-    both_hold (not (same_kind k kind.BindingIdentifier)) (not (is_name k part.role) || same_kind k2 kind.BindingIdentifier)
-    (first_holds (not (same_kind k kind.BindingIdentifier)) _ e)
-    (by (is_name k part.role) (second_holds (not (same_kind k kind.BindingIdentifier)) (not (is_name k part.role) || is_identifier_class part.class) e))
+    and_from (not (same_kind k kind.BindingIdentifier)) (not (is_name k part.role) || same_kind k2 kind.BindingIdentifier)
+    (and_first (not (same_kind k kind.BindingIdentifier)) _ e)
+    (by (is_name k part.role) (and_second (not (same_kind k kind.BindingIdentifier)) (not (is_name k part.role) || is_identifier_class part.class) e))
   where
     by : (b : Bool) → (not b || is_identifier_class part.class) ≡ true → (not b || same_kind k2 kind.BindingIdentifier) ≡ true
     by true q = identifier_class part.class k2 text q h
@@ -190,7 +183,7 @@ part_holds k part e k2 text h =
 
 parts_hold : (k : AstType) (ps : List Part) → list_all (part_names k) ps ≡ true → HoldParts names_identifier k ps
 parts_hold k [] h = tt
-parts_hold k (p ∷ ps) h = (part_holds k p (first_holds (part_names k p) (list_all (part_names k) ps) h), parts_hold k ps (second_holds (part_names k p) (list_all (part_names k) ps) h))
+parts_hold k (p ∷ ps) h = (part_holds k p (and_first (part_names k p) (list_all (part_names k) ps) h), parts_hold k ps (and_second (part_names k p) (list_all (part_names k) ps) h))
 
 pub tree_names : (p : Tree) → first_fault p ≡ None → holds_below names_identifier p.root.kind p.root.children ≡ true
 tree_names p h = tree_holds names_identifier (λ k. parts_hold k (parts k) (all_name k)) p h

@@ -3,6 +3,7 @@ use Rattle.std.proofs.Common.{◌≡◌, ℕ, List, [], ◌∷◌, Bool, true, f
 use Rattle.std.specs.List.{list_all, list_any}
 use Rattle.std.proofs.lemmas.Bool.{cases_Bool}
 use Rattle.std.proofs.lemmas.Slice.Eq.{bytes_eq-Decides}
+use Rattle.semantic_syntax.proofs.Truth.{and_first, and_second}
 use Rattle.semantic_kinds.specs.Kinds.{same_kind}
 use Rattle.semantic_kinds.specs.Roles.{same_role}
 use Rattle.semantic_kinds.specs.Classes.{is_of, holds_kind}
@@ -21,7 +22,7 @@ use Rattle.semantic_tree.specs.Rules.{stands, function_stands}
 use Rattle.semantic_tree.specs.declared.node.Node.{Node}
 use Rattle.semantic_tree.specs.declared.place.Place.{Place}
 use Rattle.semantic_model.specs.Inside.{is_in_header, is_parameter_decorator}
-use Rattle.semantic_model.proofs.form.Clauses.{kind_is, first_holds, second_holds}
+use Rattle.semantic_model.proofs.form.Clauses.{kind_is}
 use Rattle.walk_model.proofs.places.Shapes.{HoldsPart, HoldParts, holds_below, tree_holds, tree_stands, only_is}
 
 -- kinds that hold statements, or declare by `var`
@@ -91,8 +92,8 @@ none_loose _ e text = inl refl
 each_of : (f : AstType → Bool) (ks : List AstType) (k2 : AstType) → list_all f ks ≡ true → list_any (λ k. same_kind k k2) ks ≡ true → f k2 ≡ true
 each_of f [] k2 h a = absurd cc
 each_of f (k ∷ ks) k2 h a = elim (cases_Bool (same_kind k k2)) [
-  | inl e ↦ subst (λ m. f m ≡ true) (kind_is k k2 e) (first_holds (f k) (list_all f ks) h)
-  | inr e ↦ each_of f ks k2 (second_holds (f k) (list_all f ks) h) (rw e at a)
+  | inl e ↦ subst (λ m. f m ≡ true) (kind_is k k2 e) (and_first (f k) (list_all f ks) h)
+  | inr e ↦ each_of f ks k2 (and_second (f k) (list_all f ks) h) (rw e at a)
 ]
 
 not_loose : (c : Class) (k2 : AstType) (text : List ℕ) → is_open_class c ≡ false → is_of c k2 text ≡ true → is_loose k2 ≡ false
@@ -158,8 +159,8 @@ part_holds k part e k2 text h = by (asks_closed k part.role) (is_open_class part
     by false o q w = refl
     by true false q w = rw (closed_of part.class k2 text q h) refl
     by true true q w =
-        let method : (same_kind k kind.MethodDefinition && same_role part.role role.Value) ≡ true = first_holds (same_kind k kind.MethodDefinition && same_role part.role role.Value) (is_function_class part.class) w in
-        let f : same_kind k2 kind.Function ≡ true = function_class part.class k2 text (second_holds (same_kind k kind.MethodDefinition && same_role part.role role.Value) (is_function_class part.class) w) h in
+        let method : (same_kind k kind.MethodDefinition && same_role part.role role.Value) ≡ true = and_first (same_kind k kind.MethodDefinition && same_role part.role role.Value) (is_function_class part.class) w in
+        let f : same_kind k2 kind.Function ≡ true = function_class part.class k2 text (and_second (same_kind k kind.MethodDefinition && same_role part.role role.Value) (is_function_class part.class) w) h in
         or_true (is_closed k2 text) (is_value_function k part.role k2) (rw (method, f) refl)
       where
         or_true : (x y : Bool) → y ≡ true → (x || y) ≡ true
@@ -168,7 +169,7 @@ part_holds k part e k2 text h = by (asks_closed k part.role) (is_open_class part
 
 parts_hold : (k : AstType) (ps : List Part) → list_all (part_closes k) ps ≡ true → HoldParts closed_by_table k ps
 parts_hold k [] h = tt
-parts_hold k (p ∷ ps) h = (part_holds k p (first_holds (part_closes k p) (list_all (part_closes k) ps) h), parts_hold k ps (second_holds (part_closes k p) (list_all (part_closes k) ps) h))
+parts_hold k (p ∷ ps) h = (part_holds k p (and_first (part_closes k p) (list_all (part_closes k) ps) h), parts_hold k ps (and_second (part_closes k p) (list_all (part_closes k) ps) h))
 
 pub table_closes : (p : Tree) → first_fault p ≡ None → holds_below closed_by_table p.root.kind p.root.children ≡ true
 table_closes p h = tree_holds closed_by_table (λ k. parts_hold k (parts k) (all_close k)) p h
@@ -184,12 +185,12 @@ value_text place r node e h = by (cases_Bool (bytes_eq node.text (codes "ts-empt
 place_closes_one : (place : Place) (k : AstType) (r : Role) (node : Node) → stands (child_place place k r) node.kind node ≡ true → closed_by_place k r node.kind node.text ≡ true
 place_closes_one place k r node h = elim (cases_Bool (is_value_function k r node.kind)) [
   | inr q ↦ rw q refl
-  | inl q ↦ (let two : (same_kind k kind.MethodDefinition && same_role r role.Value) ≡ true = first_holds (same_kind k kind.MethodDefinition && same_role r role.Value) (same_kind node.kind kind.Function) q in
-      let m : k ≡ kind.MethodDefinition = kind_is k kind.MethodDefinition (first_holds (same_kind k kind.MethodDefinition) (same_role r role.Value) two) in
-      let f : node.kind ≡ kind.Function = kind_is node.kind kind.Function (second_holds (same_kind k kind.MethodDefinition && same_role r role.Value) (same_kind node.kind kind.Function) q) in
+  | inl q ↦ (let two : (same_kind k kind.MethodDefinition && same_role r role.Value) ≡ true = and_first (same_kind k kind.MethodDefinition && same_role r role.Value) (same_kind node.kind kind.Function) q in
+      let m : k ≡ kind.MethodDefinition = kind_is k kind.MethodDefinition (and_first (same_kind k kind.MethodDefinition) (same_role r role.Value) two) in
+      let f : node.kind ≡ kind.Function = kind_is node.kind kind.Function (and_second (same_kind k kind.MethodDefinition && same_role r role.Value) (same_kind node.kind kind.Function) q) in
       let g : stands (child_place place k r) kind.Function node ≡ true = subst (λ n. stands (child_place place k r) n node ≡ true) f h in
       let g2 : function_stands (child_place place kind.MethodDefinition r) node ≡ true = subst (λ n. function_stands (child_place place n r) node ≡ true) m g in
-      rw (q, value_text place r node (second_holds (same_kind k kind.MethodDefinition) (same_role r role.Value) two) g2) refl)
+      rw (q, value_text place r node (and_second (same_kind k kind.MethodDefinition) (same_role r role.Value) two) g2) refl)
 ]
 
 pub place_closes : (p : Tree) → first_fault p ≡ None → holds_below closed_by_place p.root.kind p.root.children ≡ true
@@ -201,7 +202,7 @@ child_closed k r k2 text h g a = elim (cases_Bool (is_closed k2 text)) [
   | inl q ↦ q
   | inr q ↦ (let w : is_value_function k r k2 ≡ true = rw (a, q) at h in
       let n : not (is_statement_text text) ≡ true = rw w at g in
-      let f : k2 ≡ kind.Function = kind_is k2 kind.Function (second_holds (same_kind k kind.MethodDefinition && same_role r role.Value) (same_kind k2 kind.Function) w) in
+      let f : k2 ≡ kind.Function = kind_is k2 kind.Function (and_second (same_kind k kind.MethodDefinition && same_role r role.Value) (same_kind k2 kind.Function) w) in
       rw f (no_text (is_statement_text text) n))
 ]
   where

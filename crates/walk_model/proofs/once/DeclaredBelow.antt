@@ -1,5 +1,6 @@
 -- No node is declared more often below a place than it stands there.
 use Rattle.std.proofs.Common.{◌≡◌, ℕ, ◌+◌, ◌≤◌, List, [], ◌∷◌, ◌++◌, Option, Some, None, Bool, true, false, cond, ◌&&◌, refl, arith}
+use Rattle.semantic_syntax.proofs.Truth.{and_first, and_second}
 use Rattle.semantic_kinds.specs.declared.kind.AstType.{AstType}
 use Rattle.semantic_kinds.specs.declared.kind.AstType.TheVariants as kind
 use Rattle.semantic_kinds.specs.declared.role.Role.{Role}
@@ -15,7 +16,6 @@ use Rattle.semantic_model.specs.Binder.{declared_by}
 use Rattle.semantic_model.specs.Event.{declared_at}
 use Rattle.semantic_model.specs.Step.{Step, entering, opening, closing, leaving, steps_below, steps, opening_at, ending_after, opening_last, scope_at, root_place}
 use Rattle.semantic_model.proofs.steps.Turn.{Turn, turn_at}
-use Rattle.semantic_model.proofs.form.Clauses.{first_holds, second_holds}
 use Rattle.semantic_model.proofs.form.Shape.{has_form}
 use Rattle.semantic_model.proofs.steps.TurnCases.{ending_case}
 use Rattle.walk_model.proofs.places.Shapes.{holds_below}
@@ -69,16 +69,16 @@ module _ (x : ℕ) where
   below_times p own n cursor (tree r kd span text marks below id after) q l =
       let node : Node = record { kind = kd; span = span; text = text; marks = marks; children = below; node_id = id } in
       let turn : Turn = turn_at p own n cursor r node after in
-      let here : names_quietly p.node.kind r kd text ≡ true = first_holds (names_quietly p.node.kind r kd text) _ q in
-      let both : (holds_below names_quietly kd below && holds_below names_quietly p.node.kind after) ≡ true = second_holds (names_quietly p.node.kind r kd text) _ q in
+      let here : names_quietly p.node.kind r kd text ≡ true = and_first (names_quietly p.node.kind r kd text) _ q in
+      let both : (holds_below names_quietly kd below && holds_below names_quietly p.node.kind after) ≡ true = and_second (names_quietly p.node.kind r kd text) _ q in
       omega (
         arith,
         turn_times turn.before turn.below turn.behind turn.others turn.child,
         first_times p r own n,
         none_ending p r turn.scope after,
         child_times x p.node.kind r turn.child here refl l.0,
-        below_times turn.child None turn.next turn.inner below (first_holds (holds_below names_quietly kd below) _ both) l.1.0,
-        below_times p turn.scope turn.rest turn.past after (second_holds (holds_below names_quietly kd below) _ both) l.1.1,
+        below_times turn.child None turn.next turn.inner below (and_first (holds_below names_quietly kd below) _ both) l.1.0,
+        below_times p turn.scope turn.rest turn.past after (and_second (holds_below names_quietly kd below) _ both) l.1.1,
       )
 
   root_times : (k : AstType) (p : Place) → k ≡ kind.Program → declared_times x (declared_by k p) + opened_times x k p.node ≡ 0

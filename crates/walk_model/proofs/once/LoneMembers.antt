@@ -1,6 +1,7 @@
 -- In a tree without a fault each member of an enum has one id, and that gives no more than one name.
 use Rattle.std.proofs.Common.{◌≡◌, suc, ◌+◌, ◌≤◌, ◌==◌, List, [], ◌∷◌, ◌++◌, Bool, true, false, cond, ◌&&◌, None, if◌then◌else◌, length, filter, refl, subst, arith}
 use Rattle.std.proofs.lemmas.Bool.{eqb-true}
+use Rattle.semantic_syntax.proofs.Truth.{and_first, and_second}
 use Rattle.semantic_kinds.specs.Roles.{same_role}
 use Rattle.semantic_kinds.specs.Classes.{holds_kind}
 use Rattle.semantic_kinds.specs.Parts.{parts}
@@ -19,7 +20,7 @@ use Rattle.semantic_tree.specs.declared.node.Node.{Node}
 use Rattle.semantic_tree.specs.declared.place.Place.{Place}
 use Rattle.semantic_tree.specs.Views.{is, children_of}
 use Rattle.semantic_model.specs.Binder.{member_names}
-use Rattle.semantic_model.proofs.form.Clauses.{kind_is, first_holds, second_holds}
+use Rattle.semantic_model.proofs.form.Clauses.{kind_is}
 use Rattle.semantic_model.proofs.form.Shape.{NoneMisshapen, first_formed, rest_formed, table_kept, fit_kept, none_misshapen}
 use Rattle.walk_model.proofs.once.NamesInRole.{AtMostOne, one_id}
 
@@ -55,8 +56,8 @@ filter_shorter test (n ∷ ns) = by (test n) (filter_shorter test ns)
 one_piece : (place : Place) (r : Role) (node : Node) → same_role r role.Id ≡ true → template_stands (child_place place kind.TSEnumMember r) node ≡ true → length (children_of role.Quasis node.children) ≡ 1
 one_piece place r node e h =
     let two : ((number_in role.Quasis node == number_in role.Expressions node + 1) && (number_in role.Expressions node == 0)) ≡ true = rw e at h in
-    let more : number_in role.Quasis node ≡ number_in role.Expressions node + 1 = eqb-true (number_in role.Quasis node) (number_in role.Expressions node + 1) (first_holds (number_in role.Quasis node == number_in role.Expressions node + 1) (number_in role.Expressions node == 0) two) in
-    let none : number_in role.Expressions node ≡ 0 = eqb-true (number_in role.Expressions node) 0 (second_holds (number_in role.Quasis node == number_in role.Expressions node + 1) (number_in role.Expressions node == 0) two) in
+    let more : number_in role.Quasis node ≡ number_in role.Expressions node + 1 = eqb-true (number_in role.Quasis node) (number_in role.Expressions node + 1) (and_first (number_in role.Quasis node == number_in role.Expressions node + 1) (number_in role.Expressions node == 0) two) in
+    let none : number_in role.Expressions node ≡ 0 = eqb-true (number_in role.Expressions node) 0 (and_second (number_in role.Quasis node == number_in role.Expressions node + 1) (number_in role.Expressions node == 0) two) in
     omega (arith, more, none)
 
 names_once : (place : Place) (r : Role) (node : Node) → same_role r role.Id ≡ true → stands (child_place place kind.TSEnumMember r) node.kind node ≡ true → AtMostOne (member_names node)
@@ -72,7 +73,7 @@ names_once place r node e h = by (holds_kind (kind.IdentifierName ∷ kind.Strin
         (omega (arith, filter_shorter (is kind.TemplateElement) (children_of role.Quasis node.children), one_piece place r node e t))
 
 node_stands : (place : Place) (node : Node) → is_well_formed place node ≡ true → stands place node.kind node ≡ true
-node_stands place node h = second_holds (is_rooted place node.kind && keeps_table node) (stands place node.kind node) (first_holds (is_rooted place node.kind && keeps_table node && stands place node.kind node) (names_foreign place node.kind) h)
+node_stands place node h = and_second (is_rooted place node.kind && keeps_table node) (stands place node.kind node) (and_first (is_rooted place node.kind && keeps_table node && stands place node.kind node) (names_foreign place node.kind) h)
 
 -- the ids of a member
 ids_once : (place : Place) (f : Forest) → NoneMisshapen (placed_below place kind.TSEnumMember f) → NameOnce (children_of role.Id f)

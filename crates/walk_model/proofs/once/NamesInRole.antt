@@ -2,6 +2,7 @@
 use Rattle.std.proofs.Common.{◌≡◌, List, [], ◌∷◌, ◌++◌, Bool, true, false, cond, ◌||◌, if◌then◌else◌, flat_map, length, refl, sym, ap, subst, ◌∙◌, arith}
 use Rattle.std.proofs.lemmas.Bool.{eqb-true}
 use Rattle.std.proofs.lemmas.List.{append-nil}
+use Rattle.semantic_syntax.proofs.Truth.{and_first, and_second}
 use Rattle.semantic_kinds.specs.Kinds.{same_kind}
 use Rattle.semantic_kinds.specs.Roles.{same_role}
 use Rattle.semantic_kinds.specs.Parts.{parts}
@@ -19,7 +20,7 @@ use Rattle.semantic_tree.specs.declared.node.Node.{Node}
 use Rattle.semantic_tree.proofs.FitLaws.{fit-Fit}
 use Rattle.semantic_tree.specs.Views.{is, is_role_of, children_of}
 use Rattle.semantic_model.specs.Names.{binding_roles, bound_below, bound_names, names_at}
-use Rattle.semantic_model.proofs.form.Clauses.{role_is, first_holds, second_holds}
+use Rattle.semantic_model.proofs.form.Clauses.{role_is}
 
 -- below a node of a kind whose names stand under one role
 bound_in_role : (k : AstType) (r : Role) (f : Forest) → binding_roles k ≡ r ∷ [] → bound_below k f ≡ flat_map bound_names (children_of r f)
@@ -48,10 +49,10 @@ AtMostOne (x ∷ y ∷ more) = ⊥
 none_in : (r q : Role) (cs : List (Role × Node)) → AreInRole q cs → same_role q r ≡ false → nodes_in r cs ≡ []
 none_in r q [] h e = refl
 none_in r q (c ∷ cs) h e =
-    let own : c.0 ≡ q = role_is c.0 q (first_holds (same_role c.0 q) _ h) in
+    let own : c.0 ≡ q = role_is c.0 q (and_first (same_role c.0 q) _ h) in
     (λ i. if same_role (own i) r then c.1 ∷ nodes_in r cs else nodes_in r cs)
     ∙ (λ i. if e i then c.1 ∷ nodes_in r cs else nodes_in r cs)
-    ∙ none_in r q cs (second_holds (same_role c.0 q) _ h) e
+    ∙ none_in r q cs (and_second (same_role c.0 q) _ h) e
 
 -- of one child in whatever role
 one_in : (r : Role) (cs rest : List (Role × Node)) → length cs ≡ 1 → nodes_in r rest ≡ [] → AtMostOne (nodes_in r (cs ++ rest))
@@ -71,7 +72,7 @@ one_of_two p q cs once apart h = by (fit-Fit (p ∷ q ∷ []) cs h)
     by (own, rest, is, in_role, run, (more, end, is_more, in_second, fits, last)) =
         let all : rest ≡ more = is_more ∙ ap (λ l. more ++ l) last ∙ append-nil more in
         let none : nodes_in p.role rest ≡ [] = ap (nodes_in p.role) all ∙ none_in p.role q.role more in_second apart in
-        let allowed : allows p.count (length own) ≡ true = first_holds (allows p.count (length own)) _ run in
+        let allowed : allows p.count (length own) ≡ true = and_first (allows p.count (length own)) _ run in
         let one : length own ≡ 1 = eqb-true (length own) 1 (subst (λ many. allows many (length own) ≡ true) once allowed) in
         subst (λ l. AtMostOne (nodes_in p.role l)) (sym is) (one_in p.role own rest one none)
 

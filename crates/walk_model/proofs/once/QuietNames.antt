@@ -1,6 +1,7 @@
 -- In a tree without a fault the nodes that hand names on to the nodes around them declare nothing themselves.
 use Rattle.std.proofs.Common.{◌≡◌, ℕ, List, [], ◌∷◌, Bool, true, false, not, ◌||◌, None, refl, sym, subst, ◌∙◌}
 use Rattle.std.specs.List.{list_all}
+use Rattle.semantic_syntax.proofs.Truth.{and_first, and_second}
 use Rattle.semantic_kinds.specs.Classes.{is_of, is_pattern}
 use Rattle.semantic_kinds.specs.Parts.{parts}
 use Rattle.semantic_kinds.specs.declared.kind.AstType.{AstType}
@@ -13,7 +14,7 @@ use Rattle.semantic_tree.specs.Tree.{Tree}
 use Rattle.semantic_tree.specs.Faults.{first_fault}
 use Rattle.semantic_tree.specs.Views.{is_role_of}
 use Rattle.semantic_model.specs.Names.{binding_roles}
-use Rattle.semantic_model.proofs.form.Clauses.{kind_is, first_holds, second_holds}
+use Rattle.semantic_model.proofs.form.Clauses.{kind_is}
 use Rattle.walk_model.proofs.places.Shapes.{HoldsPart, HoldParts, holds_below, tree_holds, only_is}
 use Rattle.walk_model.proofs.once.NameTimes.{name_roles}
 
@@ -83,7 +84,7 @@ part_holds k part e child text h = by (is_role_of part.role (name_roles k)) e
 
 parts_hold : (k : AstType) (ps : List Part) → list_all (part_names k) ps ≡ true → HoldParts names_quietly k ps
 parts_hold k [] h = tt
-parts_hold k (p ∷ ps) h = (part_holds k p (first_holds (part_names k p) (list_all (part_names k) ps) h), parts_hold k ps (second_holds (part_names k p) (list_all (part_names k) ps) h))
+parts_hold k (p ∷ ps) h = (part_holds k p (and_first (part_names k p) (list_all (part_names k) ps) h), parts_hold k ps (and_second (part_names k p) (list_all (part_names k) ps) h))
 
 pub tree_quiet : (p : Tree) → first_fault p ≡ None → holds_below names_quietly p.root.kind p.root.children ≡ true
 tree_quiet p h = tree_holds names_quietly (λ k. parts_hold k (parts k) (all_name k)) p h

@@ -15,6 +15,7 @@ use Rattle.semantic_syntax.specs.SourceTypes.{is_module}
 use Rattle.semantic_syntax.specs.Tables.{Scope}
 use Rattle.semantic_tree.specs.declared.node.Node.{Node}
 use Rattle.semantic_syntax.specs.Reading.{no_scope}
+use Rattle.semantic_syntax.proofs.Truth.{or_true, or_false}
 use Rattle.semantic_tree.specs.Views.{has_use_strict, has_text}
 use Rattle.semantic_model.specs.Place.{Place, is_strict}
 use Rattle.semantic_model.specs.ScopeKind.{strict_if, strict_by_body, accessor, value_of, method_flags, flags_of_kind, opened_scope}
@@ -97,14 +98,6 @@ flagged_same f g k (e ∷ es) h =
     let rest : flagged f (suc k) es ≡ flagged g (suc k) es = flagged_same f g (suc k) es (λ c l. h c (omega arith)) in
     λ i. with_flag (first i) e ∷ rest i
 
-or_true : (a : Bool) → (a || true) ≡ true
-or_true true = refl
-or_true false = refl
-
-or_false : (a : Bool) → a ≡ (a || false)
-or_false true = refl
-or_false false = refl
-
 -- the flag is set in one scope
 pub flagged_set : (f : ℕ → Bool) (k d j : ℕ) (es : List Scope) → k + d ≡ j → slice_set (flagged f k es) d (with_eval (slice_index_or (flagged f k es) d no_scope)) ≡ flagged (λ c. f c || j == c) k es
 flagged_set f k d j [] e = refl
@@ -116,10 +109,10 @@ flagged_set f k zero j (x ∷ es) e =
     λ i. first i ∷ rest i
   where
     other : (c : ℕ) → suc k ≤ c → j ≡ k → f c ≡ (f c || j == c)
-    other c l same = elim (eqb_tells j c) [ inl q ↦ absurd (omega (arith, q.1, l, same)) | inr q ↦ or_false (f c) ∙ ap (λ b. f c || b) (sym q.0) ]
+    other c l same = elim (eqb_tells j c) [ inl q ↦ absurd (omega (arith, q.1, l, same)) | inr q ↦ (sym (or_false (f c))) ∙ ap (λ b. f c || b) (sym q.0) ]
 flagged_set f k (suc d) j (x ∷ es) e =
     let rest : slice_set (flagged f (suc k) es) d (with_eval (slice_index_or (flagged f (suc k) es) d no_scope)) ≡ flagged (λ c. f c || j == c) (suc k) es = flagged_set f (suc k) d j es (omega arith) in
-    let first : f k ≡ (f k || j == k) = elim (eqb_tells j k) [ inl q ↦ absurd (omega (arith, q.1, e)) | inr q ↦ or_false (f k) ∙ ap (λ b. f k || b) (sym q.0) ] in
+    let first : f k ≡ (f k || j == k) = elim (eqb_tells j k) [ inl q ↦ absurd (omega (arith, q.1, e)) | inr q ↦ (sym (or_false (f k))) ∙ ap (λ b. f k || b) (sym q.0) ] in
     λ i. with_flag (first i) x ∷ rest i
 
 pub flagged_parent : (f : ℕ → Bool) (k : ℕ) (es : List Scope) (i : ℕ) → (slice_index_or (flagged f k es) i no_scope).parent ≡ (slice_index_or es i no_scope).parent

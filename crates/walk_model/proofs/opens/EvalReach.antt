@@ -5,6 +5,7 @@ use Rattle.std.proofs.lemmas.Option.{slice_get_within}
 use Rattle.std.proofs.lemmas.Bool.Decides.{eqb_tells}
 use Rattle.semantic_model.specs.Place.{OpenScope}
 use Rattle.semantic_syntax.specs.Members.{contains}
+use Rattle.semantic_syntax.proofs.Truth.{or_assoc, or_false, and_false}
 use Rattle.semantic_model.specs.TablesOf.{any_holds}
 use Rattle.walk_model.specs.Walks.{numbers}
 use Rattle.walk_model.proofs.places.Nested.{AreLinked, Extends, get_more}
@@ -42,17 +43,9 @@ pub linked-push : (seen : List (List ℕ)) (ls : List (List ℕ)) (l : List ℕ)
 linked-push seen [] l h k = (k, tt)
 linked-push seen (m ∷ ls) l h k = (h.0, linked-push seen ls l h.1 k)
 
-or_assoc : (a b c : Bool) → (a || (b || c)) ≡ ((a || b) || c)
-or_assoc true b c = refl
-or_assoc false b c = refl
-
-or_false : (a : Bool) → (a || false) ≡ a
-or_false true = refl
-or_false false = refl
-
 pub reached-push : (stack : List ℕ) (ls : List (List ℕ)) (l : List ℕ) (c : ℕ) → reached stack (ls ++ l ∷ []) c ≡ (reached stack ls c || reaches stack l c)
 reached-push stack [] l c = or_false (reaches stack l c)
-reached-push stack (m ∷ ls) l c = ap (λ b. reaches stack m c || b) (reached-push stack ls l c) ∙ or_assoc (reaches stack m c) (reached stack ls c) (reaches stack l c)
+reached-push stack (m ∷ ls) l c = ap (λ b. reaches stack m c || b) (reached-push stack ls l c) ∙ (sym (or_assoc (reaches stack m c) (reached stack ls c) (reaches stack l c)))
 
 -- a call in an open scope flags it alone
 pub reaches_open : (stack : List ℕ) (d : ℕ) (ds : List ℕ) (c : ℕ) → contains stack d ≡ true → reaches stack (d ∷ ds) c ≡ (d == c)
@@ -70,10 +63,6 @@ reaches_new stack seen n (d ∷ ds) c h k =
 pub reached_new : (stack : List ℕ) (seen : List (List ℕ)) (n : ℕ) (ls : List (List ℕ)) (c : ℕ) → length seen ≤ n → AllLinked seen ls → reached (n ∷ stack) ls c ≡ reached stack ls c
 reached_new stack seen n [] c h k = refl
 reached_new stack seen n (l ∷ ls) c h k = λ i. reaches_new stack seen n l c h k.0 i || reached_new stack seen n ls c h k.1 i
-
-and_false : (a : Bool) → (a && false) ≡ false
-and_false true = refl
-and_false false = refl
 
 reaches_none : (stack : List ℕ) (seen : List (List ℕ)) (n : ℕ) (l : List ℕ) → length seen ≤ n → IsLinked seen l → reaches stack l n ≡ false
 reaches_none stack seen n [] h k = refl

@@ -16,6 +16,7 @@ use Rattle.semantic_kinds.specs.declared.class.Class.TheVariants as class
 use Rattle.semantic_syntax.specs.declared.scope_flags.TheConstants.ScopeFlags as scope
 use Rattle.semantic_syntax.specs.Sets.{meets, union}
 use Rattle.semantic_syntax.specs.SourceTypes.{is_module}
+use Rattle.semantic_syntax.proofs.Truth.{and_first, and_second}
 use Rattle.semantic_tree.specs.Views.{has_use_strict}
 use Rattle.semantic_model.specs.Place.{Place, OpenScope, outside, is_strict}
 use Rattle.semantic_model.specs.Inside.{is_inside, is_in_header}
@@ -25,7 +26,7 @@ use Rattle.semantic_model.specs.Binder.{is_var}
 use Rattle.semantic_model.specs.Step.{steps_below, steps, opening_at, ending_after, opening_last, scope_at, child_place, chain_within, root_place}
 use Rattle.semantic_model.proofs.steps.Turn.{Turn, turn_at}
 use Rattle.semantic_model.proofs.steps.EachStep.{each_of_node, each_of_turn}
-use Rattle.semantic_model.proofs.form.Clauses.{kind_is, first_holds, second_holds}
+use Rattle.semantic_model.proofs.form.Clauses.{kind_is}
 use Rattle.semantic_model.proofs.form.ParameterShape.{stands_under, parameters_stand}
 use Rattle.semantic_model.proofs.form.ParameterChains.{holds_parameters, is_open_inside, child_within, child_outer}
 use Rattle.semantic_model.proofs.fold.Orders.{HasForm}
@@ -141,18 +142,18 @@ grounded_below p own n cursor (tree r k span text marks below id after) g o oute
     let turn : Turn = turn_at p own n cursor r node after in
     let o_scope : OwnVar p turn.scope = own_var p r own n o in
     let i : is_inside p.node.kind r ≡ true → turn.scope ≡ None → ⊥ = is_open_inside p r own n in
-    let s_here : stands_under p.node.kind r k ≡ true = first_holds (stands_under p.node.kind r k) _ s in
-    let s_rest : (parameters_stand k below && parameters_stand p.node.kind after) ≡ true = second_holds (stands_under p.node.kind r k) _ s in
-    let t_here : not_in_program p.node.kind r k text ≡ true = first_holds (not_in_program p.node.kind r k text) _ t in
-    let t_rest : (holds_below not_in_program k below && holds_below not_in_program p.node.kind after) ≡ true = second_holds (not_in_program p.node.kind r k text) _ t in
+    let s_here : stands_under p.node.kind r k ≡ true = and_first (stands_under p.node.kind r k) _ s in
+    let s_rest : (parameters_stand k below && parameters_stand p.node.kind after) ≡ true = and_second (stands_under p.node.kind r k) _ s in
+    let t_here : not_in_program p.node.kind r k text ≡ true = and_first (not_in_program p.node.kind r k text) _ t in
+    let t_rest : (holds_below not_in_program k below && holds_below not_in_program p.node.kind after) ≡ true = and_second (not_in_program p.node.kind r k text) _ t in
     let v : HasVar turn.child.chain = child_var p turn.scope cursor r node g o_scope i outer in
     each_of_turn IsStepGrounded turn (record {
       before = opening_grounded p r own n g;
       whole = each_of_node IsStepGrounded turn.child turn.below (inl v)
-          (grounded_below turn.child None turn.next turn.inner below (inl v) tt (child_outer_var p turn.scope cursor r node g i outer s_here t_here) (first_holds (parameters_stand k below) _ s_rest) (first_holds (holds_below not_in_program k below) _ t_rest))
+          (grounded_below turn.child None turn.next turn.inner below (inl v) tt (child_outer_var p turn.scope cursor r node g i outer s_here t_here) (and_first (parameters_stand k below) _ s_rest) (and_first (holds_below not_in_program k below) _ t_rest))
           tt;
       behind = ending_grounded p r turn.scope after;
-      others = grounded_below p turn.scope turn.rest turn.past after g o_scope outer (second_holds (parameters_stand k below) _ s_rest) (second_holds (holds_below not_in_program k below) _ t_rest);
+      others = grounded_below p turn.scope turn.rest turn.past after g o_scope outer (and_second (parameters_stand k below) _ s_rest) (and_second (holds_below not_in_program k below) _ t_rest);
     })
 
 root_holds_none : (p : Tree) → p.root.kind ≡ kind.Program → holds_parameters p.root.kind ≡ true → HasVar (outside (root_place p).chain)

@@ -14,11 +14,11 @@ use Rattle.semantic_model.specs.Place.{Place, OpenScope, outside}
 use Rattle.semantic_model.specs.Inside.{opens, is_inside, any_inside, header_roles, is_in_header, is_parameter_decorator, scopes_in}
 use Rattle.semantic_model.specs.ScopeKind.{opened_scope}
 use Rattle.semantic_syntax.specs.Members.{contains}
+use Rattle.semantic_syntax.proofs.Truth.{and_first}
 use Rattle.semantic_model.specs.Step.{Step, entering, opening, header_ending, closing, leaving, steps_below, opening_at, ending_after, opening_last, scope_at, child_place, chain_within}
 use Rattle.semantic_model.proofs.steps.Turn.{Turn, turn_at}
 use Rattle.semantic_model.proofs.steps.Opened.{opened_by_node, openings, none_after, next_opened}
 use Rattle.semantic_model.proofs.lists.Members.{contains_first}
-use Rattle.semantic_model.proofs.form.Clauses.{first_holds}
 use Rattle.semantic_model.proofs.steps.TurnCases.{last_case}
 use Rattle.walk_model.specs.Walks.{numbers}
 
@@ -252,7 +252,7 @@ at_ending p r None before after stack seen e = record { nested = tt; open_is = r
 at_ending p r (Some s) before after stack seen e =
     subst (λ b. Leads (cond b (s.number ∷ stack) stack) (open_with p (Some s) after stack) seen (ending_after p r (Some s) after)) (sym e)
     (go (is_in_header p.node.kind r && not (has_role (header_roles p.node.kind) after)) (is_inside p.node.kind r) (any_inside p.node.kind after)
-    (λ h. header_inside p.node.kind r (first_holds (is_in_header p.node.kind r) (not (has_role (header_roles p.node.kind) after)) h)))
+    (λ h. header_inside p.node.kind r (and_first (is_in_header p.node.kind r) (not (has_role (header_roles p.node.kind) after)) h)))
   where
     go : (a i t : Bool) → (a ≡ true → i ≡ true)
         → Leads (cond (cond i true t) (s.number ∷ stack) stack) (cond t (s.number ∷ stack) stack) seen (cond a (header_ending p s ∷ []) [] ++ cond (i && not t) (closing p s ∷ []) [])

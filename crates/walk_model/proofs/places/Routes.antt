@@ -2,12 +2,12 @@
 use Rattle.std.proofs.Common.{◌≡◌, ℕ, ◌<◌, List, [], ◌∷◌, ◌++◌, Option, Some, None, Bool, true, false, cond, ◌&&◌, ◌||◌, not, refl, sym, ap, if◌then◌else◌, arith}
 use Rattle.semantic_kinds.specs.declared.kind.AstType.{AstType}
 use Rattle.semantic_syntax.specs.SourceTypes.{is_typescript}
+use Rattle.semantic_syntax.proofs.Truth.{and_second}
 use Rattle.semantic_model.specs.Place.{Place, OpenScope, no_scope, innermost, outside, is_strict}
 use Rattle.semantic_model.specs.Declaration.{How, plain, hoisted, moved, caught, Declaration, Route, here, passed_before, first_with, route_from, outward_to, outward_past, scope_it_stands_in}
 use Rattle.semantic_model.specs.Binder.{is_var, is_clause, is_conditional, is_special, is_block_function, declared_by, declared_inside}
 use Rattle.semantic_model.proofs.fold.EachDeclared.{EachDeclared, each_on_entering, each_on_opening}
 use Rattle.semantic_model.specs.Event.{is_barred, staying, placed_by}
-use Rattle.semantic_model.proofs.form.Clauses.{second_holds}
 use Rattle.walk_model.proofs.places.Nested.{Descends}
 use Rattle.walk_model.proofs.shows.ShownHoists.{ArePassed}
 pub use Rattle.walk_model.specs.Shown.{HasVar}
@@ -70,7 +70,7 @@ outward_is test chain how l = go (first_with test chain) refl
     go (Some s) e = let p : Parted test chain s = parted test chain s e in record { rest = p.rest; is = solid chain (passed_before test chain) s p.rest p.is; leaves = l (passed_before test chain) }
 
 pub not_var : (p : Place) → is_block_function p ≡ true → is_var (innermost p.chain) ≡ false
-not_var p h = go (is_var (innermost p.chain)) (is_clause (innermost p.chain)) (second_holds (not (is_special p.node) && not (is_typescript p.source_type) && not (is_strict p.chain)) (not (is_var (innermost p.chain) || is_clause (innermost p.chain))) h)
+not_var p h = go (is_var (innermost p.chain)) (is_clause (innermost p.chain)) (and_second (not (is_special p.node) && not (is_typescript p.source_type) && not (is_strict p.chain)) (not (is_var (innermost p.chain) || is_clause (innermost p.chain))) h)
   where
     go : (a b : Bool) → not (a || b) ≡ true → a ≡ false
     go true b k = absurd cc

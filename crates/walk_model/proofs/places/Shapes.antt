@@ -1,5 +1,7 @@
 -- What holds of each part of a kind holds of each child in a tree without a fault.
 use Rattle.std.proofs.Common.{◌≡◌, ℕ, List, ◌++◌, Bool, true, ◌&&◌, None, refl}
+use Rattle.std.proofs.lemmas.Bool.{and_from}
+use Rattle.semantic_syntax.proofs.Truth.{and_first, and_second}
 use Rattle.semantic_kinds.specs.Kinds.{same_kind}
 use Rattle.semantic_kinds.specs.Classes.{is_of}
 use Rattle.semantic_kinds.specs.Parts.{parts}
@@ -14,7 +16,6 @@ use Rattle.semantic_tree.specs.Place.{root_place, child_place, placed_below}
 use Rattle.semantic_tree.specs.Rules.{is_well_formed, is_rooted, keeps_table, stands, names_foreign}
 use Rattle.semantic_tree.specs.declared.node.Node.{Node}
 use Rattle.semantic_tree.specs.declared.place.Place.{Place}
-use Rattle.semantic_model.proofs.form.Clauses.{first_holds, second_holds, both_hold}
 pub use Rattle.semantic_model.proofs.form.PartsHold.{HoldsPart, HoldParts}
 use Rattle.semantic_model.proofs.form.PartsHold.{hold, fit_holds}
 use Rattle.semantic_model.proofs.form.Shape.{NoneMisshapen, first_formed, rest_formed, table_kept, fit_kept, none_misshapen}
@@ -35,10 +36,10 @@ module _ (q : AstType → Role → AstType → List ℕ → Bool) where
       let here : Place = child_place place k r in
       let f : (is_well_formed here node ≡ true) × NoneMisshapen (placed_below here k2 below ++ placed_below place k after) = first_formed (here, node) (placed_below here k2 below ++ placed_below place k after) h in
       let w : NoneMisshapen (placed_below here k2 below) × NoneMisshapen (placed_below place k after) = rest_formed (placed_below here k2 below) (placed_below place k after) f.1 in
-      both_hold (q k r k2 text) (holds_below k2 below && holds_below k after) (first_holds (q k r k2 text) (hold q k (trees after)) s)
-      (both_hold (holds_below k2 below) (holds_below k after)
+      and_from (q k r k2 text) (holds_below k2 below && holds_below k after) (and_first (q k r k2 text) (hold q k (trees after)) s)
+      (and_from (holds_below k2 below) (holds_below k after)
       (forest_holds all here k2 below (fit_holds q k2 (parts k2) (trees below) (all k2) (fit_kept node (table_kept here node f.0))) w.0)
-      (forest_holds all place k after (second_holds (q k r k2 text) (hold q k (trees after)) s) w.1))
+      (forest_holds all place k after (and_second (q k r k2 text) (hold q k (trees after)) s) w.1))
 
   -- so it is in a tree without a fault
   pub tree_holds : ((k : AstType) → HoldParts q k (parts k)) → (p : Tree) → first_fault p ≡ None → holds_below p.root.kind p.root.children ≡ true
@@ -54,9 +55,9 @@ module _ (q : AstType → Role → AstType → List ℕ → Bool) where
       let here : Place = child_place place k r in
       let f : (is_well_formed here node ≡ true) × NoneMisshapen (placed_below here k2 below ++ placed_below place k after) = first_formed (here, node) (placed_below here k2 below ++ placed_below place k after) h in
       let w : NoneMisshapen (placed_below here k2 below) × NoneMisshapen (placed_below place k after) = rest_formed (placed_below here k2 below) (placed_below place k after) f.1 in
-      let g : stands here k2 node ≡ true = second_holds (is_rooted here k2 && keeps_table node) (stands here k2 node) (first_holds (is_rooted here k2 && keeps_table node && stands here k2 node) (names_foreign here k2) f.0) in
-      both_hold (q k r k2 text) (holds_below k2 below && holds_below k after) (one place k r node g)
-      (both_hold (holds_below k2 below) (holds_below k after) (forest_stands one here k2 below w.0) (forest_stands one place k after w.1))
+      let g : stands here k2 node ≡ true = and_second (is_rooted here k2 && keeps_table node) (stands here k2 node) (and_first (is_rooted here k2 && keeps_table node && stands here k2 node) (names_foreign here k2) f.0) in
+      and_from (q k r k2 text) (holds_below k2 below && holds_below k after) (one place k r node g)
+      (and_from (holds_below k2 below) (holds_below k after) (forest_stands one here k2 below w.0) (forest_stands one place k after w.1))
 
   pub tree_stands : ((place : Place) (k : AstType) (r : Role) (node : Node) → stands (child_place place k r) node.kind node ≡ true → q k r node.kind node.text ≡ true) → (p : Tree) → first_fault p ≡ None → holds_below p.root.kind p.root.children ≡ true
   tree_stands one p h =

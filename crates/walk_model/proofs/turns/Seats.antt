@@ -2,6 +2,7 @@
 use Rattle.std.proofs.Common.{sym, ◌∙◌, ◌≡◌, ℕ, ◌+◌, List, [], ◌∷◌, Option, Some, None, Bool, true, false, cond, ◌&&◌, not, inl, inr, refl, subst}
 use Rattle.std.specs.List.{list_all}
 use Rattle.std.proofs.lemmas.Bool.{cases_Bool}
+use Rattle.semantic_syntax.proofs.Truth.{and_first, and_second}
 use Rattle.semantic_kinds.specs.Kinds.{same_kind}
 use Rattle.semantic_kinds.specs.Classes.{is_of}
 use Rattle.semantic_kinds.specs.Parts.{parts}
@@ -20,7 +21,7 @@ use Rattle.semantic_model.specs.Cursor.{on_entering}
 use Rattle.semantic_model.specs.Step.{opening, leaving, steps_below, scope_at, next_at, child_place, chain_within, cursor_past, root_place, steps}
 use Rattle.semantic_model.proofs.steps.Turn.{Turn, turn_at}
 use Rattle.semantic_model.proofs.steps.EachStep.{EachOfTurn, each_left, turn_of_each}
-use Rattle.semantic_model.proofs.form.Clauses.{kind_is, first_holds, second_holds}
+use Rattle.semantic_model.proofs.form.Clauses.{kind_is}
 use Rattle.semantic_model.proofs.fold.Orders.{HasForm}
 use Rattle.semantic_model.proofs.form.Shape.{has_form}
 use Rattle.walk_model.proofs.places.Routes.{HasVar}
@@ -46,13 +47,13 @@ none_parts : (k : AstType) (ps : List Part) → ((text : List ℕ) → list_all 
 none_parts k [] h = tt
 none_parts k (p ∷ ps) h = (
   λ k2 text i. elim (cases_Bool (same_kind k2 kind.Program)) [
-    | inl q ↦ (let none : not (is_of p.class kind.Program text) ≡ true = first_holds (holds_none text p) (list_all (holds_none text) ps) (h text) in
+    | inl q ↦ (let none : not (is_of p.class kind.Program text) ≡ true = and_first (holds_none text p) (list_all (holds_none text) ps) (h text) in
         let one : is_of p.class kind.Program text ≡ true = subst (λ m. is_of p.class m text ≡ true) (kind_is k2 kind.Program q) i in
         let w : false ≡ true = subst (λ b. not b ≡ true) one none in
         absurd cc)
     | inr q ↦ rw q refl
   ],
-  none_parts k ps (λ text. second_holds (holds_none text p) (list_all (holds_none text) ps) (h text)),
+  none_parts k ps (λ text. and_second (holds_none text p) (list_all (holds_none text) ps) (h text)),
 )
 
 -- it stands in some scope
@@ -83,20 +84,20 @@ pub first_seated : (p : Place) (own : Option OpenScope) (n cursor : ℕ) (child 
 first_seated p own n cursor child rest h =
     let turn : Turn = turn_at p own n cursor child.0 child.1 (forest_of rest) in
     let parts : EachOfTurn IsStepGrounded turn = turn_of_each IsStepGrounded turn h.grounded in
-    let free_here : not (same_kind child.1.kind kind.Program) ≡ true = first_holds (not (same_kind child.1.kind kind.Program)) (none_is_program child.1.children && none_is_program (forest_of rest)) h.free in
-    let free_both : (none_is_program child.1.children && none_is_program (forest_of rest)) ≡ true = second_holds (not (same_kind child.1.kind kind.Program)) (none_is_program child.1.children && none_is_program (forest_of rest)) h.free in
+    let free_here : not (same_kind child.1.kind kind.Program) ≡ true = and_first (not (same_kind child.1.kind kind.Program)) (none_is_program child.1.children && none_is_program (forest_of rest)) h.free in
+    let free_both : (none_is_program child.1.children && none_is_program (forest_of rest)) ≡ true = and_second (not (same_kind child.1.kind kind.Program)) (none_is_program child.1.children && none_is_program (forest_of rest)) h.free in
     record {
       here = record {
         var = grounded_var turn.child (not_program child.1.kind free_here) parts.whole.0;
         other = not_program child.1.kind free_here;
         below = record {
           grounded = each_left IsStepGrounded turn.below (leaving turn.child ∷ []) parts.whole.1;
-          free = first_holds (none_is_program child.1.children) (none_is_program (forest_of rest)) free_both;
+          free = and_first (none_is_program child.1.children) (none_is_program (forest_of rest)) free_both;
         };
       };
       later = record {
         grounded = parts.others;
-        free = second_holds (none_is_program child.1.children) (none_is_program (forest_of rest)) free_both;
+        free = and_second (none_is_program child.1.children) (none_is_program (forest_of rest)) free_both;
       };
     }
 

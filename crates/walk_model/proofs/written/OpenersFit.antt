@@ -1,6 +1,7 @@
 -- The openers that go along with a place are those of its innermost scope and of the scope around it.
 use Rattle.std.proofs.Common.{◌≡◌, ℕ, ◌∷◌, Option, Some, None, Bool, true, false, cond, ◌&&◌, ◌||◌, not, refl, sym, ap, ◌∙◌, inl, inr}
 use Rattle.std.proofs.lemmas.Bool.{cases_Bool}
+use Rattle.semantic_syntax.proofs.Truth.{and_first, and_second}
 use Rattle.semantic_kinds.specs.Kinds.{same_kind}
 use Rattle.semantic_kinds.specs.declared.kind.AstType.{AstType}
 use Rattle.semantic_kinds.specs.declared.kind.AstType.TheVariants as kind
@@ -10,7 +11,7 @@ use Rattle.semantic_model.specs.Place.{Place, OpenScope, innermost, outside}
 use Rattle.semantic_model.specs.Inside.{is_inside, is_in_header, is_parameter_decorator}
 use Rattle.semantic_model.specs.ScopeKind.{opened_scope}
 use Rattle.semantic_model.specs.Step.{scope_at, child_place, chain_within}
-use Rattle.semantic_model.proofs.form.Clauses.{kind_is, first_holds, second_holds}
+use Rattle.semantic_model.proofs.form.Clauses.{kind_is}
 use Rattle.semantic_model.proofs.form.ParameterShape.{holds_inside, is_parameter, stands_under}
 use Rattle.walk_model.specs.WrittenNames.{Openers, openers_at}
 
@@ -79,9 +80,9 @@ child_within p own cursor r node o own_is opened f = by (is_inside p.node.kind r
 list_beyond : (p : Place) (own : Option OpenScope) (cursor : ℕ) (r : Role) (node : Node) (o : Openers) → IsOwn p own → (is_inside p.node.kind r ≡ true → own ≡ None → ⊥) → FitOpeners p o → holds_inside p.node.kind r ≡ true
     → (openers_at p.node r o).around ≡ (innermost (outside (child_place p own cursor r node).chain)).opener
 list_beyond p own cursor r node o own_is opened f h =
-    let three : (is_inside p.node.kind r && not (is_parameter_decorator p.node.kind r) && not (same_kind p.node.kind kind.BlockStatement)) ≡ true = first_holds (is_inside p.node.kind r && not (is_parameter_decorator p.node.kind r) && not (same_kind p.node.kind kind.BlockStatement)) (not (same_kind p.node.kind kind.CatchClause)) h in
-    let two : (is_inside p.node.kind r && not (is_parameter_decorator p.node.kind r)) ≡ true = first_holds (is_inside p.node.kind r && not (is_parameter_decorator p.node.kind r)) (not (same_kind p.node.kind kind.BlockStatement)) three in
-    by (is_inside p.node.kind r) (is_parameter_decorator p.node.kind r) refl (first_holds (is_inside p.node.kind r) (not (is_parameter_decorator p.node.kind r)) two) (second_holds (is_inside p.node.kind r) (not (is_parameter_decorator p.node.kind r)) two)
+    let three : (is_inside p.node.kind r && not (is_parameter_decorator p.node.kind r) && not (same_kind p.node.kind kind.BlockStatement)) ≡ true = and_first (is_inside p.node.kind r && not (is_parameter_decorator p.node.kind r) && not (same_kind p.node.kind kind.BlockStatement)) (not (same_kind p.node.kind kind.CatchClause)) h in
+    let two : (is_inside p.node.kind r && not (is_parameter_decorator p.node.kind r)) ≡ true = and_first (is_inside p.node.kind r && not (is_parameter_decorator p.node.kind r)) (not (same_kind p.node.kind kind.BlockStatement)) three in
+    by (is_inside p.node.kind r) (is_parameter_decorator p.node.kind r) refl (and_first (is_inside p.node.kind r) (not (is_parameter_decorator p.node.kind r)) two) (and_second (is_inside p.node.kind r) (not (is_parameter_decorator p.node.kind r)) two)
   where
     by : (i d : Bool) → is_inside p.node.kind r ≡ i → i ≡ true → not d ≡ true → (chosen i d p.node.node_id o).around ≡ (innermost (outside (cond d (outside p.chain) (chain_within p r own)))).opener
     by true false e g k = f.within ∙ ap (λ c. (innermost c).opener) (sym (within_own p r own own_is opened e).1)

@@ -2,17 +2,18 @@
 use Rattle.std.proofs.Common.{◌≡◌, ℕ, List, [], ◌∷◌, ◌++◌, ◌==◌, Bool, true, false, ◌&&◌, ◌||◌, not, inl, inr, refl, sym, ap, subst, ◌∙◌, length, None}
 use Rattle.std.specs.List.{AllByRecursion}
 use Rattle.std.proofs.lemmas.Nat.{and_or_self}
+use Rattle.std.proofs.lemmas.Bool.{and_from}
 use Rattle.semantic_syntax.specs.declared.scope_flags.TheConstants.ScopeFlags as scope
 use Rattle.semantic_syntax.specs.declared.source_type.SourceType.{SourceType}
 use Rattle.semantic_syntax.specs.Sets.{meets, union}
 use Rattle.semantic_syntax.specs.SourceTypes.{is_module, is_typescript}
+use Rattle.semantic_syntax.proofs.Truth.{and_first, and_second}
 use Rattle.semantic_tree.specs.Faults.{first_fault}
 use Rattle.semantic_tree.specs.Tree.{Tree}
 use Rattle.semantic_model.specs.Place.{Place, OpenScope, innermost, is_strict}
 use Rattle.semantic_model.specs.ScopeKind.{opened_scope, strict_if, flags_of_kind}
 use Rattle.semantic_model.specs.Binder.{is_special, is_block_function, is_var, is_clause}
 use Rattle.semantic_model.specs.Step.{Step, entering, opening, header_ending, closing, leaving, steps}
-use Rattle.semantic_model.proofs.form.Clauses.{first_holds, second_holds, both_hold}
 use Rattle.walk_model.specs.Walks.{numbers}
 use Rattle.walk_model.specs.WrittenNames.{is_sloppy}
 use Rattle.walk_model.proofs.places.Nested.{AreNested, open_past}
@@ -57,11 +58,11 @@ all_strict program h =
 -- where a function stands that may move, the program is sloppy JavaScript
 pub sloppy_around : (p : Place) (t : SourceType) (s : OpenScope) (ss : List OpenScope) → p.chain ≡ s ∷ ss → p.source_type ≡ t → IsStrictIn t s → is_block_function p ≡ true → is_sloppy t ≡ true
 sloppy_around p t s ss c e h b =
-    let four : (not (is_special p.node) && not (is_typescript p.source_type) && not (is_strict p.chain)) ≡ true = first_holds (not (is_special p.node) && not (is_typescript p.source_type) && not (is_strict p.chain)) (not (is_var (innermost p.chain) || is_clause (innermost p.chain))) b in
-    let two : (not (is_special p.node) && not (is_typescript p.source_type)) ≡ true = first_holds (not (is_special p.node) && not (is_typescript p.source_type)) (not (is_strict p.chain)) four in
-    let plain_script : not (is_typescript p.source_type) ≡ true = second_holds (not (is_special p.node)) (not (is_typescript p.source_type)) two in
-    let loose : not (is_strict p.chain) ≡ true = second_holds (not (is_special p.node) && not (is_typescript p.source_type)) (not (is_strict p.chain)) four in
-    both_hold (not (is_typescript t)) (not (is_module t)) (subst (λ u. not (is_typescript u) ≡ true) e plain_script) (no_module (is_module t) refl (subst (λ l. not (is_strict l) ≡ true) c loose))
+    let four : (not (is_special p.node) && not (is_typescript p.source_type) && not (is_strict p.chain)) ≡ true = and_first (not (is_special p.node) && not (is_typescript p.source_type) && not (is_strict p.chain)) (not (is_var (innermost p.chain) || is_clause (innermost p.chain))) b in
+    let two : (not (is_special p.node) && not (is_typescript p.source_type)) ≡ true = and_first (not (is_special p.node) && not (is_typescript p.source_type)) (not (is_strict p.chain)) four in
+    let plain_script : not (is_typescript p.source_type) ≡ true = and_second (not (is_special p.node)) (not (is_typescript p.source_type)) two in
+    let loose : not (is_strict p.chain) ≡ true = and_second (not (is_special p.node) && not (is_typescript p.source_type)) (not (is_strict p.chain)) four in
+    and_from (not (is_typescript t)) (not (is_module t)) (subst (λ u. not (is_typescript u) ≡ true) e plain_script) (no_module (is_module t) refl (subst (λ l. not (is_strict l) ≡ true) c loose))
   where
     no_module : (m : Bool) → is_module t ≡ m → not (meets s.flags scope.StrictMode.bits) ≡ true → not m ≡ true
     no_module true q l = let w : false ≡ true = ap not (sym (h q)) ∙ l in absurd cc

@@ -6,6 +6,7 @@ use Rattle.semantic_kinds.specs.declared.kind.AstType.{AstType}
 use Rattle.semantic_kinds.specs.declared.kind.AstType.TheVariants as kind
 use Rattle.semantic_kinds.specs.declared.role.Role.TheVariants as role
 use Rattle.semantic_syntax.specs.Tables.{Name}
+use Rattle.semantic_syntax.proofs.Truth.{or_false}
 use Rattle.semantic_tree.specs.Nodes.{trees}
 use Rattle.semantic_tree.specs.Fit.{fit}
 use Rattle.semantic_tree.specs.declared.node.Node.{Node}
@@ -15,7 +16,7 @@ use Rattle.semantic_model.specs.Place.{Place, OpenScope, innermost}
 use Rattle.semantic_model.specs.Binder.{ids, is_statement, declared_on_entering, declared_on_opening}
 use Rattle.walk_model.specs.WrittenNames.{Written, Openers, is_known_inside, counts_as, names_in, written_by}
 use Rattle.walk_model.proofs.once.NamesInRole.{AtMostOne, bound_is, one_pattern}
-use Rattle.walk_model.proofs.written.WrittenRows.{or_none, parent_of, written_outside, written_inside, is_in, any_in, entering_written, opening_written}
+use Rattle.walk_model.proofs.written.WrittenRows.{parent_of, written_outside, written_inside, is_in, any_in, entering_written, opening_written}
 
 -- by its kind, and by whether its name is known in its own scope alone
 written_is : (node : Node) (parent : Option Node) (o : Openers) (k : AstType) (inside : Bool) → node.kind ≡ k → is_known_inside node ≡ inside
@@ -41,7 +42,7 @@ module _ (x : ℕ) (name : Name) where
 
       by : (b : Bool) → is_statement p.node ≡ b
           → (on (cond b (names_in (innermost p.chain).opener (ids p.node)) []) || on (cond b [] (names_in p.node.node_id (ids p.node)))) ≡ on (written_by p.node (parent_of p.path) o)
-      by true f = or_none (on (names_in (innermost p.chain).opener (ids p.node))) ∙ sym (ap on (is_so true f ∙ (λ i. names_in (s i) (n i))))
+      by true f = or_false (on (names_in (innermost p.chain).opener (ids p.node))) ∙ sym (ap on (is_so true f ∙ (λ i. names_in (s i) (n i))))
       by false f = sym (ap on (is_so false f ∙ ap (names_in p.node.node_id) n))
 
   -- what else is written stands in the innermost scope
@@ -55,11 +56,11 @@ module _ (x : ℕ) (name : Name) where
 
   parted : (k : AstType) (p : Place) (o : Openers) → p.node.kind ≡ k → o.innermost ≡ (innermost p.chain).opener
       → (on (written_outside k p) || on (written_inside k p.node)) ≡ on (written_by p.node (parent_of p.path) o)
-  parted kind.VariableDeclarator p o e s = or_none (on (written_outside kind.VariableDeclarator p)) ∙ sym (plain_written kind.VariableDeclarator p o e s refl)
+  parted kind.VariableDeclarator p o e s = or_false (on (written_outside kind.VariableDeclarator p)) ∙ sym (plain_written kind.VariableDeclarator p o e s refl)
   parted kind.Function p o e s = statement_written kind.Function p o e s refl refl (bound_is p.node kind.Function role.Id e refl refl)
   parted kind.Class p o e s = statement_written kind.Class p o e s refl refl (bound_is p.node kind.Class role.Id e refl refl)
   parted kind.CatchParameter p o e s =
-      or_none (on (written_outside kind.CatchParameter p))
+      or_false (on (written_outside kind.CatchParameter p))
       ∙ sym (plain_written kind.CatchParameter p o e s refl ∙ ap (λ ns. on (cond (holds (λ q. not (is kind.BindingIdentifier q)) (child_of role.Pattern p.node)) (names_in (innermost p.chain).opener ns) [])) (bound_is p.node kind.CatchParameter role.Pattern e refl refl))
   parted k p o e s = sym (plain_written k p o e s refl)
 

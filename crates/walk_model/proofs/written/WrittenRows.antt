@@ -1,6 +1,5 @@
 -- What a node declares, as far as it counts, is what it writes.
-use Rattle.std.proofs.Common.{◌≡◌, ℕ, List, [], ◌∷◌, ◌++◌, Option, Some, None, Bool, true, false, cond, ◌&&◌, ◌||◌, not, refl, sym, ap, ◌∙◌, ◌==◌, inl, inr, map, flat_map, if◌then◌else◌, codes, bytes_eq}
-use Rattle.std.proofs.lemmas.Bool.Decides.{eqb_tells}
+use Rattle.std.proofs.Common.{◌≡◌, ℕ, List, [], ◌∷◌, ◌++◌, Option, Some, None, Bool, true, false, cond, ◌&&◌, ◌||◌, not, refl, sym, ap, ◌∙◌, ◌==◌, map, flat_map, if◌then◌else◌, codes, bytes_eq}
 use Rattle.std.proofs.lemmas.List.{append-nil}
 use Rattle.semantic_kinds.specs.declared.kind.AstType.{AstType}
 use Rattle.semantic_kinds.specs.declared.kind.AstType.TheVariants as kind
@@ -9,6 +8,7 @@ use Rattle.semantic_kinds.specs.declared.mark.Mark.TheVariants as mark
 use Rattle.semantic_syntax.specs.declared.symbol_flags.TheConstants.SymbolFlags as symbol
 use Rattle.semantic_syntax.specs.Sets.{meets, union}
 use Rattle.semantic_syntax.specs.Tables.{Name}
+use Rattle.semantic_syntax.proofs.Truth.{or_assoc, same_turned}
 use Rattle.semantic_tree.specs.Nodes.{first_of}
 use Rattle.semantic_tree.specs.declared.node.Node.{Node}
 use Rattle.semantic_tree.specs.Views.{is, has, is_with_text, children_of, child_of, holds}
@@ -28,20 +28,6 @@ count flags = meets flags symbol.BlockScopedVariable.bits || meets flags symbol.
 -- the scope where the names of a row stand
 abbrev first_on : Route → OpenScope
 first_on route = innermost (route.passed ++ route.target ∷ [])
-
-pub or_none : (b : Bool) → (b || false) ≡ b
-or_none true = refl
-or_none false = refl
-
-pub or_assoc : (a b c : Bool) → (a || (b || c)) ≡ ((a || b) || c)
-or_assoc true b c = refl
-or_assoc false b c = refl
-
-turned : (m n : ℕ) → (m == n) ≡ (n == m)
-turned m n = elim (eqb_tells m n) [
-  | inl a ↦ elim (eqb_tells n m) [ inl b ↦ a.0 ∙ sym b.0 | inr b ↦ absurd (b.1 (sym a.1)) ]
-  | inr a ↦ elim (eqb_tells n m) [ inl b ↦ absurd (a.1 (sym b.1)) | inr b ↦ a.0 ∙ sym b.0 ]
-]
 
 abbrev pub parent_of : List Node → Option Node
 parent_of [] = None
@@ -135,13 +121,13 @@ module _ (x : ℕ) (name : Name) where
   any_append [] es = refl
   any_append (d ∷ ds) es =
       let first : Bool = counts_past d && (scope_it_stands_in d).opener == x && bytes_eq d.naming.name name in
-      ap (λ b. first || b) (any_append ds es) ∙ or_assoc first (any_in ds) (any_in es)
+      ap (λ b. first || b) (any_append ds es) ∙ (sym (or_assoc first (any_in ds) (any_in es)))
 
   -- a row whose flags count
   row_written : (node : Node) (row : Row) (is_pure : Bool) (s : OpenScope) → count row.flags ≡ true → first_on row.route ≡ s → (names : List Node) → any_in (map (declare node row is_pure) names) ≡ is_in (names_in s.opener names)
   row_written node row is_pure s c f [] = refl
   row_written node row is_pure s c f (n ∷ ns) =
-      let here : ((first_on row.route).opener == x) ≡ (x == s.opener) = ap (λ t. t.opener == x) f ∙ turned s.opener x in
+      let here : ((first_on row.route).opener == x) ≡ (x == s.opener) = ap (λ t. t.opener == x) f ∙ same_turned s.opener x in
       λ i. (c i && here i && bytes_eq n.text name) || row_written node row is_pure s c f ns i
 
   -- a row whose flags don't count

@@ -1,7 +1,7 @@
 use Rattle.std.proofs.Common.{◌≡◌, List, ◌++◌, Result, Ok, Err, OnOk, ap, ◌∙◌}
+use Rattle.semantic_syntax.proofs.Truth.{and_first}
 use Rattle.semantic_kinds.specs.declared.role.Role.TheVariants as roles
 use Rattle.semantic_tree.specs.Sound.{is_sound, shows_sign}
-use Rattle.semantic_model.proofs.form.Clauses.{first_holds}
 use Rattle.semantic_diagnostics.specs.declared.diagnostic.Diagnostic.{Diagnostic}
 use Rattle.check_context.specs.Tells.{Tells}
 use Rattle.check_walk.proofs.Conditions.{child_good}
@@ -16,7 +16,7 @@ check-requires c =
     record {
       handed = record {
         context = record { path = h.path; scope = h.scope; class = h.class; source = h.limit };
-        span = first_holds (is_sound source node.span) (shows_sign source node.kind node) h.in_source.span;
+        span = and_first (is_sound source node.span) (shows_sign source node.kind node) h.in_source.span;
         numbered = h.order;
       };
       annotated = child_good source roles.Element node.children h.in_source.below;
