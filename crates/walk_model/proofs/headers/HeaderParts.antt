@@ -6,13 +6,11 @@ use Rattle.std.proofs.lemmas.List.{take-append-drop}
 use Rattle.semantic_syntax.proofs.Truth.{and_first, and_second}
 use Rattle.semantic_kinds.specs.Kinds.{same_kind}
 use Rattle.semantic_kinds.specs.Roles.{same_role}
-use Rattle.semantic_kinds.specs.Classes.{is_of}
 use Rattle.semantic_kinds.specs.Parts.{parts}
 use Rattle.semantic_kinds.specs.declared.kind.AstType.{AstType}
 use Rattle.semantic_kinds.specs.declared.kind.AstType.TheVariants as kind
 use Rattle.semantic_kinds.specs.declared.role.Role.{Role}
 use Rattle.semantic_kinds.specs.declared.role.Role.TheVariants as role
-use Rattle.semantic_kinds.specs.declared.class.Class.{Class}
 use Rattle.semantic_kinds.specs.declared.class.Class.TheVariants as class
 use Rattle.semantic_kinds.specs.declared.part.Part.{Part}
 use Rattle.semantic_tree.specs.Forest.{Forest, nothing, tree}
@@ -27,9 +25,9 @@ use Rattle.semantic_tree.specs.declared.place.Place.{Place}
 use Rattle.semantic_tree.specs.Views.{has_role}
 use Rattle.semantic_tree.proofs.FitLaws.{lead_in_role}
 use Rattle.semantic_model.specs.Inside.{header_roles, is_in_header}
-use Rattle.semantic_model.proofs.form.Clauses.{kind_is, role_is}
+use Rattle.semantic_model.proofs.form.Clauses.{role_is}
 use Rattle.semantic_model.proofs.form.Shape.{NoneMisshapen, first_formed, rest_formed, table_kept, fit_kept, none_misshapen}
-use Rattle.walk_model.proofs.places.Shapes.{HoldsPart, HoldParts, holds_below, tree_holds, only_is}
+use Rattle.walk_model.proofs.places.Shapes.{HoldsPart, HoldParts, holds_below, tree_holds, is_only, only_holds}
 
 abbrev pub is_name : AstType → Role → Bool
 is_name k r = same_kind k kind.Function && same_role r role.Id
@@ -153,32 +151,26 @@ tree_ordered p h =
 abbrev pub names_identifier : AstType → Role → AstType → List ℕ → Bool
 names_identifier k r k2 text = not (same_kind k kind.BindingIdentifier) && (not (is_name k r) || same_kind k2 kind.BindingIdentifier)
 
-abbrev is_identifier_class : Class → Bool
-is_identifier_class (class.Only k) = same_kind k kind.BindingIdentifier
-is_identifier_class _ = false
+abbrev is_identifier : AstType → Bool
+is_identifier k = same_kind k kind.BindingIdentifier
 
 part_names : AstType → Part → Bool
-part_names k part = not (same_kind k kind.BindingIdentifier) && (not (is_name k part.role) || is_identifier_class part.class)
+part_names k part = not (same_kind k kind.BindingIdentifier) && (not (is_name k part.role) || is_only is_identifier part.class)
 
 all_name : (k : AstType) → list_all (part_names k) (parts k) ≡ true
 unfolding part_names
 all_name kind.Program = refl
 all_name _ = refl
 
-identifier_class : (c : Class) (k2 : AstType) (text : List ℕ) → is_identifier_class c ≡ true → is_of c k2 text ≡ true → same_kind k2 kind.BindingIdentifier ≡ true
-identifier_class (class.Only k) k2 text e h =
-    let q : k ≡ k2 = sym (kind_is k2 k (sym (only_is k k2 text) ∙ h)) in subst (λ m. same_kind m kind.BindingIdentifier ≡ true) q e
-identifier_class _ k2 text e h = absurd cc
-
 part_holds : (k : AstType) (part : Part) → part_names k part ≡ true → HoldsPart names_identifier k part
 unfolding part_names
 part_holds k part e k2 text h =
     and_from (not (same_kind k kind.BindingIdentifier)) (not (is_name k part.role) || same_kind k2 kind.BindingIdentifier)
     (and_first (not (same_kind k kind.BindingIdentifier)) _ e)
-    (by (is_name k part.role) (and_second (not (same_kind k kind.BindingIdentifier)) (not (is_name k part.role) || is_identifier_class part.class) e))
+    (by (is_name k part.role) (and_second (not (same_kind k kind.BindingIdentifier)) (not (is_name k part.role) || is_only is_identifier part.class) e))
   where
-    by : (b : Bool) → (not b || is_identifier_class part.class) ≡ true → (not b || same_kind k2 kind.BindingIdentifier) ≡ true
-    by true q = identifier_class part.class k2 text q h
+    by : (b : Bool) → (not b || is_only is_identifier part.class) ≡ true → (not b || same_kind k2 kind.BindingIdentifier) ≡ true
+    by true q = only_holds is_identifier part.class k2 text q h
     by false q = refl
 
 parts_hold : (k : AstType) (ps : List Part) → list_all (part_names k) ps ≡ true → HoldParts names_identifier k ps

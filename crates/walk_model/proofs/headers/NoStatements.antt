@@ -23,7 +23,7 @@ use Rattle.semantic_tree.specs.declared.node.Node.{Node}
 use Rattle.semantic_tree.specs.declared.place.Place.{Place}
 use Rattle.semantic_model.specs.Inside.{is_in_header, is_parameter_decorator}
 use Rattle.semantic_model.proofs.form.Clauses.{kind_is}
-use Rattle.walk_model.proofs.places.Shapes.{HoldsPart, HoldParts, holds_below, tree_holds, tree_stands, only_is}
+use Rattle.walk_model.proofs.places.Shapes.{HoldsPart, HoldParts, holds_below, tree_holds, tree_stands, only_is, is_only, only_holds}
 
 -- kinds that hold statements, or declare by `var`
 abbrev pub loose_kinds : List AstType
@@ -133,34 +133,28 @@ closed_of c k2 text e h = rw (not_loose c k2 text e h) (elim (cases_Bool (same_k
       rw (q, expression_is_none text (function_text c e text i)) refl)
 ])
 
-abbrev is_function_class : Class → Bool
-is_function_class (class.Only k) = same_kind k kind.Function
-is_function_class _ = false
+abbrev is_function : AstType → Bool
+is_function k = same_kind k kind.Function
 
 part_closes : AstType → Part → Bool
-part_closes k part = not (asks_closed k part.role) || (not (is_open_class part.class) || (same_kind k kind.MethodDefinition && same_role part.role role.Value && is_function_class part.class))
+part_closes k part = not (asks_closed k part.role) || (not (is_open_class part.class) || (same_kind k kind.MethodDefinition && same_role part.role role.Value && is_only is_function part.class))
 
 all_close : (k : AstType) → list_all (part_closes k) (parts k) ≡ true
 unfolding part_closes
 all_close kind.Program = refl
 all_close _ = refl
 
-function_class : (c : Class) (k2 : AstType) (text : List ℕ) → is_function_class c ≡ true → is_of c k2 text ≡ true → same_kind k2 kind.Function ≡ true
-function_class (class.Only k) k2 text e h =
-    let q : k ≡ k2 = sym (kind_is k2 k (sym (only_is k k2 text) ∙ h)) in subst (λ m. same_kind m kind.Function ≡ true) q e
-function_class _ k2 text e h = absurd cc
-
 part_holds : (k : AstType) (part : Part) → part_closes k part ≡ true → HoldsPart closed_by_table k part
 unfolding part_closes
 part_holds k part e k2 text h = by (asks_closed k part.role) (is_open_class part.class) refl e
   where
-    by : (a o : Bool) → is_open_class part.class ≡ o → (not a || (not o || (same_kind k kind.MethodDefinition && same_role part.role role.Value && is_function_class part.class))) ≡ true
+    by : (a o : Bool) → is_open_class part.class ≡ o → (not a || (not o || (same_kind k kind.MethodDefinition && same_role part.role role.Value && is_only is_function part.class))) ≡ true
         → (not a || (is_closed k2 text || is_value_function k part.role k2)) ≡ true
     by false o q w = refl
     by true false q w = rw (closed_of part.class k2 text q h) refl
     by true true q w =
-        let method : (same_kind k kind.MethodDefinition && same_role part.role role.Value) ≡ true = and_first (same_kind k kind.MethodDefinition && same_role part.role role.Value) (is_function_class part.class) w in
-        let f : same_kind k2 kind.Function ≡ true = function_class part.class k2 text (and_second (same_kind k kind.MethodDefinition && same_role part.role role.Value) (is_function_class part.class) w) h in
+        let method : (same_kind k kind.MethodDefinition && same_role part.role role.Value) ≡ true = and_first (same_kind k kind.MethodDefinition && same_role part.role role.Value) (is_only is_function part.class) w in
+        let f : same_kind k2 kind.Function ≡ true = only_holds is_function part.class k2 text (and_second (same_kind k kind.MethodDefinition && same_role part.role role.Value) (is_only is_function part.class) w) h in
         or_true (is_closed k2 text) (is_value_function k part.role k2) (rw (method, f) refl)
       where
         or_true : (x y : Bool) → y ≡ true → (x || y) ≡ true

@@ -1,5 +1,5 @@
 -- In a tree without a fault the nodes that hand names on to the nodes around them declare nothing themselves.
-use Rattle.std.proofs.Common.{◌≡◌, ℕ, List, [], ◌∷◌, Bool, true, false, not, ◌||◌, None, refl, sym, subst, ◌∙◌}
+use Rattle.std.proofs.Common.{◌≡◌, ℕ, List, [], ◌∷◌, Bool, true, false, not, ◌||◌, None, refl}
 use Rattle.std.specs.List.{list_all}
 use Rattle.semantic_syntax.proofs.Truth.{and_first, and_second}
 use Rattle.semantic_kinds.specs.Classes.{is_of, is_pattern}
@@ -14,8 +14,7 @@ use Rattle.semantic_tree.specs.Tree.{Tree}
 use Rattle.semantic_tree.specs.Faults.{first_fault}
 use Rattle.semantic_tree.specs.Views.{is_role_of}
 use Rattle.semantic_model.specs.Names.{binding_roles}
-use Rattle.semantic_model.proofs.form.Clauses.{kind_is}
-use Rattle.walk_model.proofs.places.Shapes.{HoldsPart, HoldParts, holds_below, tree_holds, only_is}
+use Rattle.walk_model.proofs.places.Shapes.{HoldsPart, HoldParts, holds_below, tree_holds, is_only, only_holds}
 use Rattle.walk_model.proofs.once.NameTimes.{name_roles}
 
 -- a node of the kind leaves the names that it binds to the node around it, unless it is the rest of a list of parameters
@@ -47,8 +46,7 @@ names_quietly k r child text = not (is_role_of r (name_roles k)) || is_quiet chi
 
 abbrev is_quiet_class : Class → Bool
 is_quiet_class class.Pattern = true
-is_quiet_class (class.Only k) = is_quiet k
-is_quiet_class _ = false
+is_quiet_class c = is_only is_quiet c
 
 part_names : AstType → Part → Bool
 part_names k part = not (is_role_of part.role (name_roles k)) || is_quiet_class part.class
@@ -71,8 +69,7 @@ pattern_quiet k h = by (is_pattern k) h (pattern_table k)
 
 class_quiet : (c : Class) (child : AstType) (text : List ℕ) → is_quiet_class c ≡ true → is_of c child text ≡ true → is_quiet child ≡ true
 class_quiet class.Pattern child text e h = pattern_quiet child h
-class_quiet (class.Only k) child text e h = let q : k ≡ child = sym (kind_is child k (sym (only_is k child text) ∙ h)) in subst (λ m. is_quiet m ≡ true) q e
-class_quiet _ child text e h = absurd cc
+class_quiet c child text e h = only_holds is_quiet c child text e h
 
 part_holds : (k : AstType) (part : Part) → part_names k part ≡ true → HoldsPart names_quietly k part
 unfolding part_names

@@ -1,10 +1,11 @@
 -- What holds of each part of a kind holds of each child in a tree without a fault.
-use Rattle.std.proofs.Common.{◌≡◌, ℕ, List, ◌++◌, Bool, true, ◌&&◌, None, refl}
+use Rattle.std.proofs.Common.{◌≡◌, ℕ, List, ◌++◌, Bool, true, false, ◌&&◌, None, refl, sym, subst, ◌∙◌}
 use Rattle.std.proofs.lemmas.Bool.{and_from}
 use Rattle.semantic_syntax.proofs.Truth.{and_first, and_second}
 use Rattle.semantic_kinds.specs.Kinds.{same_kind}
 use Rattle.semantic_kinds.specs.Classes.{is_of}
 use Rattle.semantic_kinds.specs.Parts.{parts}
+use Rattle.semantic_kinds.specs.declared.class.Class.{Class}
 use Rattle.semantic_kinds.specs.declared.class.Class.TheVariants as class
 use Rattle.semantic_kinds.specs.declared.kind.AstType.{AstType}
 use Rattle.semantic_kinds.specs.declared.role.Role.{Role}
@@ -16,12 +17,22 @@ use Rattle.semantic_tree.specs.Place.{root_place, child_place, placed_below}
 use Rattle.semantic_tree.specs.Rules.{is_well_formed, is_rooted, keeps_table, stands, names_foreign}
 use Rattle.semantic_tree.specs.declared.node.Node.{Node}
 use Rattle.semantic_tree.specs.declared.place.Place.{Place}
+use Rattle.semantic_model.proofs.form.Clauses.{kind_is}
 pub use Rattle.semantic_model.proofs.form.PartsHold.{HoldsPart, HoldParts}
 use Rattle.semantic_model.proofs.form.PartsHold.{hold, fit_holds}
 use Rattle.semantic_model.proofs.form.Shape.{NoneMisshapen, first_formed, rest_formed, table_kept, fit_kept, none_misshapen}
 
 pub only_is : (k child : AstType) (text : List ℕ) → is_of (class.Only k) child text ≡ same_kind child k
 only_is k child text = refl
+
+-- the class has one kind alone, of which the test holds
+abbrev pub is_only : (AstType → Bool) → Class → Bool
+is_only t (class.Only k) = t k
+is_only t _ = false
+
+pub only_holds : (t : AstType → Bool) (c : Class) (child : AstType) (text : List ℕ) → is_only t c ≡ true → is_of c child text ≡ true → t child ≡ true
+only_holds t (class.Only k) child text e h = let q : k ≡ child = sym (kind_is child k (sym (only_is k child text) ∙ h)) in subst (λ m. t m ≡ true) q e
+only_holds t _ child text e h = absurd cc
 
 module _ (q : AstType → Role → AstType → List ℕ → Bool) where
   -- the test holds of each child below a node of the kind
