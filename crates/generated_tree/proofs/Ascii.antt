@@ -4,11 +4,11 @@ use Rattle.std.specs.Str.{IsAscii}
 use Rattle.std.proofs.lemmas.Bool.{lt-ltb}
 use Rattle.std.proofs.lemmas.Str.{IsAscii-append}
 use Rattle.std.proofs.lemmas.Fmt.{IsAscii-decimal}
+use Rattle.semantic_syntax.specs.Ascii.{is_ascii}
 use Rattle.semantic_syntax.proofs.Ascii.{ascii_text}
-use Rattle.semantic_kinds.specs.Classes.{is_ascii_text}
 use Rattle.generated_tree.specs.Generated.{function_name}
 
-tested : (text : List ℕ) → IsAscii text → IsTrue (is_ascii_text text)
+tested : (text : List ℕ) → IsAscii text → IsTrue (is_ascii text)
 tested [] h = refl
 tested (byte ∷ rest) h = rw (lt-ltb byte 128 (h zero)) (tested rest (λ i. h (suc i)))
 
@@ -16,7 +16,7 @@ pub name_is_ascii : (i : ℕ) → i < 2 ^ 64 → IsAscii (function_name i)
 name_is_ascii i h = IsAscii-append (codes "f") (decimal i) (ascii_text (codes "f") refl) (IsAscii-decimal i h)
 
 -- the name of a function
-pub ascii_name : (i : ℕ) → i < 2 ^ 64 → IsTrue (is_ascii_text (function_name i))
+pub ascii_name : (i : ℕ) → i < 2 ^ 64 → IsTrue (is_ascii (function_name i))
 ascii_name i h = tested (function_name i) (name_is_ascii i h)
 
 pub ruleset ascii_names = (ascii_name)

@@ -1,7 +1,7 @@
 //! The parts of a function.
 ghost use Rattle.std.specs.Prelude.{◌≡◌, ◌+◌, ◌<◌, ◌^◌, IsTrue, IfOk, length};
 ghost use Rattle.std.specs.Str.{chars};
-ghost use Rattle.semantic_kinds.specs.Classes.{is_ascii_text};
+ghost use Rattle.semantic_syntax.specs.Ascii.{is_ascii};
 ghost use Rattle.semantic_tree.specs.Children.{single};
 ghost use Rattle.semantic_tree.specs.Forest.{join};
 ghost use Rattle.generated_tree.specs.Generated as made;
@@ -19,7 +19,7 @@ pub fn leaf(
     end: u32,
     text: &str,
 ) -> Result<Node, AllocError>
-    requires { IsTrue (is_ascii_text text.now) }
+    requires { IsTrue (is_ascii text.now) }
     ensures { IfOk result (λ node. node ≡ made.leaf kind start end text.now) }
 {
     Node::new(alloc, kind, Span::new(start, end), text, Marks::empty())
@@ -105,7 +105,7 @@ fn body(alloc: Global, at: u32) -> Result<Node, AllocError>
 
 /// A function of the name, which begins at `at`.
 pub fn function(alloc: Global, at: u32, name: &str) -> Result<Node, AllocError>
-    requires ascii { IsTrue (is_ascii_text name.now) }
+    requires ascii { IsTrue (is_ascii name.now) }
     requires room { at + length name.now + 34 < 2 ^ 32 }
     ensures { IfOk result (λ node. node ≡ made.function at name.now) }
 {

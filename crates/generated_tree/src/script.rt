@@ -1,6 +1,6 @@
 //! The whole script.
 ghost use Rattle.std.specs.Prelude.{◌≡◌, [], ◌++◌, ◌+◌, ◌*◌, ◌<◌, ◌≤◌, None, length, string_bytes, IfOk, OnOk, IsTrue};
-ghost use Rattle.semantic_kinds.specs.Classes.{is_ascii_text};
+ghost use Rattle.semantic_syntax.specs.Ascii.{is_ascii};
 ghost use Rattle.semantic_kinds.specs.declared.kind.AstType.TheVariants.{Program as program_kind};
 ghost use Rattle.semantic_tree.specs.Faults.{first_fault};
 ghost use Rattle.generated_tree.specs.Generated as made;
@@ -18,7 +18,7 @@ pub const MOST_FUNCTIONS: u32 = 100_000;
 fn function_name(alloc: Global, number: u32) -> Result<String, AllocError>
     requires { number < made.most_functions }
     ensures name { IfOk result (λ name. string_bytes name ≡ made.function_name number) }
-    ensures ascii { IfOk result (λ name. IsTrue (is_ascii_text (string_bytes name))) }
+    ensures ascii { IfOk result (λ name. IsTrue (is_ascii (string_bytes name))) }
     ensures short { IfOk result (λ name. length (string_bytes name) ≤ 6) }
 {
     format!(in alloc; "f{number}")

@@ -7,7 +7,7 @@ ghost use Rattle.semantic_tree.specs.ChildIter.{shown};
 ghost use Rattle.semantic_kinds.specs.declared.role.Role.TheVariants as roles;
 ghost use Rattle.semantic_tree.specs.Views.{has_text, is, whose};
 ghost use Rattle.semantic_tree.specs.declared.node.Node.{Node};
-ghost use Rattle.semantic_diagnostics.specs.Ascii.{is_ascii};
+ghost use Rattle.semantic_syntax.specs.Ascii.{is_ascii};
 ghost use Rattle.semantic_diagnostics.specs.Names as tell;
 ghost use Rattle.node_store.specs.PathLeft.{path_left};
 ghost use Rattle.check_model.specs.Names as rows;

@@ -2,7 +2,7 @@
 
 ghost use Rattle.std.specs.Prelude.{◌≡◌, true};
 ghost use Rattle.std.specs.Str.{bytes_eq};
-ghost use Rattle.semantic_kinds.specs.Classes.{is_ascii_text};
+ghost use Rattle.semantic_syntax.specs.Ascii.{is_ascii};
 ghost use Rattle.semantic_tree.specs.declared.node.Node.{Node};
 ghost use Rattle.semantic_model.specs.Namespace.{is_list};
 
@@ -11,7 +11,7 @@ use semantic_tree::{AstKind, AstType};
 
 /// Whether the node has the text, which is one of the words of the grammar.
 pub fn reads(kind: AstKind<'_>, word: &str) -> bool
-    requires { is_ascii_text word.now ≡ true }
+    requires { is_ascii word.now ≡ true }
     ensures { result ≡ bytes_eq kind.entry.node.now.text word.now }
 {
     is_word(kind.text().as_str(), word)

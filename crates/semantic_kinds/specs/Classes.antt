@@ -1,7 +1,7 @@
 -- What a child may be.
-use Rattle.std.specs.Prelude.{ℕ, List, [], ◌∷◌, Bool, ◌||◌, ◌&&◌, codes, nat_lt}
+use Rattle.std.specs.Prelude.{ℕ, List, [], ◌∷◌, Bool, ◌||◌, ◌&&◌, codes}
 use Rattle.std.specs.Str.{bytes_eq}
-use Rattle.std.specs.List.{list_any, list_all}
+use Rattle.std.specs.List.{list_any}
 use Rattle.semantic_kinds.specs.Kinds.{same_kind}
 use Rattle.semantic_kinds.specs.declared.kind.AstType.{AstType}
 use Rattle.semantic_kinds.specs.declared.kind.AstType.TheVariants as kind
@@ -22,10 +22,6 @@ statement_kinds = kind.BlockStatement ∷ kind.EmptyStatement ∷ kind.DebuggerS
 
 abbrev pub holds_kind : List AstType → AstType → Bool
 holds_kind kinds kind = list_any (λ k. same_kind k kind) kinds
-
--- all characters are ASCII
-abbrev pub is_ascii_text : List ℕ → Bool
-is_ascii_text text = list_all (λ c. nat_lt c 128) text
 
 -- a declaration; a function or class is one by its text
 abbrev pub is_declaration : AstType → List ℕ → Bool

@@ -11,3 +11,4 @@ pub mod Told
 pub mod Lookup
 pub mod Members
 pub mod Outcome
+pub mod Ascii

@@ -2,7 +2,7 @@
 use Rattle.std.proofs.Common.{◌≡◌, ℕ, List, ◌++◌, IsTrue, ap, ◌∙◌}
 use Rattle.std.specs.Str.{chars, IsUtf8}
 use Rattle.std.proofs.lemmas.Str.{chars-append}
-use Rattle.semantic_diagnostics.specs.Ascii.{is_ascii}
+use Rattle.semantic_syntax.specs.Ascii.{is_ascii}
 use Rattle.semantic_syntax.proofs.Ascii.{ascii_chars}
 
 -- an ASCII text behind another
