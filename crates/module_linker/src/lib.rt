@@ -12,7 +12,7 @@ pub use link_list::Links;
 pub use linking::link;
 pub use module_set::{LinkError, Module, Modules, read_modules};
 pub use program::run_link;
-pub use program_ends::FindingStatus;
+pub use program_ends::FindingStatus as LinkStatus;
 pub use report_ends::{
     Failed, MemorySink, MemorySource, Reading, Sink, Source, SureSink, SureSource, WriteFault,
     Writing,

@@ -10,13 +10,13 @@ ghost use Rattle.module_linker.specs.Codes.{status_for, is_loose};
 ghost use Rattle.module_linker.specs.Failing.{NotFound, IsNotRefused};
 ghost use Rattle.module_linker.specs.Meaning.{StandsLinked, GivesLinks, Ends, Means, IsClear};
 
+use crate::LinkStatus;
 use crate::failure::LinkFailure;
 use crate::linking::link;
 use crate::stops::{refuse_words, tell_failure};
 use link_lines::write_links;
 use link_model::{Link, LinkOutcome};
 use module_set::{Modules, read_modules};
-use program_ends::FindingStatus;
 use report_ends::{Sink, Source, read_input};
 use std::alloc::Global;
 
@@ -32,15 +32,15 @@ fn is_loose(outcome: LinkOutcome) -> bool
 
 /// The status for links that are written.
 #[tactic(auto, using(crate::proofs::Loose::loose_turn, crate::proofs::Loose::loose_found, crate::proofs::Loose::loose_end))]
-fn status_for(links: &[Link]) -> FindingStatus
+fn status_for(links: &[Link]) -> LinkStatus
     ensures { result ≡ status_for links.now }
 {
     for link in links {
         if is_loose(link.outcome) {
-            return FindingStatus::Found;
+            return LinkStatus::Found;
         }
     }
-    FindingStatus::Done
+    LinkStatus::Done
 }
 
 /// Reads the whole input, and the set of modules that it stands for. Some bytes are gone from the source where it fails.
@@ -56,11 +56,7 @@ fn read_modules_from<S: Source>(alloc: Global, source: &mut S) -> Result<Modules
 }
 
 /// Writes the links of modules, and gives the status for them.
-fn answer<K: Sink>(
-    alloc: Global,
-    modules: &Modules,
-    out: &mut K,
-) -> Result<FindingStatus, LinkFailure>
+fn answer<K: Sink>(alloc: Global, modules: &Modules, out: &mut K) -> Result<LinkStatus, LinkFailure>
     ensures { GivesLinks K.held K.faults out.old out.new modules.now result }
 {
     let links = link(alloc, modules)?;
@@ -73,7 +69,7 @@ fn link_input<S: Source, K: Sink>(
     alloc: Global,
     source: &mut S,
     out: &mut K,
-) -> Result<FindingStatus, LinkFailure>
+) -> Result<LinkStatus, LinkFailure>
     ensures ends { Ends (source_call S.left S.faults source.old source.new) (sink_call K.held K.faults out.old out.new) result }
     ensures complete { (input : List ℕ) (ms : List Module) → S.left source.old ≡ Some input → StandsLinked input ms → IfErr result IsNotRefused }
 {
@@ -90,7 +86,7 @@ pub fn run_link<S: Source, K: Sink, E: Sink>(
     source: &mut S,
     out: &mut K,
     errs: &mut E,
-) -> FindingStatus
+) -> LinkStatus
     ensures means { Means (source_call S.left S.faults source.old source.new) (sink_call K.held K.faults out.old out.new)
         (sink_call E.held E.faults errs.old errs.new) words.now result }
     ensures complete { words.now ≡ [] → IsClear (source_call S.left S.faults source.old source.new)

@@ -6,11 +6,10 @@ ghost use Rattle.module_linker.specs.Lines.{place_line, module_line, tree_refuse
 ghost use Rattle.module_linker.specs.Telling.{stop_of_refusal, failure_line, failure_stop};
 ghost use Rattle.program_ends.specs.FindingEnds.{end_of};
 
+use crate::LinkStatus;
 use crate::failure::LinkFailure;
 use module_set::LinkError;
-use program_ends::{
-    FindingStatus, Status, Stop, numbered_line, refuse, tell, tell_stop, tree_line,
-};
+use program_ends::{Status, Stop, numbered_line, refuse, tell, tell_stop, tree_line};
 use report_ends::Sink;
 use semantic_syntax::NodeId;
 use semantic_tree::TreeError;
@@ -74,12 +73,12 @@ fn stop_of_refusal(error: &LinkError) -> Stop
 }
 
 /// Tells a refusal's line.
-fn tell_refusal<E: Sink>(alloc: Global, error: &LinkError, errs: &mut E) -> FindingStatus
+fn tell_refusal<E: Sink>(alloc: Global, error: &LinkError, errs: &mut E) -> LinkStatus
     ensures { TellsEnd (sink_call E.held E.faults errs.old errs.new) (cause_line error.now) (stop_of_refusal error.now) (end_of result) }
 {
     match cause_line(alloc, error) {
-        Ok(line) => FindingStatus::of_stop(tell_stop(&line, stop_of_refusal(error), errs)),
-        Err(_) => FindingStatus::Memory,
+        Ok(line) => LinkStatus::of_stop(tell_stop(&line, stop_of_refusal(error), errs)),
+        Err(_) => LinkStatus::Memory,
     }
 }
 
@@ -89,7 +88,7 @@ pub(crate) fn tell_failure<E: Sink>(
     alloc: Global,
     failure: &LinkFailure,
     errs: &mut E,
-) -> FindingStatus
+) -> LinkStatus
     ensures { TellsEnd (sink_call E.held E.faults errs.old errs.new) (failure_line failure.now) (failure_stop failure.now) (end_of result) }
 {
     match failure {
@@ -102,7 +101,7 @@ pub(crate) fn tell_failure<E: Sink>(
 pub const USAGE: &str = "usage: module_linker\n";
 
 /// Answers words, for which there is no use.
-pub(crate) fn refuse_words<E: Sink>(errs: &mut E) -> FindingStatus
+pub(crate) fn refuse_words<E: Sink>(errs: &mut E) -> LinkStatus
     ensures { TellsEnd (sink_call E.held E.faults errs.old errs.new) usage_line Stop.Usage (end_of result) }
 {
     refuse(USAGE, errs)

@@ -8,4 +8,4 @@ mod program;
 pub use finding::find_names;
 pub use name_uses::{NameReport, ReferenceIdList, SymbolIdList};
 pub use program::{USAGE, run_names};
-pub use program_ends::FindingStatus;
+pub use program_ends::FindingStatus as NamesStatus;

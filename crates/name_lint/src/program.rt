@@ -18,10 +18,11 @@ ghost use Rattle.name_lint.specs.Meaning.{GivesAnswer, Ends, Means};
 ghost use Rattle.name_lint.specs.Telling.{usage_line};
 ghost use Rattle.name_lint.specs.Words.{AreNames};
 
+use crate::NamesStatus;
 use crate::finding::drop_analysis;
 use crate::name_lines::write_names;
 use name_uses::{NameReport, TreePass, names_by};
-use program_ends::{FindingStatus, Stop, read_program_from, refuse, tell};
+use program_ends::{Stop, read_program_from, refuse, tell};
 use report_ends::{ReportError, Sink, Source};
 use scoping::{NodeTables, Scoping};
 use semantic::SemanticBuilder;
@@ -43,13 +44,13 @@ fn are_names(words: &[String]) -> bool
 }
 
 /// The status for lines that are written.
-fn status_for(report: &NameReport) -> FindingStatus
+fn status_for(report: &NameReport) -> NamesStatus
     ensures { result ≡ status_for report.now.unused report.now.undeclared }
 {
     if report.unused.as_slice().is_empty() && report.undeclared.as_slice().is_empty() {
-        FindingStatus::Done
+        NamesStatus::Done
     } else {
-        FindingStatus::Found
+        NamesStatus::Found
     }
 }
 
@@ -60,7 +61,7 @@ fn finish_answer<K: Sink>(
     nodes: &[AstKind<'_>],
     report: &NameReport,
     out: &mut K,
-) -> Result<FindingStatus, ReportError>
+) -> Result<NamesStatus, ReportError>
     requires unused { All (λ y. y < length scoping.now.symbols) report.now.unused }
     requires undeclared { All (λ r. r < length nodes.now) report.now.undeclared }
     ensures { WritesAll K.held K.faults out.old out.new
@@ -79,7 +80,7 @@ fn answer_by<K: Sink>(
     scoping: &Scoping,
     tables: &NodeTables,
     out: &mut K,
-) -> Result<FindingStatus, ReportError>
+) -> Result<NamesStatus, ReportError>
     requires tables { scoping.now ≡ tables_of program.now }
     requires nodes { tables.now.symbols ≡ entries (node_tables (steps program.now)).symbols }
     ensures { GivesAnswer K.held K.faults out.old out.new words.now program.now result }
@@ -95,7 +96,7 @@ fn answer<K: Sink>(
     words: &[String],
     program: &Program,
     out: &mut K,
-) -> Result<FindingStatus, ReportError>
+) -> Result<NamesStatus, ReportError>
     ensures { GivesAnswer K.held K.faults out.old out.new words.now program.now result }
 {
     let analysis = SemanticBuilder::new().build(alloc, program)?;
@@ -118,7 +119,7 @@ fn answer_input<S: Source, K: Sink>(
     words: &[String],
     source: &mut S,
     out: &mut K,
-) -> Result<FindingStatus, ReportError>
+) -> Result<NamesStatus, ReportError>
     requires { AreNames words.now }
     ensures ends { Ends words.now (source_call S.left S.faults source.old source.new) (sink_call K.held K.faults out.old out.new) result }
     ensures complete { (input : List ℕ) (program : Tree) → S.left source.old ≡ Some input → Stands input program → IfErr result IsNotRefused }
@@ -131,7 +132,7 @@ fn answer_input<S: Source, K: Sink>(
 pub const USAGE: &str = "usage: name_lint [NAME ..]\n";
 
 /// Answers words that aren't names.
-fn refuse_words<E: Sink>(errs: &mut E) -> FindingStatus
+fn refuse_words<E: Sink>(errs: &mut E) -> NamesStatus
     ensures { TellsEnd (sink_call E.held E.faults errs.old errs.new) usage_line Stop.Usage (end_of result) }
 {
     refuse(USAGE, errs)
@@ -148,7 +149,7 @@ pub fn run_names<S: Source, K: Sink, E: Sink>(
     source: &mut S,
     out: &mut K,
     errs: &mut E,
-) -> FindingStatus
+) -> NamesStatus
     ensures means { Means (source_call S.left S.faults source.old source.new) (sink_call K.held K.faults out.old out.new)
         (sink_call E.held E.faults errs.old errs.new) words.now result }
     ensures complete { AreNames words.now → IsClear (source_call S.left S.faults source.old source.new)

@@ -1,6 +1,6 @@
 //! Runs over ends that fail, each at one call, and over an input that is too long.
 use crate::runs::write_end;
-use name_lint::{FindingStatus, run_names};
+use name_lint::{NamesStatus, run_names};
 use report_ends::{MemorySink, MemorySource, SureSink, SureSource};
 use std::alloc::{AllocError, Global};
 use std::io;
@@ -13,7 +13,7 @@ fn failing(alloc: Global, call: u64) -> Result<Vec<u64>, AllocError> {
 }
 
 // Writes the run whose read of this number fails, of reads of at most 400 bytes.
-fn write_failing_read(rt: &HostRuntime, tree: &str, call: u64) -> io::Result<FindingStatus> {
+fn write_failing_read(rt: &HostRuntime, tree: &str, call: u64) -> io::Result<NamesStatus> {
     let alloc = rt.alloc();
     let bytes = Vec::from_slice(alloc, tree.as_bytes())?;
     let mut source = MemorySource::new(bytes, failing(alloc, call)?).with_piece(400);
@@ -25,7 +25,7 @@ fn write_failing_read(rt: &HostRuntime, tree: &str, call: u64) -> io::Result<Fin
 }
 
 // Writes the run whose write of this number fails, of writes of at most 7 bytes.
-fn write_failing_write(rt: &HostRuntime, tree: &str, call: u64) -> io::Result<FindingStatus> {
+fn write_failing_write(rt: &HostRuntime, tree: &str, call: u64) -> io::Result<NamesStatus> {
     let alloc = rt.alloc();
     let mut source = SureSource::new(Vec::from_slice(alloc, tree.as_bytes())?);
     let mut out = MemorySink::new(alloc, 7, failing(alloc, call)?);
@@ -39,7 +39,7 @@ fn write_failing_write(rt: &HostRuntime, tree: &str, call: u64) -> io::Result<Fi
 fn write_failing_reads(rt: &HostRuntime, tree: &str) -> io::Result<()> {
     for call in 1..100 {
         println!(rt; "read {call} fails")?;
-        if write_failing_read(rt, tree, call)? != FindingStatus::Read {
+        if write_failing_read(rt, tree, call)? != NamesStatus::Read {
             break;
         }
     }
@@ -50,7 +50,7 @@ fn write_failing_reads(rt: &HostRuntime, tree: &str) -> io::Result<()> {
 fn write_failing_writes(rt: &HostRuntime, tree: &str) -> io::Result<()> {
     for call in 1..100 {
         println!(rt; "write {call} fails")?;
-        if write_failing_write(rt, tree, call)? != FindingStatus::Write {
+        if write_failing_write(rt, tree, call)? != NamesStatus::Write {
             break;
         }
     }

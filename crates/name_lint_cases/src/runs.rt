@@ -1,5 +1,5 @@
 //! A run of the program, and what is told of it.
-use name_lint::{FindingStatus, run_names};
+use name_lint::{NamesStatus, run_names};
 use report_ends::{SureSink, SureSource};
 use std::alloc::AllocError;
 use std::{io, str};
@@ -16,12 +16,7 @@ fn write_held(rt: &HostRuntime, held: &[u8]) -> io::Result<()> {
 }
 
 /// Writes what a run wrote on its two sinks, and its status.
-pub fn write_end(
-    rt: &HostRuntime,
-    status: FindingStatus,
-    out: &[u8],
-    errs: &[u8],
-) -> io::Result<()> {
+pub fn write_end(rt: &HostRuntime, status: NamesStatus, out: &[u8], errs: &[u8]) -> io::Result<()> {
     write_held(rt, out)?;
     write_held(rt, errs)?;
     println!(rt; "status {}", status.code())
