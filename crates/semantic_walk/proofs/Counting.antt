@@ -1,5 +1,5 @@
 -- What a walk over the children of a place asks, one child at a time.
-use Rattle.std.proofs.Common.{◌≡◌, ℕ, ◌+◌, ◌≤◌, List, ◌∷◌, Option, Some, None, cond, ◌&&◌, not, Result, Ok, Err, OnOk, OnErr, refl, sym, ap, ◌∙◌, arith}
+use Rattle.std.proofs.Common.{◌≡◌, ℕ, ◌+◌, ◌≤◌, List, ◌∷◌, Option, Some, None, cond, ◌&&◌, not, Result, Ok, Err, OnOk, refl, sym, ap, ◌∙◌, arith}
 use Rattle.semantic_syntax.specs.Counts.{raised}
 use Rattle.semantic_kinds.specs.declared.kind.AstType.{AstType}
 use Rattle.semantic_kinds.specs.declared.role.Role.{Role}
@@ -124,11 +124,7 @@ module _ (ds : List Declaration) (first : Walker) (p : Place) (own : Option Open
         → last ≤ raised later (probes_of_steps ds past.made (ending_after p child.0 (scope_at p child.0 h.scope h.next) (forest_of rest))) → last ≤ raised before total
     rests_ending past later last k c d = omega (arith, given_up_ending ds p h.scope h.next h.cursor h.start child rest w v past e k now later last c d, h.asks)
 
--- what holds in any case holds of an error
-pub on_err : {T E P : Type 0} (r : Result T E) → P → OnErr r P
-on_err (Ok x) p = tt
-on_err (Err e) p = p
-
+-- what holds in any case holds on a success
 pub on_success : {T E P : Type 0} (r : Result T E) → P → OnOk r P
 on_success (Ok x) p = p
 on_success (Err e) p = tt

@@ -1,5 +1,6 @@
 use Rattle.std.proofs.Common.{◌≡◌, Option, Some, None, true, length, ap, sym, subst, refl, List, ◌∙◌, arith}
 use Rattle.semantic_syntax.specs.Tables.{Tables}
+use Rattle.semantic_syntax.proofs.Results.{on_err}
 use Rattle.semantic_tree.specs.Faults.{first_fault}
 use Rattle.semantic_tree.specs.Tree.{Tree}
 use Rattle.semantic_tree.proofs.ShapedLaws.{IsShaped-no_fault}
@@ -27,7 +28,7 @@ use Rattle.semantic_walk.specs.declared.settings.Settings.{Settings}
 use Rattle.semantic_walk.proofs.Beginning.{walk_comes, walk_ends, walk_leaves, walk_lists, walk_classes, walk_labels, root_within, root_over, root_tables, root_nodes}
 use Rattle.semantic_walk.proofs.Root.{fit_last, shows_last, tells_all}
 use Rattle.semantic_walk.proofs.TurnEnds.{on_ok}
-use Rattle.semantic_walk.proofs.Counting.{on_err, on_success}
+use Rattle.semantic_walk.proofs.Counting.{on_success}
 use Rattle.semantic_walk.proofs.RootCount.{root_counts, root_given_up, end_given_up}
 use Rattle.semantic_walk.proofs.analysis.run.Given as given
 use Rattle.semantic_walk.proofs.analysis.run.Goals as goal

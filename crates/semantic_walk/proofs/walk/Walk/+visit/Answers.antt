@@ -1,6 +1,7 @@
 use Rattle.std.proofs.Common.{◌≡◌, ◌<◌, ℕ, List, [], ◌∷◌, false, Option, None, refl, ap, sym, subst, ◌∙◌, length, arith}
 use Rattle.semantic_kinds.specs.declared.role.Role.{Role}
 use Rattle.semantic_kinds.specs.declared.kind.AstType.{AstType}
+use Rattle.semantic_syntax.proofs.Results.{on_err}
 use Rattle.semantic_tree.specs.Forest.{Forest, nothing, count}
 use Rattle.semantic_tree.specs.Children.{forest_of}
 use Rattle.semantic_tree.specs.declared.node.Node.{Node}
@@ -20,7 +21,7 @@ use Rattle.table_building.proofs.Growing.{goes-refl, grows-trans}
 use Rattle.semantic_walk.proofs.TurnEnds.{on_ok}
 use Rattle.semantic_walk.proofs.Visiting.{Rests, rests_first, rests_past, walked, left_is, place_of, comes_to_child, holds_past, behind_child}
 use Rattle.semantic_walk.proofs.RoomAt.{may_enter, opens_for, opens_last}
-use Rattle.semantic_walk.proofs.Counting.{left_past, rests_so_far, rests_end, rests_child, rests_ending, on_err, on_success}
+use Rattle.semantic_walk.proofs.Counting.{left_past, rests_so_far, rests_end, rests_child, rests_ending, on_success}
 use Rattle.semantic_walk.proofs.Leaves.{leaves, shows_rows}
 use Rattle.semantic_walk.proofs.Passing.{no_children, walks_alone, leaves_alone, asks_alone, rests_passed}
 use Rattle.semantic_walk.proofs.walk.Walk.+visit.Goals as goal

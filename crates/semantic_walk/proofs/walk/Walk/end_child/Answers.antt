@@ -1,7 +1,8 @@
 use Rattle.std.proofs.Common.{◌≤◌, ap, subst, ◌∙◌}
 use Rattle.semantic_syntax.specs.Counts.{raised}
+use Rattle.semantic_syntax.proofs.Results.{on_err}
 use Rattle.semantic_tree.specs.Children.{forest_of}
-use Rattle.semantic_walk.proofs.Counting.{asked_some, on_err}
+use Rattle.semantic_walk.proofs.Counting.{asked_some}
 use Rattle.semantic_walk.proofs.TurnEnds.{ended_some}
 use Rattle.semantic_walk.proofs.walk.Walk.end_child.Goals as goal
 
