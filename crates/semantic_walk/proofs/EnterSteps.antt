@@ -37,7 +37,7 @@ noting_alone [] here x = refl
 noting_alone (parent ∷ path) here x = refl
 
 -- what is no call calls nothing by its name
-no_eval : (node : Node) → same_kind node.kind kind.CallExpression ≡ false → is_direct_eval node ≡ false
+pub no_eval : (node : Node) → same_kind node.kind kind.CallExpression ≡ false → is_direct_eval node ≡ false
 no_eval node h =
     ap (λ b. b && not (has mark.Optional node) && holds (λ callee. is kind.IdentifierReference (inner_expression callee) && has_text (codes "eval") (inner_expression callee)) (child_of role.Callee node)) h
 

@@ -27,7 +27,7 @@ use Rattle.walk_model.specs.Waits.{start_at}
 use Rattle.walk_model.specs.Walks.{after_all}
 use Rattle.walk_notes.specs.NoteLists.{is_noted, is_noted_behind}
 use Rattle.semantic_walk.specs.AtPlace.{IsTurnAt, IsBetweenAt}
-use Rattle.semantic_walk.specs.EvenKinds.{acts_on_entering, acts_between, is_quiet, stands_alike}
+use Rattle.semantic_walk.specs.EvenKinds.{acts_on_entering, acts_between, is_quiet, is_passing, stands_alike}
 use Rattle.semantic_walk.specs.Walker.{Walker}
 use Rattle.semantic_walk.specs.declared.visit.Turn.{Turn}
 
@@ -99,6 +99,15 @@ module _ (k : AstType) (quiet : is_quiet k ≡ true) where
 
   pub quiet_cursor : (cursor : ℕ) → on_leaving k (on_entering k cursor) ≡ cursor
   quiet_cursor cursor = where_true (is_quiet k) (on_leaving k (on_entering k cursor)) cursor cursor (cursor_quiet k cursor) quiet
+
+-- nothing acts between the children of what is passed over
+
+between_passing : (k : AstType) → cond (is_passing k) (acts_between k) false ≡ false
+between_passing kind.IdentifierReference = refl
+between_passing _ = refl
+
+pub passing_between : (k : AstType) → is_passing k ≡ true → acts_between k ≡ false
+passing_between k passing = where_true (is_passing k) (acts_between k) false false (between_passing k) passing
 
 -- and where nothing acts round a child
 

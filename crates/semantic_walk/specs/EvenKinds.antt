@@ -1,5 +1,6 @@
 -- Nodes where nothing happens, by their kinds.
 use Rattle.std.specs.Prelude.{Bool, true, false, ◌&&◌, ◌||◌, not}
+use Rattle.semantic_kinds.specs.Kinds.{same_kind}
 use Rattle.semantic_kinds.specs.Roles.{same_role}
 use Rattle.semantic_kinds.specs.declared.kind.AstType.{AstType}
 use Rattle.semantic_kinds.specs.declared.kind.AstType.TheVariants as kind
@@ -85,6 +86,10 @@ is_quiet kind.Directive = true
 is_quiet kind.EmptyStatement = true
 is_quiet kind.DebuggerStatement = true
 is_quiet _ = false
+
+-- whether the walk may go past a leaf of the kind without visiting it: nothing happens at it, or it refers to a name and does no more
+abbrev pub is_passing : AstType → Bool
+is_passing k = is_quiet k || same_kind k kind.IdentifierReference
 
 -- whether a node with these children has none
 abbrev pub is_leaf : Forest → Bool

@@ -1,13 +1,15 @@
 -- Where a walk stands between two children of a node.
 use Rattle.std.specs.Prelude.{ℕ, ◌<◌, ◌≤◌, Bool, true, ◌&&◌, not, cond, Option, Some, is_some, length, unwrap_or, IfSome}
 use Rattle.semantic_kinds.specs.declared.kind.AstType.{AstType}
+use Rattle.semantic_kinds.specs.declared.kind.AstType.TheVariants as kind
 use Rattle.semantic_kinds.specs.declared.role.Role.{Role}
 use Rattle.semantic_syntax.specs.Tables.{Tables}
 use Rattle.semantic_syntax.specs.Reading.{scope_of}
 use Rattle.semantic_model.specs.Inside.{is_inside, is_parameter_decorator}
 use Rattle.semantic_tree.specs.declared.node.Node.{Node}
-use Rattle.semantic_walk.specs.EvenKinds.{is_quiet, is_leaf, stands_alike}
-use Rattle.semantic_walk.specs.Walker.{Walker}
+use Rattle.semantic_tree.specs.Views.{is}
+use Rattle.semantic_walk.specs.EvenKinds.{is_passing, is_leaf, stands_alike}
+use Rattle.semantic_walk.specs.Walker.{Walker, referring}
 use Rattle.semantic_walk.specs.declared.visit.Turn.{Turn}
 use Rattle.walk_model.specs.WalkState.{WalkState}
 
@@ -27,6 +29,10 @@ abbrev pub child_scope : Tables → Turn → AstType → Role → ℕ
 child_scope t turn k r =
     cond (is_parameter_decorator k r) (unwrap_or (scope_of t turn.outer).parent turn.outer) (own_or (is_inside k r) turn.own turn.outer)
 
--- whether a child is passed over: a leaf where nothing happens, which stands as its parent does, where no early error is told and no node is kept
+-- whether a child is passed over: a leaf of such a kind, which stands as its parent does, where no early error is told and no node is kept
 abbrev pub is_passed : Walker → Turn → Node → Role → Node → Bool
-is_passed w turn parent r child = not w.checks && stands_alike turn.acts parent r && is_quiet child.kind && is_leaf child.children && not (is_some w.nodes)
+is_passed w turn parent r child = not w.checks && stands_alike turn.acts parent r && is_passing child.kind && is_leaf child.children && not (is_some w.nodes)
+
+-- the walk is past a leaf that is passed over: a reference waits, and has used the cursor up
+abbrev pub past_leaf : Walker → Node → Walker
+past_leaf w leaf = cond (is kind.IdentifierReference leaf) (record (referring w leaf) { cursor = 0 }) w

@@ -1,7 +1,7 @@
 //! Nodes where nothing happens, by their kinds: most nodes only carry what is below them.
 
 ghost use Rattle.std.specs.Prelude.{◌≡◌};
-ghost use Rattle.semantic_walk.specs.EvenKinds.{acts_on_entering, turns_between, acts_between, is_quiet, is_leaf, stands_alike};
+ghost use Rattle.semantic_walk.specs.EvenKinds.{acts_on_entering, turns_between, acts_between, is_quiet, is_passing, is_leaf, stands_alike};
 
 use node_rules::inside::opens;
 use semantic_tree::{AstKind, AstType, Mark, Role};
@@ -86,7 +86,7 @@ pub(crate) fn acts_between(kind: AstType) -> bool
 /// Whether nothing happens at a node of the kind itself: it has no scope, nothing is made or noted on entering and
 /// leaving it, and the cursor is the same behind it.
 #[inline(always)]
-pub(crate) fn is_quiet(kind: AstType) -> bool
+fn is_quiet(kind: AstType) -> bool
     ensures { result ≡ is_quiet kind }
 {
     matches!(
@@ -107,6 +107,15 @@ pub(crate) fn is_quiet(kind: AstType) -> bool
             | AstType::EmptyStatement
             | AstType::DebuggerStatement
     )
+}
+
+/// Whether the walk may go past a leaf of the kind without visiting it: nothing happens at it, or it refers to a name and
+/// does no more.
+#[inline(always)]
+pub(crate) fn is_passing(kind: AstType) -> bool
+    ensures { result ≡ is_passing kind }
+{
+    is_quiet(kind) || kind == AstType::IdentifierReference
 }
 
 /// Whether the node has no children.

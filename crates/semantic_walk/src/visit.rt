@@ -24,12 +24,13 @@ ghost use Rattle.semantic_syntax.specs.Told.{source_of};
 ghost use Rattle.count_model.specs.Probes.{probes_of_steps};
 ghost use Rattle.table_building.specs.Settled.{settled_from, probes_from};
 ghost use Rattle.semantic_walk.specs.EvenKinds.{acts_between};
-ghost use Rattle.semantic_walk.specs.Turns.{IsTurn, child_scope, is_passed};
+ghost use Rattle.semantic_walk.specs.Turns.{IsTurn, child_scope, is_passed, past_leaf};
+ghost use Rattle.semantic_walk.specs.Walker.{referring};
 ghost use Rattle.semantic_walk.specs.AtPlace.{IsWithin, IsTurnAt, IsBetweenAt, IsComing, IsSomewhere, walked_within, probes_over};
 ghost use Rattle.semantic_walk.specs.Ids.{MayOpen};
 ghost use Rattle.semantic_walk.specs.Leaving.{IsLeaving};
 
-use crate::even::{acts_between, is_leaf, is_quiet, stands_alike};
+use crate::even::{acts_between, is_leaf, is_passing, stands_alike};
 use crate::walk::Walk;
 use node_rules::ambient::{is_ambient_in_child, is_ambient_inside};
 use node_rules::cursor::{before_child, behind_child};
@@ -404,17 +405,41 @@ impl<'a> Walk<'a> {
         }
     }
 
-    /// Whether the child is passed over: to enter it and to leave it would make, note and tell nothing, and leave no trace
-    /// of it.
+    /// Whether the child is passed over, a leaf that needs no visit: to enter it and to leave it would tell nothing, leave
+    /// no trace of it, and make and note nothing but a reference.
     #[inline(always)]
     fn passes(&self, parent: AstKind<'a>, turn: &Turn, role: Role, child: AstKind<'a>) -> bool
         ensures { result ≡ is_passed self.now turn.now parent.entry.node.now role child.entry.node.now }
     {
         !self.checks
             && stands_alike(turn.acts, parent, role)
-            && is_quiet(child.ty())
+            && is_passing(child.ty())
             && is_leaf(child)
             && !self.path.keeps_nodes()
+    }
+
+    /// Notes a reference that is a leaf, as a visit would: it waits in the current scope, and uses the cursor up.
+    fn refer_in_passing(&mut self, child: AstKind<'a>) -> Result<(), AllocError>
+        requires { length self.old.made.tables.references < u32.MAX }
+        ensures made { OnOk result (self.new ≡ record (referring self.old child.entry.node.now) { cursor = 0 }) }
+        ensures goes { OnOk result (Goes self.old.made self.new.made) }
+    {
+        self.refer(child)?;
+        self.current_reference_flags = ReferenceFlags::empty();
+        Ok(())
+    }
+
+    /// Goes past a child that is passed over, and notes it where it is a reference.
+    #[inline(always)]
+    fn pass(&mut self, child: AstKind<'a>) -> Result<(), AllocError>
+        requires { length self.old.made.tables.references < u32.MAX }
+        ensures made { OnOk result (self.new ≡ past_leaf self.old child.entry.node.now) }
+        ensures goes { OnOk result (Goes self.old.made self.new.made) }
+    {
+        match child.ty() {
+            AstType::IdentifierReference => self.refer_in_passing(child),
+            _ => Ok(()),
+        }
     }
 
     /// Walks over a node in its role and all that is below it, and stands at the node then: who visits it leaves it.
@@ -446,6 +471,7 @@ impl<'a> Walk<'a> {
         while let Some(((child_role, child), rest)) = left.split_first() {
             let child = AstKind::new(child);
             if self.passes(kind, &turn, *child_role, child) {
+                self.pass(child)?;
                 left = rest;
                 continue;
             }

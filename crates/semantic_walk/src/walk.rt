@@ -280,7 +280,7 @@ impl<'a> Walk<'a> {
     }
 
     /// Notes a reference, which waits in the current scope.
-    fn refer(&mut self, kind: AstKind<'a>) -> Result<(), AllocError>
+    pub(crate) fn refer(&mut self, kind: AstKind<'a>) -> Result<(), AllocError>
         requires { length self.old.made.tables.references < u32.MAX }
         ensures made { OnOk result (self.new ≡ referring self.old kind.entry.node.now) }
         ensures goes { OnOk result (Goes self.old.made self.new.made) }

@@ -17,7 +17,8 @@ use Rattle.semantic_walk.specs.EvenKinds.{acts_between}
 use Rattle.semantic_walk.specs.Turns.{is_passed}
 use Rattle.semantic_walk.specs.Leaving.{IsLeaving}
 use Rattle.semantic_walk.specs.declared.visit.Turn.{Turn}
-use Rattle.table_building.proofs.Growing.{goes-refl, grows-trans}
+use Rattle.table_building.proofs.Growing.{goes-refl, goes-trans, grows-trans}
+use Rattle.semantic_walk.proofs.Going.{turn-goes}
 use Rattle.semantic_walk.proofs.TurnEnds.{on_ok}
 use Rattle.semantic_walk.proofs.Visiting.{Rests, rests_first, rests_past, walked, left_is, place_of, comes_to_child, holds_past, behind_child}
 use Rattle.semantic_walk.proofs.RoomAt.{may_enter, opens_for, opens_last}
@@ -96,16 +97,30 @@ loop-child_role-preserved-then-passes g t c =
     let split : c.loop-child_role.left.now ≡ child ∷ rest = c.in-Some.ensures.cases.0 ∙ ap (λ (x : Node). (c.in-Some.field-0-0.now.0, x) ∷ rest) (sym c.new-child.ensures) in
     record {
       left = omega (arith, c.loop-child_role.invariant.left, ap (λ (xs : List (Role × Node)). count (forest_of xs)) split);
-      turn = c.loop-child_role.invariant.turn;
-      goes = c.loop-child_role.invariant.goes;
+      turn = turn-goes w.made c.pass.new.self.made c.loop-child_role.turn c.in_ok-pass.ensures.goes c.loop-child_role.invariant.turn;
+      goes = goes-trans c.enter.new.self.made w.made c.pass.new.self.made c.loop-child_role.invariant.goes c.in_ok-pass.ensures.goes;
       start = c.loop-child_role.invariant.start;
       risen = c.loop-child_role.invariant.risen;
       rests = λ ds p own n node role coming.
           let h : Rests ds c.args.self.now p own n c.args.steps.now c.loop-child_role.steps w c.loop-child_role.turn (forest_of (child ∷ rest)) =
           subst (λ (xs : List (Role × Node)). Rests ds c.args.self.now p own n c.args.steps.now c.loop-child_role.steps w c.loop-child_role.turn (forest_of xs)) split (c.loop-child_role.invariant.rests ds p own n node role coming) in
-          rests_passed ds c.args.self.now p own n child rest w c.loop-child_role.turn c.args.steps.now c.loop-child_role.steps h
-          (ap (λ (x : Node). is_passed w c.loop-child_role.turn x child.0 child.1) node ∙ sym {b = is_passed w c.loop-child_role.turn c.args.kind.node.now child.0 child.1} c.passes.ensures ∙ c.if-passes.true);
+          rests_passed ds c.args.self.now p own n child rest w c.pass.new.self c.loop-child_role.turn c.args.steps.now c.loop-child_role.steps h
+          (ap (λ (x : Node). is_passed w c.loop-child_role.turn x child.0 child.1) node ∙ sym {b = is_passed w c.loop-child_role.turn c.args.kind.node.now child.0 child.1} c.passes.ensures ∙ c.if-passes.true)
+          c.in_ok-pass.ensures.made;
     }
+
+-- there is an id for a reference among the children that are left
+pub pass-requires : goal.pass-requires
+pass-requires g t c =
+    let r : IsSomewhere c.args.self.now c.args.kind.node.now c.args.role = c.requires in
+    let h : Rests r.ds c.args.self.now r.place r.own r.next c.args.steps.now c.loop-child_role.steps c.loop-child_role.self c.loop-child_role.turn (forest_of c.loop-child_role.left.now) =
+    c.loop-child_role.invariant.rests r.ds r.place r.own r.next r.node_is r.role_is r.coming in
+    omega (arith, h.between.room.references)
+
+pub returns-in_err-pass-clause-given_up : goal.returns-in_err-pass-clause-given_up
+returns-in_err-pass-clause-given_up g t c = λ ds p own n node role coming.
+    on_err c.from_residual-in_err-pass.result
+    (rests_so_far ds c.args.self.now p own n c.args.steps.now c.loop-child_role.steps c.loop-child_role.self c.loop-child_role.turn (forest_of c.loop-child_role.left.now) (c.loop-child_role.invariant.rests ds p own n node role coming))
 
 -- there are ids for what is entered
 pub enter-requires : goal.enter-requires
