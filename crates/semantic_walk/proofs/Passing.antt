@@ -142,37 +142,37 @@ module _ (ds : List Declaration) (w : Walker) (p : Place) (n : ℕ) (coming : Is
       by false e = walks_nowhere (sym (or_false (is_quiet p.node.kind)) ∙ ap (λ b. is_quiet p.node.kind || b) (sym e) ∙ passing)
 
 -- what is known of a child that is passed over
-record Passed (w : Walker) (turn : Turn) (parent : Node) (r : Role) (child : Node) : Type 0 where
+record Passed (w : Walker) (alike : Bool) (child : Node) : Type 0 where
+  stays : alike ≡ true
   off : w.checks ≡ false
-  alike : stands_alike turn.acts parent r ≡ true
   passing : is_passing child.kind ≡ true
   leaf : child.children ≡ nothing
   unkept : w.nodes ≡ None
 
-what_passes : (w : Walker) (turn : Turn) (parent : Node) (r : Role) (child : Node) → is_passed w turn parent r child ≡ true → Passed w turn parent r child
-what_passes w turn parent r child h = by w.checks (stands_alike turn.acts parent r) (is_passing child.kind) (is_leaf child.children) w.nodes refl refl refl refl refl h
+what_passes : (w : Walker) (alike : Bool) (child : Node) → is_passed w alike child ≡ true → Passed w alike child
+what_passes w alike child h = by alike w.checks (is_passing child.kind) (is_leaf child.children) w.nodes refl refl refl refl refl h
   where
-    by : (a b c d : Bool) (o : Option Entered) → w.checks ≡ a → stands_alike turn.acts parent r ≡ b → is_passing child.kind ≡ c → is_leaf child.children ≡ d → w.nodes ≡ o → (not a && b && c && d && not (is_some o)) ≡ true → Passed w turn parent r child
-    by false true true true None e f g k l h = record { off = e; alike = f; passing = g; leaf = no_children child.children k; unkept = l }
-    by false true true true (Some x) e f g k l h = absurd cc
-    by false true true false o e f g k l h = absurd cc
-    by false true false d o e f g k l h = absurd cc
-    by false false c d o e f g k l h = absurd cc
-    by true b c d o e f g k l h = absurd cc
+    by : (a b c d : Bool) (o : Option Entered) → alike ≡ a → w.checks ≡ b → is_passing child.kind ≡ c → is_leaf child.children ≡ d → w.nodes ≡ o → (a && not b && c && d && not (is_some o)) ≡ true → Passed w alike child
+    by true false true true None e f g k l h = record { stays = e; off = f; passing = g; leaf = no_children child.children k; unkept = l }
+    by true false true true (Some x) e f g k l h = absurd cc
+    by true false true false o e f g k l h = absurd cc
+    by true false false d o e f g k l h = absurd cc
+    by true true c d o e f g k l h = absurd cc
+    by false b c d o e f g k l h = absurd cc
 
 -- a walk that stands between two children and is past the first has gone over it
 pub rests_passed : (ds : List Declaration) (first : Walker) (p : Place) (own : Option OpenScope) (n : ℕ) (child : Role × Node) (rest : List (Role × Node)) (w past : Walker) (turn : Turn) (before now : ℕ)
-    → Rests ds first p own n before now w turn (forest_of (child ∷ rest)) → is_passed w turn p.node child.0 child.1 ≡ true → past ≡ past_leaf w child.1
+    → Rests ds first p own n before now w turn (forest_of (child ∷ rest)) → is_passed w (stands_alike turn.acts p.node child.0) child.1 ≡ true → past ≡ past_leaf w child.1
     → Rests ds first p own n before now past turn (forest_of rest)
 rests_passed ds first p own n child rest w past turn before now h passed goes =
-    let known : Passed w turn p.node child.0 child.1 = what_passes w turn p.node child.0 child.1 passed in
+    let known : Passed w (stands_alike turn.acts p.node child.0) child.1 = what_passes w (stands_alike turn.acts p.node child.0) child.1 passed in
     let scope : Option OpenScope = scope_at p child.0 h.scope h.next in
     let next : ℕ = next_at p child.0 h.scope h.next in
     let place : Place = place_of p h.scope h.next h.cursor child in
-    let stands = comes_alike ds w turn p h.scope h.next h.cursor h.start (forest_of (child ∷ rest)) p.node child.0 child.1 refl known.alike h.between in
+    let stands = comes_alike ds w turn p h.scope h.next h.cursor h.start (forest_of (child ∷ rest)) p.node child.0 child.1 refl known.stays h.between in
     let comes : IsComing ds w place None next = comes_to_child ds p h.scope h.next h.cursor h.start child rest w w turn h.between h.kept h.ready h.limit stands.0 in
     let over : past ≡ walked_over ds w place None next = goes ∙ sym (walks_past ds w place next comes known.leaf known.off known.unkept known.passing) in
-    let still : turn.acts ≡ false = (are_alike turn.acts p.node child.0 known.alike).0 in
+    let still : turn.acts ≡ false = (are_alike turn.acts p.node child.0 known.stays).0 in
     let even : acts_between p.node.kind ≡ false = sym h.between.stands.acts ∙ still in
     let back : past ≡ record past { current = turn.outer; is_ambient = turn.is_ambient } =
     λ i. record past {

@@ -23,7 +23,7 @@ ghost use Rattle.semantic_syntax.specs.Counts.{raised};
 ghost use Rattle.semantic_syntax.specs.Told.{source_of};
 ghost use Rattle.count_model.specs.Probes.{probes_of_steps};
 ghost use Rattle.table_building.specs.Settled.{settled_from, probes_from};
-ghost use Rattle.semantic_walk.specs.EvenKinds.{acts_between};
+ghost use Rattle.semantic_walk.specs.EvenKinds.{acts_between, stands_alike};
 ghost use Rattle.semantic_walk.specs.Turns.{IsTurn, child_scope, is_passed, past_leaf};
 ghost use Rattle.semantic_walk.specs.Walker.{referring};
 ghost use Rattle.semantic_walk.specs.AtPlace.{IsWithin, IsTurnAt, IsBetweenAt, IsComing, IsSomewhere, walked_within, probes_over};
@@ -186,9 +186,11 @@ impl<'a> Walk<'a> {
         self.is_ambient = is_ambient_in_child(parent.node(), turn.is_ambient, role);
     }
 
-    /// Before a child: the node's scope may open, and the walk stands where the child does.
+    /// Before a child: where it doesn't stand as the node does, the node's scope may open, and the walk comes to where the
+    /// child stands.
     fn begin_child(
         &mut self,
+        alike: bool,
         parent: AstKind<'a>,
         parent_role: Role,
         turn: &mut Turn,
@@ -196,6 +198,7 @@ impl<'a> Walk<'a> {
         child: AstKind<'a>,
     ) -> Result<(), AllocError>
         requires turn { IsTurn self.old.made turn.old }
+        requires alike { alike ≡ stands_alike turn.old.acts parent.node.now role }
         requires ids { turn.old.own ≡ None → is_inside parent.node.now.kind role ≡ true → MayOpen self.old parent.node.now }
         ensures comes { (ds : List Declaration) (p : Place) (own : Option OpenScope) (n cursor start : ℕ) (rest : List (Role × Node)) → p.node ≡ parent.entry.node.now → p.role ≡ parent_role →
             IsBetweenAt ds self.old turn.old p own n cursor start (forest_of ((role, child.entry.node.now) ∷ rest)) →
@@ -210,7 +213,7 @@ impl<'a> Walk<'a> {
         ensures stands { OnOk result (IsTurn self.new.made turn.new) }
         ensures start { OnOk result (turn.old.header_start ≤ turn.new.header_start) }
     {
-        if stands_alike(turn.acts, parent, role) {
+        if alike {
             return Ok(());
         }
         self.open_for(parent, parent_role, turn, role)?;
@@ -408,11 +411,11 @@ impl<'a> Walk<'a> {
     /// Whether the child is passed over, a leaf that needs no visit: to enter it and to leave it would tell nothing, leave
     /// no trace of it, and make and note nothing but a reference.
     #[inline(always)]
-    fn passes(&self, parent: AstKind<'a>, turn: &Turn, role: Role, child: AstKind<'a>) -> bool
-        ensures { result ≡ is_passed self.now turn.now parent.entry.node.now role child.entry.node.now }
+    fn passes(&self, alike: bool, child: AstKind<'a>) -> bool
+        ensures { result ≡ is_passed self.now alike child.entry.node.now }
     {
-        !self.checks
-            && stands_alike(turn.acts, parent, role)
+        alike
+            && !self.checks
             && is_passing(child.ty())
             && is_leaf(child)
             && !self.path.keeps_nodes()
@@ -470,13 +473,14 @@ impl<'a> Walk<'a> {
         let mut left = kind.node().children.as_slice();
         while let Some(((child_role, child), rest)) = left.split_first() {
             let child = AstKind::new(child);
-            if self.passes(kind, &turn, *child_role, child) {
+            let alike = stands_alike(turn.acts, kind, *child_role);
+            if self.passes(alike, child) {
                 self.pass(child)?;
                 left = rest;
                 continue;
             }
             let before = self.current_reference_flags();
-            self.begin_child(kind, role, &mut turn, *child_role, child)?;
+            self.begin_child(alike, kind, role, &mut turn, *child_role, child)?;
             self.visit(child, *child_role, steps)?;
             self.leave(child)?;
             self.finish_child(kind.ty(), &turn, *child_role, before, rest, steps)?;

@@ -13,7 +13,7 @@ use Rattle.walk_model.specs.Waits.{HoldsAt, start_at}
 use Rattle.walk_model.specs.Walks.{after_all}
 use Rattle.semantic_walk.specs.Walker.{Walker}
 use Rattle.semantic_walk.specs.AtPlace.{IsComing, IsSomewhere, left_at, walked_over}
-use Rattle.semantic_walk.specs.EvenKinds.{acts_between}
+use Rattle.semantic_walk.specs.EvenKinds.{acts_between, stands_alike}
 use Rattle.semantic_walk.specs.Turns.{is_passed}
 use Rattle.semantic_walk.specs.Leaving.{IsLeaving}
 use Rattle.semantic_walk.specs.declared.visit.Turn.{Turn}
@@ -105,7 +105,8 @@ loop-child_role-preserved-then-passes g t c =
           let h : Rests ds c.args.self.now p own n c.args.steps.now c.loop-child_role.steps w c.loop-child_role.turn (forest_of (child ∷ rest)) =
           subst (λ (xs : List (Role × Node)). Rests ds c.args.self.now p own n c.args.steps.now c.loop-child_role.steps w c.loop-child_role.turn (forest_of xs)) split (c.loop-child_role.invariant.rests ds p own n node role coming) in
           rests_passed ds c.args.self.now p own n child rest w c.pass.new.self c.loop-child_role.turn c.args.steps.now c.loop-child_role.steps h
-          (ap (λ (x : Node). is_passed w c.loop-child_role.turn x child.0 child.1) node ∙ sym {b = is_passed w c.loop-child_role.turn c.args.kind.node.now child.0 child.1} c.passes.ensures ∙ c.if-passes.true)
+          (ap (λ (x : Node). is_passed w (stands_alike c.loop-child_role.turn.acts x child.0) child.1) node
+          ∙ ap (λ b. is_passed w b child.1) (sym {b = stands_alike c.loop-child_role.turn.acts c.args.kind.node.now child.0} c.stands_alike-alike.ensures) ∙ sym {b = is_passed w c.stands_alike-alike.result child.1} c.passes.ensures ∙ c.if-passes.true)
           c.in_ok-pass.ensures.made;
     }
 

@@ -9,7 +9,7 @@ returns-clause-comes c = λ ds p own n cursor start rest node role between.
     let opens = c.in_ok-open_for.ensures.opens ds p own n cursor start (forest_of ((c.args.role, c.args.child.node.now) ∷ rest)) node role between in
     (stands_at_child ds p own n cursor start (c.args.role, c.args.child.node.now) rest c.args.parent.node.now c.args.self.now c.open_for.new.self c.stand_at_child.new.self c.args.turn.now c.open_for.new.turn node between opens.0 opens.1 c.stand_at_child.ensures.made, opens.1)
 
-pub returns-then-stands_alike-clause-comes : goal.returns-then-stands_alike-clause-comes
-returns-then-stands_alike-clause-comes c = λ ds p own n cursor start rest node role between.
+pub returns-then-alike-clause-comes : goal.returns-then-alike-clause-comes
+returns-then-alike-clause-comes c = λ ds p own n cursor start rest node role between.
     comes_alike ds c.args.self.now c.args.turn.now p own n cursor start (forest_of ((c.args.role, c.args.child.node.now) ∷ rest)) c.args.parent.node.now c.args.role c.args.child.node.now
-    node (sym c.stands_alike.ensures ∙ c.if-stands_alike.true) between
+    node (sym c.requires.alike ∙ c.if-alike.true) between
