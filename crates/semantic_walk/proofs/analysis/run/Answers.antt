@@ -1,8 +1,10 @@
 use Rattle.std.proofs.Common.{◌≡◌, Option, Some, None, true, length, ap, sym, subst, refl, List, ◌∙◌, arith}
+use Rattle.semantic_syntax.specs.Counts.{raised}
 use Rattle.semantic_syntax.specs.Tables.{Tables}
 use Rattle.semantic_syntax.proofs.Results.{on_err}
 use Rattle.semantic_tree.specs.Faults.{first_fault}
-use Rattle.semantic_tree.specs.Tree.{Tree}
+use Rattle.semantic_tree.specs.Shaped.{IsShaped}
+use Rattle.semantic_tree.specs.Tree.{Tree, IsNumbered}
 use Rattle.semantic_tree.proofs.ShapedLaws.{IsShaped-no_fault}
 use Rattle.semantic_model.specs.Declaration.{Declaration}
 use Rattle.semantic_model.specs.Event.{written_declarations}
@@ -29,81 +31,84 @@ use Rattle.semantic_walk.proofs.Beginning.{walk_comes, walk_ends, walk_leaves, w
 use Rattle.semantic_walk.proofs.Root.{fit_last, shows_last, tells_all}
 use Rattle.semantic_walk.proofs.TurnEnds.{on_ok}
 use Rattle.semantic_walk.proofs.Counting.{on_success}
-use Rattle.semantic_walk.proofs.RootCount.{root_counts, root_given_up, end_given_up}
+use Rattle.semantic_walk.proofs.RootCount.{root_over_asks, root_counts, root_given_up, end_given_up}
 use Rattle.semantic_walk.proofs.analysis.run.Given as given
 use Rattle.semantic_walk.proofs.analysis.run.Goals as goal
 
--- the walk, which has room now, has made no more
-has_room : (settings : Settings) (w v : Walker) (program : Tree) → IsBegun settings w program → v ≡ w → IsBegun settings v program
-has_room settings w v program h room = subst (λ (u : Walker). IsBegun settings u program) (sym room) h
+-- what the steps of a program may name, and the scope of its root
+abbrev names_of : Tree → List Declaration
+names_of program = written_declarations (steps program)
+
+abbrev root_own : Tree → Option OpenScope
+root_own program = Some (root_scope (root_place program))
+
+-- the walk begins at the root of a program without a fault
+record Start (settings : Settings) (w : Walker) (program : Tree) : Type 0 where
+  fits : first_fault program ≡ None
+  begins : IsBegun settings w program
+  coming : IsComing (names_of program) w (root_place program) (root_own program) 1
+
+-- so it does once it has room, which makes no more
+starts : (settings : Settings) (w v : Walker) (program : Tree) → IsShaped program → IsNumbered program.root → IsBegun settings w program → v ≡ w → Start settings v program
+starts settings w v program shaped numbered h room =
+    let begins : IsBegun settings v program = subst (λ (u : Walker). IsBegun settings u program) (sym room) h in
+    record { fits = IsShaped-no_fault program shaped; begins = begins; coming = walk_comes program shaped numbered settings v begins }
 
 -- the root is a node of the program
 pub visit-requires : goal.visit-requires
 visit-requires g c =
     let program : Tree = c.args.program.now in
-    let b : IsBegun c.args.settings c.reserve.new.self program = has_room c.args.settings c.args.walk.now c.reserve.new.self program c.requires c.reserve.ensures in
+    let start = starts c.args.settings c.args.walk.now c.reserve.new.self program c.root-root.ensures.shaped c.root-root.ensures.numbered c.requires c.reserve.ensures in
     record {
-      ds = written_declarations (steps program);
+      ds = names_of program;
       place = root_place program;
-      own = Some (root_scope (root_place program));
+      own = root_own program;
       next = 1;
       node_is = sym c.root-root.ensures.root;
       role_is = refl;
-      coming = walk_comes program c.root-root.ensures.shaped c.root-root.ensures.numbered c.args.settings c.reserve.new.self b;
+      coming = start.coming;
     }
 
 -- and may be checked in the end
 pub leave-requires : goal.leave-requires
 leave-requires g c =
     let program : Tree = c.args.program.now in
-    let ds : List Declaration = written_declarations (steps program) in
-    let p : Place = root_place program in
-    let own : Option OpenScope = Some (root_scope p) in
-    let b : IsBegun c.args.settings c.reserve.new.self program = has_room c.args.settings c.args.walk.now c.reserve.new.self program c.requires c.reserve.ensures in
-    let coming : IsComing ds c.reserve.new.self p own 1 = walk_comes program c.root-root.ensures.shaped c.root-root.ensures.numbered c.args.settings c.reserve.new.self b in
+    let start = starts c.args.settings c.args.walk.now c.reserve.new.self program c.root-root.ensures.shaped c.root-root.ensures.numbered c.requires c.reserve.ensures in
     subst (λ (x : Node). c.end.new.self.checks ≡ true → IsFit c.end.new.self x) (sym c.root-root.ensures.root)
-    (fit_last program (IsShaped-no_fault program c.root-root.ensures.shaped) c.root-root.ensures.numbered c.args.settings c.reserve.new.self c.visit.new.self c.end.new.self b
-    (c.in_ok-visit.ensures.walks ds p own 1 (sym c.root-root.ensures.root) refl coming) c.in_ok-end.ensures.made
-    (c.in_ok-visit.ensures.leaves ds p own 1 (sym c.root-root.ensures.root) refl coming))
+    (fit_last program start.fits c.root-root.ensures.numbered c.args.settings c.reserve.new.self c.visit.new.self c.end.new.self start.begins
+    (c.in_ok-visit.ensures.walks (names_of program) (root_place program) (root_own program) 1 (sym c.root-root.ensures.root) refl start.coming) c.in_ok-end.ensures.made
+    (c.in_ok-visit.ensures.leaves (names_of program) (root_place program) (root_own program) 1 (sym c.root-root.ensures.root) refl start.coming))
 
 module _ (g : given.Over) (c : goal.After-tell_rest g) where
   abbrev program : Tree
   program = c.args.program.now
 
-  abbrev ds : List Declaration
-  ds = written_declarations (steps program)
-
   abbrev place : Place
   place = root_place program
 
-  abbrev own : Option OpenScope
-  own = Some (root_scope place)
-
-  fits : first_fault program ≡ None
-  fits = IsShaped-no_fault program c.root-root.ensures.shaped
-
-  begins : IsBegun c.args.settings c.reserve.new.self program
-  begins = has_room c.args.settings c.args.walk.now c.reserve.new.self program c.requires c.reserve.ensures
-
-  coming : IsComing ds c.reserve.new.self place own 1
-  coming = walk_comes program c.root-root.ensures.shaped c.root-root.ensures.numbered c.args.settings c.reserve.new.self begins
+  start : Start c.args.settings c.reserve.new.self program
+  start = starts c.args.settings c.args.walk.now c.reserve.new.self program c.root-root.ensures.shaped c.root-root.ensures.numbered c.requires c.reserve.ensures
 
   -- the walk goes over the whole program
   within : c.visit.new.self ≡ root_within program c.reserve.new.self
-  within = c.in_ok-visit.ensures.walks ds place own 1 (sym c.root-root.ensures.root) refl coming
+  within = c.in_ok-visit.ensures.walks (names_of program) place (root_own program) 1 (sym c.root-root.ensures.root) refl start.coming
+
+  -- and asks what its steps do
+  asked : c.visit.new.steps ≡ raised c.args.steps.now (root_over_asks program c.reserve.new.self)
+  asked = c.in_ok-visit.ensures.cost (names_of program) place (root_own program) 1 (sym c.root-root.ensures.root) refl start.coming
 
   -- what it has made is what its definition says
   whole : c.end.new.self.made ≡ walked program
-  whole = walk_ends program fits c.args.settings c.reserve.new.self c.visit.new.self c.end.new.self begins within c.in_ok-end.ensures.made
+  whole = walk_ends program start.fits c.args.settings c.reserve.new.self c.visit.new.self c.end.new.self start.begins within c.in_ok-end.ensures.made
 
   left : c.leave.new.self ≡ left_at c.end.new.self place
   left = c.in_ok-leave.ensures.made place (sym c.root-root.ensures.root)
-      (shows_last program fits c.root-root.ensures.numbered c.args.settings c.reserve.new.self c.visit.new.self c.end.new.self begins within c.in_ok-end.ensures.made
-      (c.in_ok-visit.ensures.leaves ds place own 1 (sym c.root-root.ensures.root) refl coming))
+      (shows_last program start.fits c.root-root.ensures.numbered c.args.settings c.reserve.new.self c.visit.new.self c.end.new.self start.begins within c.in_ok-end.ensures.made
+      (c.in_ok-visit.ensures.leaves (names_of program) place (root_own program) 1 (sym c.root-root.ensures.root) refl start.coming))
 
   -- so is what it tells
   said : so_far (telling_of c.leave.new.self) ≡ diagnostics_of c.args.settings.checks program
-  said = tells_all program fits c.root-root.ensures.numbered c.args.settings c.reserve.new.self c.visit.new.self c.end.new.self begins within c.in_ok-end.ensures.made c.leave.new.self left
+  said = tells_all program start.fits c.root-root.ensures.numbered c.args.settings c.reserve.new.self c.visit.new.self c.end.new.self start.begins within c.in_ok-end.ensures.made c.leave.new.self left
 
   abbrev Told : Type 0
   Told = c.tell_rest.new.self ≡ record c.leave.new.self { said = so_far (telling_of c.leave.new.self); counted = length c.leave.new.self.made.conflicts }
@@ -112,7 +117,7 @@ module _ (g : given.Over) (c : goal.After-tell_rest g) where
   made_is told = ap (λ (w : Walker). w.made) told ∙ ap (λ (w : Walker). w.made) left ∙ whole
 
   over : (c.leave.new.self.nodes ≡ (root_over program c.reserve.new.self).nodes) × (c.leave.new.self.notes ≡ (root_over program c.reserve.new.self).notes)
-  over = walk_leaves program c.reserve.new.self c.visit.new.self c.end.new.self c.leave.new.self coming within c.in_ok-end.ensures.made left
+  over = walk_leaves program c.reserve.new.self c.visit.new.self c.end.new.self c.leave.new.self start.coming within c.in_ok-end.ensures.made left
 
   notes_are : Told → c.tell_rest.new.self.notes ≡ (root_over program c.reserve.new.self).notes
   notes_are told = ap (λ (w : Walker). w.notes) told ∙ over.1
@@ -121,83 +126,62 @@ module _ (g : given.Over) (c : goal.After-tell_rest g) where
   analysed : (t : Tables) → t ≡ tables_of program → (diagnostics : List Diagnostic) → diagnostics ≡ diagnostics_of c.args.settings.checks program → IsAnalysis c.args.settings.checks program t diagnostics
   analysed t e diagnostics d = record {
     tables = e;
-    fits = subst (FitsProgram program) (sym e) (tables_fit program fits);
-    uses = subst UsesAreTies (sym e) (uses_are_ties program (tables_fit program fits).references_stand_once);
-    lists = subst StandsInOneList (sym e) (one_list program (tables_fit program fits).references_stand_once);
-    bindings = subst BindingsAreSymbols (sym e) (bindings_owned program (has_form program fits));
+    fits = subst (FitsProgram program) (sym e) (tables_fit program start.fits);
+    uses = subst UsesAreTies (sym e) (uses_are_ties program (tables_fit program start.fits).references_stand_once);
+    lists = subst StandsInOneList (sym e) (one_list program (tables_fit program start.fits).references_stand_once);
+    bindings = subst BindingsAreSymbols (sym e) (bindings_owned program (has_form program start.fits));
     redeclarations = subst ListsBeginWithOwn (sym e) (lists_begin program);
     told_of = d;
   }
 
 pub returns-clause-analysis : goal.returns-clause-analysis
 returns-clause-analysis g c = on_ok c.tell_rest.result c.tell_rest.ensures (λ told.
-    analysed g c c.tell_rest.new.self.made.tables (root_tables c.args.program.now (fits g c) c.tell_rest.new.self.made (made_is g c told))
+    analysed g c c.tell_rest.new.self.made.tables (root_tables c.args.program.now (start g c).fits c.tell_rest.new.self.made (made_is g c told))
     c.tell_rest.new.self.said (ap (λ (w : Walker). w.said) told ∙ said g c))
 
 pub returns-clause-nodes : goal.returns-clause-nodes
-returns-clause-nodes g c = on_ok c.tell_rest.result c.tell_rest.ensures (λ told. root_nodes c.args.program.now (fits g c) c.root-root.ensures.numbered c.tell_rest.new.self.made (made_is g c told))
+returns-clause-nodes g c = on_ok c.tell_rest.result c.tell_rest.ensures (λ told. root_nodes c.args.program.now (start g c).fits c.root-root.ensures.numbered c.tell_rest.new.self.made (made_is g c told))
 
 pub returns-clause-node_list : goal.returns-clause-node_list
 returns-clause-node_list g c = on_ok c.tell_rest.result c.tell_rest.ensures (λ told.
-    walk_lists c.args.program.now (fits g c) c.args.settings c.reserve.new.self c.tell_rest.new.self (begins g c) (ap (λ (w : Walker). w.nodes) told ∙ (over g c).0))
+    walk_lists c.args.program.now (start g c).fits c.args.settings c.reserve.new.self c.tell_rest.new.self (start g c).begins (ap (λ (w : Walker). w.nodes) told ∙ (over g c).0))
 
 pub returns-clause-classes : goal.returns-clause-classes
-returns-clause-classes g c = on_ok c.tell_rest.result c.tell_rest.ensures (λ told. walk_classes c.args.program.now (fits g c) c.args.settings c.reserve.new.self c.tell_rest.new.self (begins g c) (notes_are g c told))
+returns-clause-classes g c = on_ok c.tell_rest.result c.tell_rest.ensures (λ told. walk_classes c.args.program.now (start g c).fits c.args.settings c.reserve.new.self c.tell_rest.new.self (start g c).begins (notes_are g c told))
 
 pub returns-clause-labels : goal.returns-clause-labels
-returns-clause-labels g c = on_ok c.tell_rest.result c.tell_rest.ensures (λ told. walk_labels c.args.program.now (fits g c) c.args.settings c.reserve.new.self c.tell_rest.new.self (begins g c) (notes_are g c told))
+returns-clause-labels g c = on_ok c.tell_rest.result c.tell_rest.ensures (λ told. walk_labels c.args.program.now (start g c).fits c.args.settings c.reserve.new.self c.tell_rest.new.self (start g c).begins (notes_are g c told))
 
 pub returns-clause-cost : goal.returns-clause-cost
-returns-clause-cost g c =
-    let program : Tree = c.args.program.now in
-    let fits : first_fault program ≡ None = IsShaped-no_fault program c.root-root.ensures.shaped in
-    let b : IsBegun c.args.settings c.reserve.new.self program = has_room c.args.settings c.args.walk.now c.reserve.new.self program c.requires c.reserve.ensures in
-    let coming : IsComing (written_declarations (steps program)) c.reserve.new.self (root_place program) (Some (root_scope (root_place program))) 1 =
-    walk_comes program c.root-root.ensures.shaped c.root-root.ensures.numbered c.args.settings c.reserve.new.self b in
-    on_success c.tell_rest.result
-    (root_counts program fits c.args.settings c.reserve.new.self b c.visit.new.self c.args.steps.now c.visit.new.steps c.end.new.steps (c.in_ok-visit.ensures.walks (written_declarations (steps program)) (root_place program) (Some (root_scope (root_place program))) 1 (sym c.root-root.ensures.root) refl coming)
-    (c.in_ok-visit.ensures.cost (written_declarations (steps program)) (root_place program) (Some (root_scope (root_place program))) 1 (sym c.root-root.ensures.root) refl coming) c.in_ok-end.ensures.cost)
+returns-clause-cost g c = on_success c.tell_rest.result
+    (root_counts c.args.program.now (start g c).fits c.args.settings c.reserve.new.self (start g c).begins c.visit.new.self c.args.steps.now c.visit.new.steps c.end.new.steps (within g c) (asked g c) c.in_ok-end.ensures.cost)
 
 pub returns-clause-given_up : goal.returns-clause-given_up
-returns-clause-given_up g c =
-    let program : Tree = c.args.program.now in
-    let fits : first_fault program ≡ None = IsShaped-no_fault program c.root-root.ensures.shaped in
-    let b : IsBegun c.args.settings c.reserve.new.self program = has_room c.args.settings c.args.walk.now c.reserve.new.self program c.requires c.reserve.ensures in
-    let coming : IsComing (written_declarations (steps program)) c.reserve.new.self (root_place program) (Some (root_scope (root_place program))) 1 =
-    walk_comes program c.root-root.ensures.shaped c.root-root.ensures.numbered c.args.settings c.reserve.new.self b in
-    on_err c.tell_rest.result
-    (end_given_up program fits c.args.settings c.reserve.new.self b c.visit.new.self c.args.steps.now c.visit.new.steps c.end.new.steps (c.in_ok-visit.ensures.walks (written_declarations (steps program)) (root_place program) (Some (root_scope (root_place program))) 1 (sym c.root-root.ensures.root) refl coming)
-    (c.in_ok-visit.ensures.cost (written_declarations (steps program)) (root_place program) (Some (root_scope (root_place program))) 1 (sym c.root-root.ensures.root) refl coming) (omega (arith, c.in_ok-end.ensures.cost)))
+returns-clause-given_up g c = on_err c.tell_rest.result
+    (end_given_up c.args.program.now (start g c).fits c.args.settings c.reserve.new.self (start g c).begins c.visit.new.self c.args.steps.now c.visit.new.steps c.end.new.steps (within g c) (asked g c) (omega (arith, c.in_ok-end.ensures.cost)))
 
 pub returns-in_err-leave-clause-given_up : goal.returns-in_err-leave-clause-given_up
 returns-in_err-leave-clause-given_up g c =
     let program : Tree = c.args.program.now in
-    let fits : first_fault program ≡ None = IsShaped-no_fault program c.root-root.ensures.shaped in
-    let b : IsBegun c.args.settings c.reserve.new.self program = has_room c.args.settings c.args.walk.now c.reserve.new.self program c.requires c.reserve.ensures in
-    let coming : IsComing (written_declarations (steps program)) c.reserve.new.self (root_place program) (Some (root_scope (root_place program))) 1 =
-    walk_comes program c.root-root.ensures.shaped c.root-root.ensures.numbered c.args.settings c.reserve.new.self b in
+    let start = starts c.args.settings c.args.walk.now c.reserve.new.self program c.root-root.ensures.shaped c.root-root.ensures.numbered c.requires c.reserve.ensures in
     on_err c.from_residual-in_err-leave.result
-    (end_given_up program fits c.args.settings c.reserve.new.self b c.visit.new.self c.args.steps.now c.visit.new.steps c.end.new.steps (c.in_ok-visit.ensures.walks (written_declarations (steps program)) (root_place program) (Some (root_scope (root_place program))) 1 (sym c.root-root.ensures.root) refl coming)
-    (c.in_ok-visit.ensures.cost (written_declarations (steps program)) (root_place program) (Some (root_scope (root_place program))) 1 (sym c.root-root.ensures.root) refl coming) (omega (arith, c.in_ok-end.ensures.cost)))
+    (end_given_up program start.fits c.args.settings c.reserve.new.self start.begins c.visit.new.self c.args.steps.now c.visit.new.steps c.end.new.steps
+    (c.in_ok-visit.ensures.walks (names_of program) (root_place program) (root_own program) 1 (sym c.root-root.ensures.root) refl start.coming)
+    (c.in_ok-visit.ensures.cost (names_of program) (root_place program) (root_own program) 1 (sym c.root-root.ensures.root) refl start.coming) (omega (arith, c.in_ok-end.ensures.cost)))
 
 pub returns-in_err-end-clause-given_up : goal.returns-in_err-end-clause-given_up
 returns-in_err-end-clause-given_up g c =
     let program : Tree = c.args.program.now in
-    let fits : first_fault program ≡ None = IsShaped-no_fault program c.root-root.ensures.shaped in
-    let b : IsBegun c.args.settings c.reserve.new.self program = has_room c.args.settings c.args.walk.now c.reserve.new.self program c.requires c.reserve.ensures in
-    let coming : IsComing (written_declarations (steps program)) c.reserve.new.self (root_place program) (Some (root_scope (root_place program))) 1 =
-    walk_comes program c.root-root.ensures.shaped c.root-root.ensures.numbered c.args.settings c.reserve.new.self b in
+    let start = starts c.args.settings c.args.walk.now c.reserve.new.self program c.root-root.ensures.shaped c.root-root.ensures.numbered c.requires c.reserve.ensures in
     on_err c.from_residual-in_err-end.result
-    (end_given_up program fits c.args.settings c.reserve.new.self b c.visit.new.self c.args.steps.now c.visit.new.steps c.end.new.steps (c.in_ok-visit.ensures.walks (written_declarations (steps program)) (root_place program) (Some (root_scope (root_place program))) 1 (sym c.root-root.ensures.root) refl coming)
-    (c.in_ok-visit.ensures.cost (written_declarations (steps program)) (root_place program) (Some (root_scope (root_place program))) 1 (sym c.root-root.ensures.root) refl coming) c.in_err-end.ensures.given_up)
+    (end_given_up program start.fits c.args.settings c.reserve.new.self start.begins c.visit.new.self c.args.steps.now c.visit.new.steps c.end.new.steps
+    (c.in_ok-visit.ensures.walks (names_of program) (root_place program) (root_own program) 1 (sym c.root-root.ensures.root) refl start.coming)
+    (c.in_ok-visit.ensures.cost (names_of program) (root_place program) (root_own program) 1 (sym c.root-root.ensures.root) refl start.coming) c.in_err-end.ensures.given_up)
 
 pub returns-in_err-visit-clause-given_up : goal.returns-in_err-visit-clause-given_up
 returns-in_err-visit-clause-given_up g c =
     let program : Tree = c.args.program.now in
-    let fits : first_fault program ≡ None = IsShaped-no_fault program c.root-root.ensures.shaped in
-    let b : IsBegun c.args.settings c.reserve.new.self program = has_room c.args.settings c.args.walk.now c.reserve.new.self program c.requires c.reserve.ensures in
-    let coming : IsComing (written_declarations (steps program)) c.reserve.new.self (root_place program) (Some (root_scope (root_place program))) 1 =
-    walk_comes program c.root-root.ensures.shaped c.root-root.ensures.numbered c.args.settings c.reserve.new.self b in
+    let start = starts c.args.settings c.args.walk.now c.reserve.new.self program c.root-root.ensures.shaped c.root-root.ensures.numbered c.requires c.reserve.ensures in
     on_err c.from_residual-in_err-visit.result
-    (root_given_up program fits c.args.settings c.reserve.new.self b c.args.steps.now c.visit.new.steps
-    (c.in_err-visit.ensures.given_up (written_declarations (steps program)) (root_place program) (Some (root_scope (root_place program))) 1 (sym c.root-root.ensures.root) refl coming))
+    (root_given_up program start.fits c.args.settings c.reserve.new.self start.begins c.args.steps.now c.visit.new.steps
+    (c.in_err-visit.ensures.given_up (names_of program) (root_place program) (root_own program) 1 (sym c.root-root.ensures.root) refl start.coming))
