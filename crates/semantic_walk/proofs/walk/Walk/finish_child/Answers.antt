@@ -1,9 +1,11 @@
-use Rattle.std.proofs.Common.{◌≡◌, ◌≤◌, List, false, OnOk, OnErr, sym, ap, subst, ◌∙◌}
+use Rattle.std.proofs.Common.{◌≡◌, ◌≤◌, ℕ, List, false, Option, OnOk, OnErr, sym, ap, subst, ◌∙◌}
 use Rattle.std.proofs.lemmas.Result.{on_ok_weaker}
 use Rattle.semantic_syntax.specs.Counts.{raised}
 use Rattle.semantic_tree.specs.Children.{forest_of}
+use Rattle.semantic_model.specs.Place.{Place, OpenScope}
 use Rattle.semantic_model.specs.Step.{Step, ending_after}
 use Rattle.walk_model.specs.WalkState.{WalkState}
+use Rattle.walk_model.specs.Waits.{HoldsAt}
 use Rattle.count_model.specs.Probes.{probes_of_steps}
 use Rattle.count_model.proofs.StepSums.{raised_none}
 use Rattle.semantic_walk.specs.EvenKinds.{acts_between}
@@ -13,31 +15,34 @@ use Rattle.semantic_walk.proofs.EvenNodes.{ends_alike, none_ends}
 use Rattle.semantic_walk.proofs.Visiting.{held_behind, ends_behind}
 use Rattle.semantic_walk.proofs.walk.Walk.finish_child.Goals as goal
 
--- to come back makes nothing
-made_is : (g : given.Over) (c : goal.After-end_child g) → c.turn_cursor.new.self.made ≡ c.args.self.now.made
-made_is g c = ap (λ (w : Walker). w.made) c.turn_cursor.ensures.made ∙ ap (λ (w : Walker). w.made) c.come_back.ensures.made
+module _ (g : given.Over) (c : goal.After-end_child g) where
+  -- to come back makes nothing
+  made_is : c.turn_cursor.new.self.made ≡ c.args.self.now.made
+  made_is = ap (λ (w : Walker). w.made) c.turn_cursor.ensures.made ∙ ap (λ (w : Walker). w.made) c.come_back.ensures.made
+
+  -- so the header is kept
+  held : (p : Place) (own : Option OpenScope) (start : ℕ) → HoldsAt c.args.self.now.made own start → HoldsAt c.turn_cursor.new.self.made own start
+  held p own start holds =
+      held_behind p own start c.args.parent c.args.role c.args.turn.now c.args.before.bits c.args.self.now c.come_back.new.self c.turn_cursor.new.self c.come_back.ensures.made c.turn_cursor.ensures.made holds
 
 pub returns-then-turn-clause-ends : goal.returns-then-turn-clause-ends
 returns-then-turn-clause-ends g c = λ ds p own start kind turn holds.
     on_ok_weaker c.end_child.result
     (λ ended. ends_behind p own start c.args.parent c.args.role c.args.turn.now c.args.before.bits c.args.self.now c.come_back.new.self c.turn_cursor.new.self ds (forest_of c.args.rest.now) c.end_child.new.self turn
     c.come_back.ensures.made c.turn_cursor.ensures.made ended)
-    (c.end_child.ensures.ends ds p own start kind turn
-    (held_behind p own start c.args.parent c.args.role c.args.turn.now c.args.before.bits c.args.self.now c.come_back.new.self c.turn_cursor.new.self c.come_back.ensures.made c.turn_cursor.ensures.made holds))
+    (c.end_child.ensures.ends ds p own start kind turn (held g c p own start holds))
 
 pub returns-then-turn-clause-cost : goal.returns-then-turn-clause-cost
 returns-then-turn-clause-cost g c = λ ds p own start kind turn holds.
     subst (λ (made : WalkState). OnOk c.end_child.result (c.end_child.new.steps ≡ raised c.args.steps.now (probes_of_steps ds made (ending_after p c.args.role own (forest_of c.args.rest.now)))))
     (made_is g c)
-    (c.end_child.ensures.cost ds p own start kind turn
-    (held_behind p own start c.args.parent c.args.role c.args.turn.now c.args.before.bits c.args.self.now c.come_back.new.self c.turn_cursor.new.self c.come_back.ensures.made c.turn_cursor.ensures.made holds))
+    (c.end_child.ensures.cost ds p own start kind turn (held g c p own start holds))
 
 pub returns-then-turn-clause-given_up : goal.returns-then-turn-clause-given_up
 returns-then-turn-clause-given_up g c = λ ds p own start kind turn holds.
     subst (λ (made : WalkState). OnErr c.end_child.result (c.end_child.new.steps ≤ raised c.args.steps.now (probes_of_steps ds made (ending_after p c.args.role own (forest_of c.args.rest.now)))))
     (made_is g c)
-    (c.end_child.ensures.given_up ds p own start kind turn
-    (held_behind p own start c.args.parent c.args.role c.args.turn.now c.args.before.bits c.args.self.now c.come_back.new.self c.turn_cursor.new.self c.come_back.ensures.made c.turn_cursor.ensures.made holds))
+    (c.end_child.ensures.given_up ds p own start kind turn (held g c p own start holds))
 
 -- where nothing acts round a child, the walk has but come back
 pub returns-else-turn-clause-ends : goal.returns-else-turn-clause-ends
