@@ -1,8 +1,9 @@
 """Proves and builds the program or the static library of a crate with `rt`, and says how far it is.
 usage: build_program.py CRATE
 
-The crates that it stands on are proved side by side, lowest first. If nothing of them changed since the last
-build, nothing is done. A build that fails ends with its log, and with status 1."""
+The crates that it stands on are proved lowest first, one at a time, with all processors: rt works in one crate at a time
+of those that share a library, and all share the lowest. If nothing of them changed since the last build, nothing is
+done. A build that fails ends with its log, and with status 1."""
 
 import hashlib
 import os
@@ -55,75 +56,50 @@ def checksum(named, crates):
 
 
 class Build:
-    """The crates on the way to a program or a static library, each of which waits, is being proved or is done."""
+    """The crates on the way to a program or a static library, lowest first, of which some are done."""
 
-    def __init__(self, named, crates, is_program):
-        self.named = named
+    def __init__(self, crates, is_program):
+        self.crates = crates
         self.is_program = is_program
-        self.waiting = list(crates)
-        self.running = {}
-        self.done = []
-        self.crate = crates[-1]
-        self.count = len(crates)
+        self.done = 0
+        self.running = None
         self.begun = time.monotonic()
 
     def say(self, what):
         minutes = int((time.monotonic() - self.begun) / 60)
-        so_far = f"{len(self.done)} of {self.count} crates done, {minutes} minutes so far"
-        print(f"{self.crate}: {what} ({so_far})", flush=True)
+        so_far = f"{self.done} of {len(self.crates)} crates done, {minutes} minutes so far"
+        print(f"{self.crates[-1]}: {what} ({so_far})", flush=True)
 
-    def ready(self):
-        """The crates whose libraries are all built."""
-        return [it for it in self.waiting if all(below in self.done for below in self.named[it])]
-
-    def start(self, crate, jobs):
-        """Starts the proof of a crate, and of the last one also its build."""
-        words = ["rt", "run" if self.is_program and crate == self.crate else "lib", "--jobs", str(jobs)]
-        log = tempfile.TemporaryFile("w+", errors="replace")
+    def start(self, crate, log):
+        """Starts the proof of a crate, and of the last one, if it is a program, also its build."""
+        words = ["rt", "run" if self.is_program and crate == self.crates[-1] else "lib", "--jobs", str(len(os.sched_getaffinity(0)))]
         how = {"cwd": f"{TOP}/crates/{crate}", "stdin": subprocess.DEVNULL, "start_new_session": True}
-        self.running[crate] = subprocess.Popen(words, stdout=log, stderr=subprocess.STDOUT, **how), log
-        self.waiting.remove(crate)
+        self.running = subprocess.Popen(words, stdout=log, stderr=subprocess.STDOUT, **how)
         self.say(f"proving {crate}")
-
-    def start_ready(self):
-        """Starts what can be, one crate for each processor, and shares the processors among them."""
-        processors = len(os.sched_getaffinity(0))
-        ready = self.ready()
-        for crate in ready[: processors - len(self.running)]:
-            self.start(crate, max(1, processors // (len(self.running) + len(ready))))
 
     def end(self):
         """Ends what still runs."""
-        for process, _ in self.running.values():
-            try:
-                os.killpg(process.pid, signal.SIGTERM)
-            except ProcessLookupError:
-                pass
+        if self.running and self.running.poll() is None:
+            os.killpg(self.running.pid, signal.SIGTERM)
 
-    def take_ended(self, is_built):
-        """Notes the crates whose proof ended, and returns whether each is proved."""
-        for crate, (process, log) in list(self.running.items()):
-            if process.poll() is None:
-                continue
-            del self.running[crate]
-            if not is_built(crate, process.returncode):
-                log.seek(0)
-                print(log.read(), f"{self.crate}: {crate} can't be built", sep="\n", flush=True)
-                return False
-            self.done.append(crate)
-        return True
+    def status_of(self, crate):
+        """Waits for the proof of a crate that runs, says now and then that it does, and returns its status."""
+        while True:
+            try:
+                return self.running.wait(SAYS_EVERY)
+            except subprocess.TimeoutExpired:
+                self.say(f"still proving {crate}")
 
     def run(self, is_built):
         """Proves all, and returns whether each is proved."""
-        said = time.monotonic()
-        while self.waiting or self.running:
-            self.start_ready()
-            time.sleep(0.2)
-            if not self.take_ended(is_built):
-                return False
-            if time.monotonic() - said > SAYS_EVERY:
-                said = time.monotonic()
-                self.say(f"still proving {', '.join(self.running)}")
+        for crate in self.crates:
+            with tempfile.TemporaryFile("w+", errors="replace") as log:
+                self.start(crate, log)
+                if not is_built(crate, self.status_of(crate)):
+                    log.seek(0)
+                    print(log.read(), f"{self.crates[-1]}: {crate} can't be built", sep="\n", flush=True)
+                    return False
+            self.done += 1
         return True
 
 
@@ -141,7 +117,7 @@ def main(crate):
                 return 0
     if os.path.isfile(made):
         os.remove(made)
-    build = Build(named, crates, crate not in static)
+    build = Build(crates, crate not in static)
 
     # The build of a program also runs it, here on no input, so its status says nothing of the build.
     def is_built(name, status):
