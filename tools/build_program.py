@@ -1,12 +1,15 @@
 """Proves and builds the program or the static library of a crate with `rt`, and says how far it is.
 usage: build_program.py CRATE
 
-The crates that it stands on are proved lowest first, one at a time, with all processors: rt works in one crate at a time
-of those that share a library, and all share the lowest. If nothing of them changed since the last build, nothing is
-done. A build that fails ends with its log, and with status 1."""
+The crates that it stands on are proved side by side, in copies of the repository: rt works in one crate at a time of those
+that share a library, and all share the lowest. Each library that is proved is given to the copies, and to the repository in
+the end. If nothing of the crates changed since the last build, nothing is done. A build that fails ends with its log, and
+with status 1."""
 
+import contextlib
 import hashlib
 import os
+import shutil
 import signal
 import subprocess
 import sys
@@ -14,9 +17,11 @@ import tempfile
 import time
 
 TOP = os.path.dirname(os.path.dirname(os.path.abspath(__file__)))
+PARTS = "src", "specs", "proofs"
 
 # How often it says that it is still at work, in seconds.
 SAYS_EVERY = 60
+LOOKS_EVERY = 0.2
 
 
 def crates_listed():
@@ -41,65 +46,183 @@ def in_order(named, crate, order):
     return order
 
 
+def files_of(crate):
+    """The files that a crate is proved from, in a fixed order."""
+    for part in PARTS:
+        for at, folders, files in os.walk(f"{TOP}/crates/{crate}/{part}"):
+            folders.sort()
+            for name in sorted(files):
+                yield f"{at}/{name}"
+
+
+def bytes_in(path):
+    with open(path, "rb") as file:
+        return file.read()
+
+
 def checksum(named, crates):
     """A checksum of the names and the contents of all files that the crates are proved from."""
     made = hashlib.sha256(repr([(it, named[it]) for it in crates]).encode())
     for crate in crates:
-        for part in ("src", "specs", "proofs"):
-            for at, folders, files in os.walk(f"{TOP}/crates/{crate}/{part}"):
-                folders.sort()
-                for name in sorted(files):
-                    path = f"{at}/{name}"
-                    with open(path, "rb") as file:
-                        made.update(repr((os.path.relpath(path, TOP), file.read())).encode())
+        for path in files_of(crate):
+            made.update(repr((os.path.relpath(path, TOP), bytes_in(path))).encode())
     return made.hexdigest()
 
 
-class Build:
-    """The crates on the way to a program or a static library, lowest first, of which some are done."""
+def chains(named, crates):
+    """The lines of each crate and of the longest chain of crates above it: the longer, the sooner it is to be proved."""
+    lines = {it: sum(bytes_in(path).count(b"\n") for path in files_of(it)) for it in crates}
+    behind = dict(lines)
+    for crate in reversed(crates):
+        for below in named[crate]:
+            behind[below] = max(behind[below], lines[below] + behind[crate])
+    return behind
 
-    def __init__(self, crates, is_program):
-        self.crates = crates
-        self.is_program = is_program
-        self.done = 0
+
+def give(crate, to):
+    """Gives a library that was proved in one copy of the repository to another, in the place of what stands there."""
+    proved, place = f"{crate.at}/crates/{crate.name}/out/rlib", f"{to}/crates/{crate.name}/out/rlib"
+    if not os.path.isdir(proved) or os.path.exists(place) and os.path.samefile(proved, place):
+        return
+    shutil.rmtree(place, ignore_errors=True)
+    try:
+        shutil.copytree(proved, place, copy_function=os.link)
+    except shutil.Error:
+        # (a copy on another disk)
+        shutil.rmtree(place, ignore_errors=True)
+        shutil.copytree(proved, place)
+
+
+class Crate:
+    """A crate on the way: the repository, or the copy of it, where it is or was proved last."""
+
+    def __init__(self, name, below):
+        self.name = name
+        self.below = below
+        self.at = TOP
+        self.is_done = False
         self.running = None
-        self.begun = time.monotonic()
+        self.jobs = 0
+        self.log = None
 
-    def say(self, what):
-        minutes = int((time.monotonic() - self.begun) / 60)
-        so_far = f"{self.done} of {len(self.crates)} crates done, {minutes} minutes so far"
-        print(f"{self.crates[-1]}: {what} ({so_far})", flush=True)
+    def is_ready(self):
+        return not self.is_done and not self.running and all(it.is_done for it in self.below)
 
-    def start(self, crate, log):
-        """Starts the proof of a crate, and of the last one, if it is a program, also its build."""
-        words = ["rt", "run" if self.is_program and crate == self.crates[-1] else "lib", "--jobs", str(len(os.sched_getaffinity(0)))]
-        how = {"cwd": f"{TOP}/crates/{crate}", "stdin": subprocess.DEVNULL, "start_new_session": True}
-        self.running = subprocess.Popen(words, stdout=log, stderr=subprocess.STDOUT, **how)
-        self.say(f"proving {crate}")
+    def start(self, verb, at, jobs):
+        """Starts the proof in a copy of the repository, over the libraries as they were proved elsewhere."""
+        for it in [*self.below, self]:
+            give(it, at)
+        self.at, self.jobs, self.log = at, jobs, tempfile.TemporaryFile("w+", errors="replace")
+        how = {"cwd": f"{at}/crates/{self.name}", "stdin": subprocess.DEVNULL, "start_new_session": True}
+        self.running = subprocess.Popen(["rt", verb, "--jobs", str(jobs)], stdout=self.log, stderr=subprocess.STDOUT, **how)
 
     def end(self):
         """Ends what still runs."""
         if self.running and self.running.poll() is None:
             os.killpg(self.running.pid, signal.SIGTERM)
+            self.running.wait()
 
-    def status_of(self, crate):
-        """Waits for the proof of a crate that runs, says now and then that it does, and returns its status."""
-        while True:
-            try:
-                return self.running.wait(SAYS_EVERY)
-            except subprocess.TimeoutExpired:
-                self.say(f"still proving {crate}")
+    def told(self):
+        """What the proof wrote."""
+        self.log.seek(0)
+        return self.log.read()
 
-    def run(self, is_built):
-        """Proves all, and returns whether each is proved."""
-        for crate in self.crates:
-            with tempfile.TemporaryFile("w+", errors="replace") as log:
-                self.start(crate, log)
-                if not is_built(crate, self.status_of(crate)):
-                    log.seek(0)
-                    print(log.read(), f"{self.crates[-1]}: {crate} can't be built", sep="\n", flush=True)
-                    return False
-            self.done += 1
+
+class Build:
+    """The crates on the way to a program or a static library, lowest first, of which some are done."""
+
+    def __init__(self, named, crates, room):
+        made = {}
+        for name in crates:
+            made[name] = Crate(name, [made[it] for it in in_order(named, name, [])[:-1]])
+        self.libraries = [made[it] for it in crates[:-1]]
+        self.last = made[crates[-1]]
+        self.behind = chains(named, crates)
+        self.processors = len(os.sched_getaffinity(0))
+        self.copies = [copy_of(f"{room}/{number}", crates) for number in range(self.processors)]
+        self.begun = self.said = time.monotonic()
+
+    def say(self, what):
+        self.said = time.monotonic()
+        minutes = int((self.said - self.begun) / 60)
+        done = sum(it.is_done for it in [*self.libraries, self.last])
+        print(f"{self.last.name}: {what} ({done} of {len(self.libraries) + 1} crates done, {minutes} minutes so far)", flush=True)
+
+    def start_ready(self):
+        """Starts the crates that wait for none, those with the longest chain above first, with a share of the processors."""
+        at_work = [it for it in self.libraries if it.running]
+        free = self.processors - sum(it.jobs for it in at_work)
+        ready = sorted((it for it in self.libraries if it.is_ready()), key=lambda it: -self.behind[it.name])
+        places = [it for it in self.copies if it not in [other.at for other in at_work]]
+        for left, crate in zip(range(len(ready), 0, -1), ready):
+            if free < 1:
+                break
+            jobs = max(free // left, 1)
+            crate.start("lib", places.pop(), jobs)
+            self.say(f"proving {crate.name}")
+            free -= jobs
+
+    def look(self):
+        """Notes which proofs ended, and gives the crate of one that failed, if any did."""
+        for crate in [it for it in self.libraries if it.running and it.running.poll() is not None]:
+            crate.is_done = crate.running.returncode == 0
+            crate.running = None
+            if not crate.is_done:
+                return crate
+        return None
+
+    def prove_libraries(self):
+        """Proves all libraries, and gives the crate of one that can't be, if there is one."""
+        while not all(it.is_done for it in self.libraries):
+            self.start_ready()
+            time.sleep(LOOKS_EVERY)
+            failed = self.look()
+            if failed:
+                return failed
+            if time.monotonic() - self.said > SAYS_EVERY:
+                self.say("still proving " + ", ".join(it.name for it in self.libraries if it.running))
+        return None
+
+    def make(self, verb):
+        """Proves and builds the last crate in the repository."""
+        self.say(f"building {self.last.name}")
+        self.last.start(verb, TOP, self.processors)
+        self.last.running.wait()
+
+    def end(self):
+        for it in [*self.libraries, self.last]:
+            it.end()
+
+
+def copy_of(to, crates):
+    """A copy of what the crates are proved from."""
+    for crate in crates:
+        for part in PARTS:
+            with contextlib.suppress(FileNotFoundError):
+                shutil.copytree(f"{TOP}/crates/{crate}/{part}", f"{to}/crates/{crate}/{part}")
+    with open(f"{TOP}/crates.txt", encoding="utf-8") as file, open(f"{to}/crates.txt", "w", encoding="utf-8") as out:
+        out.writelines(it for it in file if it.partition(":")[0].split(" ")[0] in crates)
+    shutil.copyfile(f"{TOP}/HANDLES", f"{to}/HANDLES")
+    return to
+
+
+def build_crate(named, crates, verb, made):
+    """Proves and builds the last of the crates, and returns whether its program or static library is there."""
+    with tempfile.TemporaryDirectory(prefix="build-") as room:
+        build = Build(named, crates, room)
+        try:
+            failed = build.prove_libraries()
+            if not failed:
+                # The build of a program also runs it, here on no input, so its status says nothing of the build.
+                build.make(verb)
+                failed = None if os.path.isfile(made) else build.last
+        finally:
+            build.end()
+        if failed:
+            print(failed.told(), f"{crates[-1]}: {failed.name} can't be built", sep="\n", flush=True)
+            return False
+        build.last.is_done = True
+        build.say("built")
         return True
 
 
@@ -110,30 +233,21 @@ def main(crate):
     made = f"{out}/lib{crate}.a" if crate in static else f"{out}/{crate}"
     stamp = f"{out}/built-from"
     wanted = checksum(named, crates)
-    if os.path.isfile(made) and os.path.isfile(stamp):
-        with open(stamp, encoding="utf-8") as file:
-            if file.read() == wanted:
-                os.utime(made)
-                return 0
-    if os.path.isfile(made):
+    if os.path.isfile(made) and os.path.isfile(stamp) and bytes_in(stamp).decode() == wanted:
+        os.utime(made)
+        return 0
+    with contextlib.suppress(FileNotFoundError):
         os.remove(made)
-    build = Build(crates, crate not in static)
-
-    # The build of a program also runs it, here on no input, so its status says nothing of the build.
-    def is_built(name, status):
-        return os.path.isfile(made) if name == crate else status == 0
-
     try:
-        if not build.run(is_built):
+        if not build_crate(named, crates, "lib" if crate in static else "run", made):
             return 1
-    except FileNotFoundError:
+    except FileNotFoundError as error:
+        if error.filename != "rt":
+            raise
         print("rt is not on the path: it proves and builds the crates", flush=True)
         return 1
-    finally:
-        build.end()
     with open(stamp, "w", encoding="utf-8") as file:
         file.write(wanted)
-    build.say("built")
     return 0
 
 

@@ -2,7 +2,7 @@
 # Refuses the report program each request for memory in turn: those of the report of each of some programs, with all that the
 # words ask for, and some of those of a script that is made. A run of which one is refused ends with status 7, a front of the
 # report and a front of the line on it, or as the run without a refusal does. It prints how many runs ended so. The words are
-# programs of crates/report_rows/data/programs. REPORT names the program, which is else the proved one. It needs a C compiler.
+# programs of crates/program_cases/data/reports/programs. REPORT names the program, which is else the proved one. It needs a C compiler.
 set -eu
 cd "$(dirname "$0")/.."
 [ $# -gt 0 ] || set -- let-a-1-a-2 try-catch-a-a let-a-let-a import-readfile-from-fs-const-limit-10-e
@@ -58,7 +58,7 @@ try_all() {
 }
 
 for name in "$@"; do
-    tree="crates/report_rows/data/programs/$name.json"
+    tree="crates/program_cases/data/reports/programs/$name.json"
     try_all "$name" 1 "$tree"
     try_all "$name, with all words" 1 "$tree" --nodes --classes --stats
 done

@@ -1,6 +1,6 @@
 'use strict';
-// Writes the trees of the programs of crates/early_error_cases. Its file `data/cases` has a program a line behind its name;
-// the tree of each goes to `data/programs`. TypeScript's compiler reads them all, since it takes programs with early errors;
+// Writes the trees of the programs of crates/program_cases/data/early_errors. Its file `cases` has a program a line behind its name;
+// the tree of each goes to `programs`. TypeScript's compiler reads them all, since it takes programs with early errors;
 // what it doesn't take is read in another form and mended, which `mends.js` tells.
 // usage: node tools/case-trees/main.js
 
@@ -9,7 +9,7 @@ const path = require('path');
 const { treeOf, Refusal } = require('../source-to-tree/convert');
 const { MENDS } = require('./mends');
 
-const DATA = path.join(__dirname, '../../crates/early_error_cases/data');
+const DATA = path.join(__dirname, '../../crates/program_cases/data/early_errors');
 
 // The goal by the ending of a name; the language is told by it as for files.
 const GOALS = { js: 'script', jsx: 'script', ts: 'script', tsx: 'script', mjs: 'module', mts: 'module', cjs: 'commonjs' };

@@ -8,7 +8,7 @@ const { load } = require('../source-to-tree/load');
 const { reportOf } = require('./analysis');
 const { JS, ONE_WAY, NEWER, REFUSED, GOALS } = require('./cases');
 
-const STORED = path.join(__dirname, '../../crates/report_rows/data/programs');
+const STORED = path.join(__dirname, '../../crates/program_cases/data/reports/programs');
 
 // The tree, or the line of the refusal.
 function convert(source, options) {

@@ -1,2 +1,3 @@
 pub mod BoundIdentifiers
+pub mod EvenKinds
 pub mod Seen

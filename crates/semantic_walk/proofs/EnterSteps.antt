@@ -28,7 +28,7 @@ use Rattle.semantic_walk.specs.Paths.{parent_in}
 use Rattle.semantic_walk.proofs.Opening.{alone, parent_above}
 use Rattle.walk_notes.specs.NoteLists.{NoteLists, noting}
 use Rattle.walk_notes.proofs.Unnoted.{enters_nothing}
-use Rattle.semantic_walk.specs.EvenKinds.{acts_on_entering}
+use Rattle.node_rules.specs.EvenKinds.{acts_on_entering}
 use Rattle.semantic_walk.proofs.EvenNodes.{no_reference, no_call, no_names, no_note}
 
 -- no more than the parent is asked for

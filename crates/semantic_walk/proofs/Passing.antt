@@ -29,7 +29,7 @@ use Rattle.count_model.specs.Probes.{probes_of_steps}
 use Rattle.count_model.proofs.StepSums.{raised_none}
 use Rattle.semantic_walk.specs.AtPlace.{IsComing, entered, kept_at, told_within, walked_within, walked_over, probes_over}
 use Rattle.semantic_walk.specs.Binds.{acting}
-use Rattle.semantic_walk.specs.EvenKinds.{acts_between, is_quiet, is_passing, is_leaf, stands_alike}
+use Rattle.node_rules.specs.EvenKinds.{acts_between, is_quiet, is_passing, is_leaf, stands_alike}
 use Rattle.semantic_walk.specs.Leaving.{IsLeaving}
 use Rattle.semantic_walk.specs.Listed.{all_listed}
 use Rattle.semantic_walk.specs.Turns.{is_passed, past_leaf}

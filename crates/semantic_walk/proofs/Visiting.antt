@@ -36,7 +36,7 @@ use Rattle.node_store.specs.Entered.{Entered}
 use Rattle.semantic_walk.specs.Listed.{IsAmong, all_listed}
 use Rattle.walk_notes.specs.NoteLists.{NoteLists, noting, noted_inside, noted_over}
 use Rattle.semantic_walk.specs.Stated.{IsStated, AllStated}
-use Rattle.semantic_walk.specs.EvenKinds.{acts_between}
+use Rattle.node_rules.specs.EvenKinds.{acts_between}
 use Rattle.semantic_walk.specs.Walker.{Walker, telling_of}
 use Rattle.semantic_walk.specs.Turns.{child_scope, own_or}
 use Rattle.semantic_walk.specs.AtPlace.{probes_over, ComesTo, IsWithin, IsTurnAt, IsBetweenAt, IsOpenAtRoot, IsComing, entered, kept_at, told_within, walked_within, left_at, walked_over}

@@ -18,7 +18,7 @@ use Rattle.count_model.specs.Probes.{probes_of_steps}
 use Rattle.count_laws.specs.Room.{HasRoom}
 use Rattle.node_store.specs.Entered.{Entered, leaving as leaving_node}
 use Rattle.walk_notes.specs.NoteLists.{noting, noted_inside, noted_over, leaving as leaving_notes}
-use Rattle.semantic_walk.specs.EvenKinds.{acts_between}
+use Rattle.node_rules.specs.EvenKinds.{acts_between}
 use Rattle.semantic_walk.specs.Listed.{IsNext, all_listed, entered_at}
 use Rattle.check_walk.specs.Ready.{IsReadyAt}
 use Rattle.check_walk.specs.SoFar.{Telling}

@@ -6,7 +6,6 @@ pub mod Binds
 pub mod Ids
 pub mod Folded
 pub mod Listed
-pub mod EvenKinds
 pub mod Stored
 pub mod AtPlace
 pub mod Leaving

@@ -8,7 +8,7 @@ use Rattle.semantic_syntax.specs.Reading.{scope_of}
 use Rattle.semantic_model.specs.Inside.{is_inside, is_parameter_decorator}
 use Rattle.semantic_tree.specs.declared.node.Node.{Node}
 use Rattle.semantic_tree.specs.Views.{is}
-use Rattle.semantic_walk.specs.EvenKinds.{is_passing, is_leaf}
+use Rattle.node_rules.specs.EvenKinds.{is_passing, is_leaf}
 use Rattle.semantic_walk.specs.Walker.{Walker, referring}
 use Rattle.semantic_walk.specs.declared.visit.Turn.{Turn}
 use Rattle.walk_model.specs.WalkState.{WalkState}
@@ -29,7 +29,7 @@ abbrev pub child_scope : Tables → Turn → AstType → Role → ℕ
 child_scope t turn k r =
     cond (is_parameter_decorator k r) (unwrap_or (scope_of t turn.outer).parent turn.outer) (own_or (is_inside k r) turn.own turn.outer)
 
--- whether a child is passed over, which stands as its parent does or not: a leaf of such a kind, where no early error is told and no node is kept
+-- whether the walk goes past a child without a visit: a leaf of a kind that may be passed, which stands as its parent does (`alike`), where no early errors are told and no nodes are kept
 abbrev pub is_passed : Walker → Bool → Node → Bool
 is_passed w alike child = alike && not w.checks && is_passing child.kind && is_leaf child.children && not (is_some w.nodes)
 

@@ -4,7 +4,6 @@
 pub mod analysis;
 pub mod binder;
 mod block_target;
-mod even;
 pub mod laws;
 pub mod path;
 pub mod settings;

@@ -42,7 +42,6 @@ ghost use Rattle.semantic_walk.specs.AtPlace.{ComesTo, IsWithin, IsShown, entere
 
 use crate::analysis::Analysis;
 use crate::block_target::stand_on;
-use crate::even::acts_on_entering;
 use crate::path::Path;
 use crate::settings::{Room, Settings};
 use namesakes::LazyNamesakes;
@@ -50,6 +49,7 @@ use namespace_states::NamespaceStates;
 use node_rules::ambient::is_ambient_inside;
 use node_rules::cursor;
 use node_rules::direct_eval::is_direct_eval;
+use node_rules::even::acts_on_entering;
 use node_rules::rows::is_statement;
 use node_rules::scope_kind::{flags_of, root_flags};
 use semantic_diagnostics::Diagnostics;

@@ -15,7 +15,7 @@ use Rattle.walk_model.specs.Waits.{HoldsAt, start_at}
 use Rattle.walk_model.specs.Walks.{after_all}
 use Rattle.semantic_walk.specs.Walker.{Walker}
 use Rattle.semantic_walk.specs.AtPlace.{IsTurnAt, IsComing, IsSomewhere, walked_within, left_at, walked_over, probes_over}
-use Rattle.semantic_walk.specs.EvenKinds.{acts_between, stands_alike}
+use Rattle.node_rules.specs.EvenKinds.{acts_between, stands_alike}
 use Rattle.semantic_walk.specs.Turns.{is_passed}
 use Rattle.semantic_walk.specs.Leaving.{ShowsRows, IsLeaving}
 use Rattle.semantic_walk.specs.declared.visit.Turn.{Turn}

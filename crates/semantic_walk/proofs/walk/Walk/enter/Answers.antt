@@ -2,7 +2,7 @@ use Rattle.std.proofs.Common.{◌≡◌, false, cond, length, refl, sym, ap, ◌
 use Rattle.semantic_kinds.specs.declared.kind.AstType.TheVariants as kind
 use Rattle.semantic_tree.specs.Views.{is}
 use Rattle.semantic_walk.specs.Walker.{Walker, referring}
-use Rattle.semantic_walk.specs.EvenKinds.{acts_on_entering}
+use Rattle.node_rules.specs.EvenKinds.{acts_on_entering}
 use Rattle.semantic_walk.proofs.RoomAt.{ids_entered}
 use Rattle.semantic_walk.proofs.EnterSteps.{enters, stands_in, notes_last, enters_quietly}
 use Rattle.semantic_walk.proofs.TurnEnds.{on_ok}

@@ -8,7 +8,7 @@ use Rattle.walk_model.specs.WalkState.{WalkState}
 use Rattle.walk_model.specs.Waits.{HoldsAt}
 use Rattle.count_model.specs.Probes.{probes_of_steps}
 use Rattle.count_model.proofs.StepSums.{raised_none}
-use Rattle.semantic_walk.specs.EvenKinds.{acts_between}
+use Rattle.node_rules.specs.EvenKinds.{acts_between}
 use Rattle.semantic_walk.specs.Walker.{Walker}
 use Rattle.semantic_walk.proofs.walk.Walk.finish_child.Given as given
 use Rattle.semantic_walk.proofs.EvenNodes.{ends_alike, none_ends}

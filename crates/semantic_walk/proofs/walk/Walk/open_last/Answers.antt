@@ -1,6 +1,6 @@
 use Rattle.std.proofs.Common.{◌≡◌, false, sym, ◌∙◌}
 use Rattle.walk_model.specs.Walks.{after_all}
-use Rattle.semantic_walk.specs.EvenKinds.{acts_between}
+use Rattle.node_rules.specs.EvenKinds.{acts_between}
 use Rattle.semantic_walk.proofs.EvenNodes.{none_last}
 use Rattle.semantic_walk.proofs.walk.Walk.open_last.Goals as goal
 

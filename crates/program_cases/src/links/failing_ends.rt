@@ -1,11 +1,11 @@
 //! Cases with words, and over ends that fail.
 
-/// A set of the folder, with a word, or none where it is empty, and the numbers of the calls on the source, on the sink
+/// A set of the folder, with words, and the numbers of the calls on the source, on the sink
 /// and on the sink for errors that fail, or 0 for none.
 pub struct Case {
     pub name: &'static str,
     pub set: &'static str,
-    pub word: &'static str,
+    pub words: &'static [&'static str],
     pub read: u64,
     pub write: u64,
     pub tell: u64,
@@ -15,7 +15,7 @@ pub const CASES: &[Case] = &[
     Case {
         name: "no end fails",
         set: "a-renamed-export-of-a-third-module",
-        word: "",
+        words: &[],
         read: 0,
         write: 0,
         tell: 0,
@@ -23,7 +23,7 @@ pub const CASES: &[Case] = &[
     Case {
         name: "a word",
         set: "a-renamed-export-of-a-third-module",
-        word: "--check",
+        words: &["--check"],
         read: 1,
         write: 1,
         tell: 0,
@@ -31,7 +31,7 @@ pub const CASES: &[Case] = &[
     Case {
         name: "a word that can't be told",
         set: "a-renamed-export-of-a-third-module",
-        word: "b",
+        words: &["b"],
         read: 1,
         write: 1,
         tell: 2,
@@ -39,7 +39,7 @@ pub const CASES: &[Case] = &[
     Case {
         name: "the first read fails",
         set: "a-renamed-export-of-a-third-module",
-        word: "",
+        words: &[],
         read: 1,
         write: 0,
         tell: 0,
@@ -47,7 +47,7 @@ pub const CASES: &[Case] = &[
     Case {
         name: "the read behind the input fails",
         set: "a-renamed-export-of-a-third-module",
-        word: "",
+        words: &[],
         read: 2,
         write: 0,
         tell: 0,
@@ -55,7 +55,7 @@ pub const CASES: &[Case] = &[
     Case {
         name: "the first write fails",
         set: "a-renamed-export-of-a-third-module",
-        word: "",
+        words: &[],
         read: 0,
         write: 1,
         tell: 0,
@@ -63,7 +63,7 @@ pub const CASES: &[Case] = &[
     Case {
         name: "a write in the first line fails",
         set: "a-ring-of-two-modules",
-        word: "",
+        words: &[],
         read: 0,
         write: 2,
         tell: 0,
@@ -71,7 +71,7 @@ pub const CASES: &[Case] = &[
     Case {
         name: "a write behind the first line fails, and the telling too",
         set: "an-import-that-is-exported-again",
-        word: "",
+        words: &[],
         read: 0,
         write: 4,
         tell: 1,
@@ -79,7 +79,7 @@ pub const CASES: &[Case] = &[
     Case {
         name: "a refusal that is told in part",
         set: "a-name-twice",
-        word: "",
+        words: &[],
         read: 0,
         write: 1,
         tell: 2,

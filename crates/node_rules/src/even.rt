@@ -1,15 +1,15 @@
 //! Nodes where nothing happens, by their kinds: most nodes only carry what is below them.
 
 ghost use Rattle.std.specs.Prelude.{◌≡◌};
-ghost use Rattle.semantic_walk.specs.EvenKinds.{acts_on_entering, turns_between, acts_between, is_quiet, is_passing, is_leaf, stands_alike};
+ghost use Rattle.node_rules.specs.EvenKinds.{acts_on_entering, turns_between, acts_between, is_quiet, is_passing, is_leaf, stands_alike};
 
-use node_rules::inside::opens;
+use crate::inside::opens;
 use semantic_tree::{AstKind, AstType, Mark, Role};
 
 /// Whether something may be made or noted on entering a node of the kind: it refers to a name, may call `eval`, declares
 /// names, or has a label or a part in a class.
 #[inline(always)]
-pub(crate) fn acts_on_entering(kind: AstType) -> bool
+pub fn acts_on_entering(kind: AstType) -> bool
     ensures { result ≡ acts_on_entering kind }
 {
     matches!(
@@ -77,7 +77,7 @@ fn turns_between(kind: AstType) -> bool
 /// Whether something may happen round a child of a node of the kind: a scope opens or closes, a header ends, the cursor
 /// turns, or the child stands elsewhere.
 #[inline(always)]
-pub(crate) fn acts_between(kind: AstType) -> bool
+pub fn acts_between(kind: AstType) -> bool
     ensures { result ≡ acts_between kind }
 {
     opens(kind) || turns_between(kind)
@@ -112,7 +112,7 @@ fn is_quiet(kind: AstType) -> bool
 /// Whether the walk may go past a leaf of the kind without visiting it: nothing happens at it, or it refers to a name and
 /// does no more.
 #[inline(always)]
-pub(crate) fn is_passing(kind: AstType) -> bool
+pub fn is_passing(kind: AstType) -> bool
     ensures { result ≡ is_passing kind }
 {
     is_quiet(kind) || kind == AstType::IdentifierReference
@@ -120,7 +120,7 @@ pub(crate) fn is_passing(kind: AstType) -> bool
 
 /// Whether the node has no children.
 #[inline(always)]
-pub(crate) fn is_leaf(kind: AstKind<'_>) -> bool
+pub fn is_leaf(kind: AstKind<'_>) -> bool
     ensures { result ≡ is_leaf kind.entry.node.now.children }
 {
     kind.node().children.as_slice().is_empty()
@@ -129,7 +129,7 @@ pub(crate) fn is_leaf(kind: AstKind<'_>) -> bool
 /// Whether a child in the role stands as its parent does, which acts between its children or not: in its scope, under
 /// its cursor, and ambient as it is.
 #[inline(always)]
-pub(crate) fn stands_alike(acts: bool, parent: AstKind<'_>, role: Role) -> bool
+pub fn stands_alike(acts: bool, parent: AstKind<'_>, role: Role) -> bool
     ensures { result ≡ stands_alike acts parent.entry.node.now role }
 {
     !acts && role != Role::Binding && !parent.has_mark(Mark::Declare)

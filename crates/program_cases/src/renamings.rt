@@ -1,22 +1,13 @@
 //! Writes what the renamer answers. Each line of the file `cases` has the name of a program in the folder `programs` and
 //! the words, with bars between them. Then it writes what comes of one such run where each read and each write fails in
 //! turn, and where the line on a refusal can't be told.
-#![tactic(auto)]
 
+use crate::ends::{failing, words_of};
 use renamer::{RenameStatus, run_rename};
 use report_ends::{MemorySink, MemorySource, Reading, SureSink, SureSource, Writing};
 use std::alloc::{AllocError, Global};
 use std::fs::{self, File};
 use std::io::{self, Write};
-
-// The words, owned.
-fn words_of(alloc: Global, words: &[&str]) -> Result<Vec<String>, AllocError> {
-    let mut owned = Vec::new(alloc);
-    for word in words {
-        owned.push(String::from_str(alloc, word)?)?;
-    }
-    Ok(owned)
-}
 
 // The parts of a line between bars.
 fn parts_of(alloc: Global, line: &str) -> Result<Vec<&str>, AllocError> {
@@ -35,7 +26,7 @@ fn write_case(rt: &HostRuntime, line: &str) -> io::Result<()> {
     let Some((name, words)) = parts.split_first() else {
         return Ok(());
     };
-    let path = format!(in alloc; "programs/{name}.json")?;
+    let path = format!(in alloc; "renamings/programs/{name}.json")?;
     let words = words_of(alloc, words)?;
     let mut source = Reading::new(File::open(rt, path.as_str())?);
     let mut out = Writing::new(rt.stdout());
@@ -45,13 +36,6 @@ fn write_case(rt: &HostRuntime, line: &str) -> io::Result<()> {
         println!(rt; "")?;
     }
     println!(rt; "status {}", status.code())
-}
-
-// The number of one call that fails.
-fn failing(alloc: Global, call: u64) -> Result<Vec<u64>, AllocError> {
-    let mut calls = Vec::new(alloc);
-    calls.push(call)?;
-    Ok(calls)
 }
 
 // Writes how a run ended, how many bytes of its answer were written, and what was told.
@@ -120,14 +104,21 @@ fn write_failing_writes(rt: &HostRuntime, tree: &[u8]) -> io::Result<()> {
     Ok(())
 }
 
-fn main(rt: HostRuntime) -> io::Result<()> {
-    let cases = fs::read_to_string(&rt, "cases")?;
+// Writes what is answered to each line of the cases.
+fn write_cases(rt: &HostRuntime) -> io::Result<()> {
+    let cases = fs::read_to_string(rt, "renamings/cases")?;
     for line in cases.lines() {
-        write_case(&rt, line)?;
+        write_case(rt, line)?;
     }
-    let tree = fs::read_to_string(&rt, "programs/a-function-and-a-call.json")?;
-    write_failing_reads(&rt, tree.as_bytes())?;
-    write_failing_writes(&rt, tree.as_bytes())?;
-    telling_fails(&rt, tree.as_bytes(), 1)?;
-    telling_fails(&rt, tree.as_bytes(), 2)
+    Ok(())
+}
+
+/// Writes all that the renamer answers.
+pub fn write_all(rt: &HostRuntime) -> io::Result<()> {
+    write_cases(rt)?;
+    let tree = fs::read_to_string(rt, "renamings/programs/a-function-and-a-call.json")?;
+    write_failing_reads(rt, tree.as_bytes())?;
+    write_failing_writes(rt, tree.as_bytes())?;
+    telling_fails(rt, tree.as_bytes(), 1)?;
+    telling_fails(rt, tree.as_bytes(), 2)
 }

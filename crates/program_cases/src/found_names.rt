@@ -1,6 +1,5 @@
 //! Runs the lint of names over the programs of the folder `programs`, which the file `names` lists, each with the names that
 //! are known beside it, and over ends that fail. It writes what is found and what each run writes and answers.
-#![tactic(auto)]
 
 mod failing_ends;
 mod runs;
@@ -42,9 +41,9 @@ fn write_found(rt: &HostRuntime, tree: &str, known: &[String]) -> io::Result<()>
 // Writes what is found in the program of the name, and the run over it.
 fn write_program(rt: &HostRuntime, name: &str) -> io::Result<()> {
     let alloc = rt.alloc();
-    let path = format!(in alloc; "programs/{name}.json")?;
+    let path = format!(in alloc; "found_names/programs/{name}.json")?;
     let tree = fs::read_to_string(rt, path.as_str())?;
-    let path = format!(in alloc; "programs/{name}.known")?;
+    let path = format!(in alloc; "found_names/programs/{name}.known")?;
     let text = fs::read_to_string(rt, path.as_str())?;
     let known = names_in(alloc, text.as_str())?;
     print!(rt; "{name}: ")?;
@@ -52,11 +51,18 @@ fn write_program(rt: &HostRuntime, name: &str) -> io::Result<()> {
     runs::write_run(rt, tree.as_str(), &known)
 }
 
-fn main(rt: HostRuntime) -> io::Result<()> {
-    let names = fs::read_to_string(&rt, "names")?;
+// Writes what is found in each program.
+fn write_programs(rt: &HostRuntime) -> io::Result<()> {
+    let names = fs::read_to_string(rt, "found_names/names")?;
     for name in names.lines() {
-        write_program(&rt, name)?;
+        write_program(rt, name)?;
     }
-    let tree = fs::read_to_string(&rt, "programs/unused-and-undeclared-names.json")?;
-    failing_ends::write_runs(&rt, tree.as_str())
+    Ok(())
+}
+
+/// Writes all that the lint finds and answers.
+pub fn write_all(rt: &HostRuntime) -> io::Result<()> {
+    write_programs(rt)?;
+    let tree = fs::read_to_string(rt, "found_names/programs/unused-and-undeclared-names.json")?;
+    failing_ends::write_runs(rt, tree.as_str())
 }

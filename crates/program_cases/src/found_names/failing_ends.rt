@@ -1,16 +1,9 @@
 //! Runs over ends that fail, each at one call, and over an input that is too long.
-use crate::runs::write_end;
+use super::runs::write_end;
+use crate::ends::failing;
 use name_lint::{NamesStatus, run_names};
 use report_ends::{MemorySink, MemorySource, SureSink, SureSource};
-use std::alloc::{AllocError, Global};
 use std::io;
-
-// The number of one call that fails.
-fn failing(alloc: Global, call: u64) -> Result<Vec<u64>, AllocError> {
-    let mut calls = Vec::new(alloc);
-    calls.push(call)?;
-    Ok(calls)
-}
 
 // Writes the run whose read of this number fails, of reads of at most 400 bytes.
 fn write_failing_read(rt: &HostRuntime, tree: &str, call: u64) -> io::Result<NamesStatus> {

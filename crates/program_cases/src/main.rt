@@ -1,0 +1,21 @@
+//! Runs the programs over the stored trees and sets of modules: the report, the report of early errors, the renamer, the
+//! lint of names and the linker, each over ends that fail, too. Each part has a folder of data, and is told in turn. That
+//! they stand in one program spares the gate a build of all of it for each of them.
+#![tactic(auto)]
+
+mod early_errors;
+mod ends;
+mod found_names;
+mod links;
+mod renamings;
+mod reports;
+
+use std::io;
+
+fn main(rt: HostRuntime) -> io::Result<()> {
+    reports::write_all(&rt)?;
+    early_errors::write_all(&rt)?;
+    renamings::write_all(&rt)?;
+    found_names::write_all(&rt)?;
+    links::write_all(&rt)
+}
