@@ -1,8 +1,8 @@
 #!/bin/bash
-# What the analysis costs beside its peers, on real files: `build` beside eslint-scope's analysis of the same source, a whole
-# report beside reading its input as a JSON value alone, and the report's peak of memory beside its input. Then the
-# analysis of made trees of ten thousand, a hundred thousand and a million nodes. The rounds of all are interleaved, and the
-# least processor time of each counts. It prints a table, which docs/speed.md takes.
+# What the analysis costs beside its peers, on real files: `build` beside eslint-scope's analysis of the same source, the first
+# one of a process and one of many, a whole report beside reading its input as a JSON value alone, and the report's peak of
+# memory beside its input. Then the analysis of made trees of ten thousand, a hundred thousand and a million nodes. The
+# rounds of all are interleaved, and the least processor time of each counts. It prints a table, which docs/speed.md takes.
 # The words are source files; with none it takes those of the list below that are there. REPORT names the report program
 # (bin/report), ROUNDS the rounds (5), PROGRAM a program that is timed in the place of the proved one. It works on a scratch
 # copy, and proves what it measures there; it needs rt, node, awk and GNU time.
@@ -24,18 +24,19 @@ rounds="${ROUNDS:-5}"
 new_program peers 'semantic tree_json semantic_tree serde_json'
 
 cat >"$program/src/main.rt" <<'SOURCE'
-// Times, for the tree on standard input, its JSON value and its analysis, in nanoseconds of the processor.
+// Times, for the tree on standard input, the first analysis, its JSON value and an analysis of many, in nanoseconds of the
+// processor.
 #![tactic(auto)]
 
 use semantic::SemanticBuilder;
 use semantic_tree::Program;
 use serde_json::Value;
 use std::alloc::Global;
-use std::fs;
 use std::io::{self, ErrorKind, Read};
+use std::time::{CpuClock, Duration};
 use tree_json::read_program;
 
-// The clock of the processor goes on by some milliseconds at once, so a time is that of work for so many nodes.
+// For so many nodes the analysis is made again and again, to tell what one of many takes.
 const NODES_AT_ONCE: u32 = 3_000_000;
 
 // Bytes of a large block.
@@ -51,13 +52,10 @@ fn invalid() -> io::Error {
     io::Error::from(ErrorKind::InvalidData)
 }
 
-// How long this process has been on a processor.
-fn on_processor(rt: &HostRuntime) -> io::Result<u64> {
-    let text = fs::read_to_string(rt, "/proc/self/schedstat")?;
-    match text.split(' ').next() {
-        Some(word) => word.parse::<u64>().map_err(|_| invalid()),
-        None => Err(invalid()),
-    }
+// What each of so many times took from one time of the processor to another.
+fn each(start: Duration, end: Duration, times: u32) -> u64 {
+    let took = end.checked_sub(start).unwrap_or(Duration::ZERO);
+    u64::try_from(took.as_nanos()).unwrap_or(u64::MAX) / u64::from(times.max(1))
 }
 
 // Takes a large block and gives it back. The C library joins freed blocks only once someone asks for a large one, and
@@ -70,24 +68,24 @@ fn join_freed_blocks(alloc: Global) -> io::Result<()> {
 
 fn time_of_value(rt: &HostRuntime, bytes: &[u8], times: u32) -> io::Result<u64> {
     join_freed_blocks(rt.alloc())?;
-    let start = on_processor(rt)?;
+    let start = rt.thread_cpu_time()?;
     for _ in 0..times {
         if Value::from_slice(rt.alloc(), bytes).is_err() {
             return Err(invalid());
         }
     }
-    Ok(on_processor(rt)?.saturating_sub(start) / u64::from(times.max(1)))
+    Ok(each(start, rt.thread_cpu_time()?, times))
 }
 
 fn time_of_analysis(rt: &HostRuntime, program: &Program, times: u32) -> io::Result<u64> {
     join_freed_blocks(rt.alloc())?;
-    let start = on_processor(rt)?;
+    let start = rt.thread_cpu_time()?;
     for _ in 0..times {
         if SemanticBuilder::new().build(rt.alloc(), program).is_err() {
             return Err(invalid());
         }
     }
-    Ok(on_processor(rt)?.saturating_sub(start) / u64::from(times.max(1)))
+    Ok(each(start, rt.thread_cpu_time()?, times))
 }
 
 fn print_times(rt: &HostRuntime, bytes: &[u8]) -> io::Result<()> {
@@ -96,9 +94,10 @@ fn print_times(rt: &HostRuntime, bytes: &[u8]) -> io::Result<()> {
         None => return Err(invalid()),
     };
     let times = NODES_AT_ONCE / program.node_count().max(1) + 1;
+    let first = time_of_analysis(rt, &program, 1)?;
     let value = time_of_value(rt, bytes, times)?;
     let analysis = time_of_analysis(rt, &program, times)?;
-    println!(rt; "{} {} {}", program.node_count(), value, analysis)
+    println!(rt; "{} {} {} {}", program.node_count(), value, analysis, first)
 }
 
 fn main(rt: HostRuntime) -> io::Result<()> {
@@ -131,7 +130,7 @@ peak_of_report() {
 
 # A row of times for the tree of a file, or of a made one, for which there is no source.
 time_once() {
-    if [ -n "$3" ]; then peer="$(node bench/peer.js "$3" 9)"; else peer=0; fi
+    if [ -n "$3" ]; then peer="$(node bench/peer.js "$3" 9) $(node bench/peer.js "$3" 1)"; else peer='0 0'; fi
     echo "$1 $peer $("$timed" <"$2") $(time_of_report "$2") $(peak_of_report "$2") $(wc -c <"$2")"
 }
 
@@ -156,23 +155,25 @@ for _ in $(seq "$rounds"); do
         time_once "$name" "$tree" "$source"
     done <"$scratch/list"
 done | awk '
-    # The columns: name, eslint-scope, nodes, value, analysis, report, peak, bytes.
+    # The columns: name, eslint-scope, its first, nodes, value, analysis, the first, report, peak, bytes.
     function keep(table, key, time) {
         if (!(key in table) || time < table[key]) table[key] = time
     }
     !($1 in nodes) { order[++count] = $1 }
     {
-        nodes[$1] = $3
-        bytes[$1] = $8
-        keep(peer, $1, $2); keep(value, $1, $4); keep(analysis, $1, $5); keep(report, $1, $6); keep(peak, $1, $7)
+        nodes[$1] = $4
+        bytes[$1] = $10
+        keep(peer, $1, $2); keep(first_peer, $1, $3); keep(value, $1, $5); keep(analysis, $1, $6); keep(first, $1, $7)
+        keep(report, $1, $8); keep(peak, $1, $9)
     }
     END {
-        print "| tree | nodes | analysis, ns a node | eslint-scope in analyses | report in JSON values | peak in inputs |"
-        print "|---|---|---|---|---|---|"
+        print "| tree | nodes | analysis, ns a node | eslint-scope in analyses | the first of a process, ns a node | eslint-scope\047s first in these | report in JSON values | peak in inputs |"
+        print "|---|---|---|---|---|---|---|---|"
         for (i = 1; i <= count; i++) {
             name = order[i]
             beside = peer[name] > 0 ? sprintf("%.1f", peer[name] / analysis[name]) : "-"
-            printf "| %s | %d | %.0f | %s | %.1f | %.1f |\n", name, nodes[name], analysis[name] / nodes[name], beside,
-                report[name] / value[name], peak[name] / bytes[name]
+            first_beside = peer[name] > 0 ? sprintf("%.1f", first_peer[name] / first[name]) : "-"
+            printf "| %s | %d | %.0f | %s | %.0f | %s | %.1f | %.1f |\n", name, nodes[name], analysis[name] / nodes[name], beside,
+                first[name] / nodes[name], first_beside, report[name] / value[name], peak[name] / bytes[name]
         }
     }'

@@ -8,7 +8,7 @@ cd "$(dirname "$0")/.."
 . bench/scratch.sh
 new_program refusing 'scoping semantic_syntax'
 for part in edits long_row table_text; do
-    cp "crates/table_cases/src/$part.rt" "$program/src/"
+    cp "crates/library_cases/src/tables/$part.rt" "$program/src/"
 done
 
 cat >"$program/src/main.rt" <<'SOURCE'

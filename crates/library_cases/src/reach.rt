@@ -1,0 +1,5 @@
+//! Numbers and pairs that lead to one another.
+
+mod cases;
+mod numbers;
+mod pairs;

@@ -1,0 +1,4 @@
+//! Sets of modules.
+
+mod cases;
+mod sets;
