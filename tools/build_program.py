@@ -149,15 +149,16 @@ class Build:
         print(f"{self.last.name}: {what} ({done} of {len(self.libraries) + 1} crates done, {minutes} minutes so far)", flush=True)
 
     def start_ready(self):
-        """Starts the crates that wait for none, those with the longest chain above first, with a share of the processors."""
+        """Starts the crates that wait for none, that with the longest chain above first. It gets the processors that the
+        others don't need: above the lowest crates there is little else to do."""
         at_work = [it for it in self.libraries if it.running]
         free = self.processors - sum(it.jobs for it in at_work)
         ready = sorted((it for it in self.libraries if it.is_ready()), key=lambda it: -self.behind[it.name])
         places = [it for it in self.copies if it not in [other.at for other in at_work]]
-        for left, crate in zip(range(len(ready), 0, -1), ready):
+        for others, crate in zip(reversed(range(len(ready))), ready):
             if free < 1:
                 break
-            jobs = max(free // left, 1)
+            jobs = max(free - others, 1)
             crate.start("lib", places.pop(), jobs)
             self.say(f"proving {crate.name}")
             free -= jobs
