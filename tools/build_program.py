@@ -149,8 +149,8 @@ class Build:
         print(f"{self.last.name}: {what} ({done} of {len(self.libraries) + 1} crates done, {minutes} minutes so far)", flush=True)
 
     def start_ready(self):
-        """Starts the crates that wait for none, that with the longest chain above first. It gets the processors that the
-        others don't need: above the lowest crates there is little else to do."""
+        """Starts the crates that wait for none, that with the longest chain above first. That one gets the processors which
+        the others leave idle: while the lowest crates are proved there is little beside them."""
         at_work = [it for it in self.libraries if it.running]
         free = self.processors - sum(it.jobs for it in at_work)
         ready = sorted((it for it in self.libraries if it.is_ready()), key=lambda it: -self.behind[it.name])
