@@ -19,9 +19,12 @@ import time
 TOP = os.path.dirname(os.path.dirname(os.path.abspath(__file__)))
 PARTS = "src", "specs", "proofs"
 
-# How often it says that it is still at work, in seconds.
+# How often it says that it is still at work, and looks whether a proof ended, in seconds.
 SAYS_EVERY = 60
 LOOKS_EVERY = 0.2
+
+# The memory that a proof may take, in bytes.
+MEMORY_OF_PROOF = 3_000_000_000
 
 
 def crates_listed():
@@ -138,7 +141,8 @@ class Build:
         self.libraries = [made[it] for it in crates[:-1]]
         self.last = made[crates[-1]]
         self.behind = chains(named, crates)
-        self.processors = len(os.sched_getaffinity(0))
+        memory = os.sysconf("SC_PAGE_SIZE") * os.sysconf("SC_PHYS_PAGES")
+        self.processors = min(len(os.sched_getaffinity(0)), max(memory // MEMORY_OF_PROOF, 1))
         self.copies = [copy_of(f"{room}/{number}", crates) for number in range(self.processors)]
         self.begun = self.said = time.monotonic()
 
@@ -168,6 +172,8 @@ class Build:
         for crate in [it for it in self.libraries if it.running and it.running.poll() is not None]:
             crate.is_done = crate.running.returncode == 0
             crate.running = None
+            # What a later proof of the same crate would begin with takes more room than the library.
+            shutil.rmtree(f"{crate.at}/crates/{crate.name}/out/incremental", ignore_errors=True)
             if not crate.is_done:
                 return crate
         return None
