@@ -2,9 +2,9 @@
 usage: build_program.py CRATE
 
 The crates that it stands on are proved side by side, in copies of the repository: rt works in one crate at a time of those
-that share a library, and all share the lowest. Each library that is proved is given to the copies, and to the repository in
-the end. If nothing of the crates changed since the last build, nothing is done. A build that fails ends with its log, and
-with status 1."""
+that share a library, and all share the lowest. Each library that is proved is given to the repository at once, so that a build
+that is broken off goes on from there, and to the copies. If nothing of the crates changed since the last build, nothing is
+done. A build that fails ends with its log, and with status 1."""
 
 import contextlib
 import hashlib
@@ -176,6 +176,7 @@ class Build:
             shutil.rmtree(f"{crate.at}/crates/{crate.name}/out/incremental", ignore_errors=True)
             if not crate.is_done:
                 return crate
+            give(crate, TOP)
         return None
 
     def prove_libraries(self):
@@ -194,7 +195,10 @@ class Build:
         """Proves and builds the last crate in the repository."""
         self.say(f"building {self.last.name}")
         self.last.start(verb, TOP, self.processors)
-        self.last.running.wait()
+        while self.last.running.poll() is None:
+            time.sleep(LOOKS_EVERY)
+            if time.monotonic() - self.said > SAYS_EVERY:
+                self.say(f"still building {self.last.name}")
 
     def end(self):
         for it in [*self.libraries, self.last]:
@@ -248,6 +252,9 @@ def main(crate):
     try:
         if not build_crate(named, crates, "lib" if crate in static else "run", made):
             return 1
+    except KeyboardInterrupt:
+        print(f"{crate}: broken off; the next call goes on from here", flush=True)
+        return 1
     except FileNotFoundError as error:
         if error.filename != "rt":
             raise
