@@ -298,37 +298,42 @@ pub fn is_expression(kind: AstType, text: &str) -> bool
 pub fn is_member(kind: AstType) -> bool
     ensures { result ≡ is_member kind }
 {
-    kind == AstType::ComputedMemberExpression
-        || kind == AstType::StaticMemberExpression
-        || kind == AstType::PrivateFieldExpression
+    matches!(
+        kind,
+        AstType::ComputedMemberExpression
+            | AstType::StaticMemberExpression
+            | AstType::PrivateFieldExpression
+    )
 }
 
 /// Whether a node of this kind is a literal.
 pub fn is_literal(kind: AstType) -> bool
     ensures { result ≡ is_literal kind }
 {
-    kind == AstType::BooleanLiteral
-        || kind == AstType::NullLiteral
-        || kind == AstType::NumericLiteral
-        || kind == AstType::BigIntLiteral
-        || kind == AstType::RegExpLiteral
-        || kind == AstType::StringLiteral
-        || kind == AstType::TemplateLiteral
+    matches!(
+        kind,
+        AstType::BooleanLiteral
+            | AstType::NullLiteral
+            | AstType::NumericLiteral
+            | AstType::BigIntLiteral
+            | AstType::RegExpLiteral
+            | AstType::StringLiteral
+            | AstType::TemplateLiteral
+    )
 }
 
 /// Whether a node of this kind is a name of an import or export.
 pub fn is_module_name(kind: AstType) -> bool
     ensures { result ≡ is_module_name kind }
 {
-    kind == AstType::IdentifierName || kind == AstType::StringLiteral
+    matches!(kind, AstType::IdentifierName | AstType::StringLiteral)
 }
 
 /// Whether a node of this kind and text is a key of a member.
 pub fn is_key(kind: AstType, text: &str) -> bool
     ensures { result ≡ is_key kind (chars text.now) }
 {
-    kind == AstType::IdentifierName
-        || kind == AstType::PrivateIdentifier
+    matches!(kind, AstType::IdentifierName | AstType::PrivateIdentifier)
         || is_expression(kind, text)
 }
 
@@ -336,19 +341,23 @@ pub fn is_key(kind: AstType, text: &str) -> bool
 pub fn is_type_name(kind: AstType) -> bool
     ensures { result ≡ is_type_name kind }
 {
-    kind == AstType::IdentifierReference
-        || kind == AstType::TSQualifiedName
-        || kind == AstType::ThisExpression
+    matches!(
+        kind,
+        AstType::IdentifierReference | AstType::TSQualifiedName | AstType::ThisExpression
+    )
 }
 
 /// Whether a node of this kind is a binding pattern.
 pub fn is_pattern(kind: AstType) -> bool
     ensures { result ≡ is_pattern kind }
 {
-    kind == AstType::BindingIdentifier
-        || kind == AstType::ObjectPattern
-        || kind == AstType::ArrayPattern
-        || kind == AstType::AssignmentPattern
+    matches!(
+        kind,
+        AstType::BindingIdentifier
+            | AstType::ObjectPattern
+            | AstType::ArrayPattern
+            | AstType::AssignmentPattern
+    )
 }
 
 /// Whether a node of this kind is a target that takes one value.
@@ -357,10 +366,13 @@ pub fn is_simple_target(kind: AstType) -> bool
 {
     kind == AstType::IdentifierReference
         || is_member(kind)
-        || kind == AstType::TSAsExpression
-        || kind == AstType::TSSatisfiesExpression
-        || kind == AstType::TSTypeAssertion
-        || kind == AstType::TSNonNullExpression
+        || matches!(
+            kind,
+            AstType::TSAsExpression
+                | AstType::TSSatisfiesExpression
+                | AstType::TSTypeAssertion
+                | AstType::TSNonNullExpression
+        )
 }
 
 /// Whether a node of this kind is a target of an assignment.
@@ -368,8 +380,10 @@ pub fn is_target(kind: AstType) -> bool
     ensures { result ≡ is_target kind }
 {
     is_simple_target(kind)
-        || kind == AstType::ObjectAssignmentTarget
-        || kind == AstType::ArrayAssignmentTarget
+        || matches!(
+            kind,
+            AstType::ObjectAssignmentTarget | AstType::ArrayAssignmentTarget
+        )
 }
 
 /// Whether a node of this kind is a target, maybe with a default.
@@ -383,33 +397,42 @@ pub fn is_target_or_default(kind: AstType) -> bool
 pub fn is_signature(kind: AstType) -> bool
     ensures { result ≡ is_signature kind }
 {
-    kind == AstType::TSCallSignatureDeclaration
-        || kind == AstType::TSConstructSignatureDeclaration
-        || kind == AstType::TSPropertySignature
-        || kind == AstType::TSMethodSignature
-        || kind == AstType::TSIndexSignature
+    matches!(
+        kind,
+        AstType::TSCallSignatureDeclaration
+            | AstType::TSConstructSignatureDeclaration
+            | AstType::TSPropertySignature
+            | AstType::TSMethodSignature
+            | AstType::TSIndexSignature
+    )
 }
 
 /// Whether a node of this kind is a child of a JSX element.
 pub fn is_jsx_child(kind: AstType) -> bool
     ensures { result ≡ is_jsx_child kind }
 {
-    kind == AstType::JSXText
-        || kind == AstType::JSXElement
-        || kind == AstType::JSXFragment
-        || kind == AstType::JSXExpressionContainer
-        || kind == AstType::JSXSpreadChild
+    matches!(
+        kind,
+        AstType::JSXText
+            | AstType::JSXElement
+            | AstType::JSXFragment
+            | AstType::JSXExpressionContainer
+            | AstType::JSXSpreadChild
+    )
 }
 
 /// Whether a node of this kind is a name of a JSX element.
 pub fn is_jsx_name(kind: AstType) -> bool
     ensures { result ≡ is_jsx_name kind }
 {
-    kind == AstType::JSXIdentifier
-        || kind == AstType::IdentifierReference
-        || kind == AstType::JSXNamespacedName
-        || kind == AstType::JSXMemberExpression
-        || kind == AstType::ThisExpression
+    matches!(
+        kind,
+        AstType::JSXIdentifier
+            | AstType::IdentifierReference
+            | AstType::JSXNamespacedName
+            | AstType::JSXMemberExpression
+            | AstType::ThisExpression
+    )
 }
 
 /// Whether a node of this kind and text is how a `for` begins.
@@ -430,20 +453,26 @@ pub fn is_loop_left(kind: AstType) -> bool
 pub fn is_class_element(kind: AstType) -> bool
     ensures { result ≡ is_class_element kind }
 {
-    kind == AstType::MethodDefinition
-        || kind == AstType::PropertyDefinition
-        || kind == AstType::AccessorProperty
-        || kind == AstType::StaticBlock
-        || kind == AstType::TSIndexSignature
+    matches!(
+        kind,
+        AstType::MethodDefinition
+            | AstType::PropertyDefinition
+            | AstType::AccessorProperty
+            | AstType::StaticBlock
+            | AstType::TSIndexSignature
+    )
 }
 
 /// Whether a node of this kind is a specifier of an import.
 pub fn is_import_clause(kind: AstType) -> bool
     ensures { result ≡ is_import_clause kind }
 {
-    kind == AstType::ImportSpecifier
-        || kind == AstType::ImportDefaultSpecifier
-        || kind == AstType::ImportNamespaceSpecifier
+    matches!(
+        kind,
+        AstType::ImportSpecifier
+            | AstType::ImportDefaultSpecifier
+            | AstType::ImportNamespaceSpecifier
+    )
 }
 
 /// Whether a node of this kind and text is what `export default` takes.
@@ -451,9 +480,10 @@ pub fn is_default_export(kind: AstType, text: &str) -> bool
     ensures { result ≡ is_default_export kind (chars text.now) }
 {
     is_expression(kind, text)
-        || kind == AstType::Function
-        || kind == AstType::Class
-        || kind == AstType::TSInterfaceDeclaration
+        || matches!(
+            kind,
+            AstType::Function | AstType::Class | AstType::TSInterfaceDeclaration
+        )
 }
 
 /// Whether a node of this kind is the local name of an export.
@@ -467,14 +497,14 @@ pub fn is_export_local(kind: AstType) -> bool
 pub fn is_array_item(kind: AstType, text: &str) -> bool
     ensures { result ≡ is_array_item kind (chars text.now) }
 {
-    is_expression(kind, text) || kind == AstType::SpreadElement || kind == AstType::Elision
+    is_expression(kind, text) || matches!(kind, AstType::SpreadElement | AstType::Elision)
 }
 
 /// Whether a node of this kind is an item of an object.
 pub fn is_object_item(kind: AstType) -> bool
     ensures { result ≡ is_object_item kind }
 {
-    kind == AstType::ObjectProperty || kind == AstType::SpreadElement
+    matches!(kind, AstType::ObjectProperty | AstType::SpreadElement)
 }
 
 /// Whether a node of this kind and text is an argument of a call.
@@ -495,7 +525,7 @@ pub fn is_callee(kind: AstType, text: &str) -> bool
 pub fn is_chain_element(kind: AstType) -> bool
     ensures { result ≡ is_chain_element kind }
 {
-    kind == AstType::CallExpression || kind == AstType::TSNonNullExpression || is_member(kind)
+    matches!(kind, AstType::CallExpression | AstType::TSNonNullExpression) || is_member(kind)
 }
 
 /// Whether a node of this kind and text is the body of an arrow.
@@ -509,32 +539,37 @@ pub fn is_arrow_body(kind: AstType, text: &str) -> bool
 pub fn is_target_property(kind: AstType) -> bool
     ensures { result ≡ is_target_property kind }
 {
-    kind == AstType::AssignmentTargetPropertyIdentifier
-        || kind == AstType::AssignmentTargetPropertyProperty
+    matches!(
+        kind,
+        AstType::AssignmentTargetPropertyIdentifier | AstType::AssignmentTargetPropertyProperty
+    )
 }
 
 /// Whether a node of this kind is an attribute or a spread.
 pub fn is_jsx_attribute_item(kind: AstType) -> bool
     ensures { result ≡ is_jsx_attribute_item kind }
 {
-    kind == AstType::JSXAttribute || kind == AstType::JSXSpreadAttribute
+    matches!(kind, AstType::JSXAttribute | AstType::JSXSpreadAttribute)
 }
 
 /// Whether a node of this kind is the name of an attribute.
 pub fn is_jsx_attribute_name(kind: AstType) -> bool
     ensures { result ≡ is_jsx_attribute_name kind }
 {
-    kind == AstType::JSXIdentifier || kind == AstType::JSXNamespacedName
+    matches!(kind, AstType::JSXIdentifier | AstType::JSXNamespacedName)
 }
 
 /// Whether a node of this kind is the value of an attribute.
 pub fn is_jsx_attribute_value(kind: AstType) -> bool
     ensures { result ≡ is_jsx_attribute_value kind }
 {
-    kind == AstType::StringLiteral
-        || kind == AstType::JSXExpressionContainer
-        || kind == AstType::JSXElement
-        || kind == AstType::JSXFragment
+    matches!(
+        kind,
+        AstType::StringLiteral
+            | AstType::JSXExpressionContainer
+            | AstType::JSXElement
+            | AstType::JSXFragment
+    )
 }
 
 /// Whether a node of this kind and text is what JSX braces hold.
@@ -548,16 +583,20 @@ pub fn is_jsx_content(kind: AstType, text: &str) -> bool
 pub fn is_jsx_object(kind: AstType) -> bool
     ensures { result ≡ is_jsx_object kind }
 {
-    kind == AstType::IdentifierReference
-        || kind == AstType::JSXMemberExpression
-        || kind == AstType::ThisExpression
+    matches!(
+        kind,
+        AstType::IdentifierReference | AstType::JSXMemberExpression | AstType::ThisExpression
+    )
 }
 
 /// Whether a node of this kind is a qualifier of an import type.
 pub fn is_import_qualifier(kind: AstType) -> bool
     ensures { result ≡ is_import_qualifier kind }
 {
-    kind == AstType::IdentifierName || kind == AstType::TSImportTypeQualifiedName
+    matches!(
+        kind,
+        AstType::IdentifierName | AstType::TSImportTypeQualifiedName
+    )
 }
 
 /// Whether a node of this kind is what a literal type holds.
@@ -572,9 +611,10 @@ pub fn is_tuple_item(kind: AstType) -> bool
     ensures { result ≡ is_tuple_item kind }
 {
     is_type_kind(kind)
-        || kind == AstType::TSNamedTupleMember
-        || kind == AstType::TSOptionalType
-        || kind == AstType::TSRestType
+        || matches!(
+            kind,
+            AstType::TSNamedTupleMember | AstType::TSOptionalType | AstType::TSRestType
+        )
 }
 
 /// Whether a node of this kind is what a rest type holds.
@@ -588,7 +628,7 @@ pub fn is_rest_item(kind: AstType) -> bool
 pub fn is_predicate_name(kind: AstType) -> bool
     ensures { result ≡ is_predicate_name kind }
 {
-    kind == AstType::IdentifierName || kind == AstType::TSThisType
+    matches!(kind, AstType::IdentifierName | AstType::TSThisType)
 }
 
 /// Whether a node of this kind is what a type query asks of.
@@ -609,16 +649,20 @@ pub fn is_enum_member_name(kind: AstType) -> bool
 pub fn is_namespace_body(kind: AstType) -> bool
     ensures { result ≡ is_namespace_body kind }
 {
-    kind == AstType::TSModuleBlock || kind == AstType::TSNamespaceDeclaration
+    matches!(
+        kind,
+        AstType::TSModuleBlock | AstType::TSNamespaceDeclaration
+    )
 }
 
 /// Whether a node of this kind is what `import =` takes.
 pub fn is_import_equals_target(kind: AstType) -> bool
     ensures { result ≡ is_import_equals_target kind }
 {
-    kind == AstType::IdentifierReference
-        || kind == AstType::TSQualifiedName
-        || kind == AstType::TSExternalModuleReference
+    matches!(
+        kind,
+        AstType::IdentifierReference | AstType::TSQualifiedName | AstType::TSExternalModuleReference
+    )
 }
 
 /// Whether a node of this kind and text is of the class.
