@@ -1,8 +1,10 @@
 //! Which texts and marks each kind of node may have.
 
-ghost use Rattle.std.specs.Prelude.{◌≡◌};
+ghost use Rattle.std.specs.Prelude.{◌≡◌, ℕ, List, true, map};
+ghost use Rattle.std.specs.List.{list_any, list_all};
+ghost use Rattle.semantic_syntax.specs.Ascii.{is_ascii};
 ghost use Rattle.semantic_kinds.specs.Texts.{text_rule, is_word_of, may_have_text};
-ghost use Rattle.std.specs.Str.{chars};
+ghost use Rattle.std.specs.Str.{bytes_eq, chars};
 ghost use Rattle.semantic_kinds.specs.Allowed.{allowed_marks};
 
 use crate::class::is_word;
@@ -160,49 +162,33 @@ pub fn allowed_marks(kind: AstType) -> &'static [Mark]
     }
 }
 
+/// The words of a kind whose text is one of some words.
+fn words_of(kind: AstType) -> &'static [&'static str]
+    ensures words { (text : List ℕ) →
+        list_any (bytes_eq text) (map (λ word. word.now) result.now) ≡ is_word_of kind text }
+    ensures ascii { list_all is_ascii (map (λ word. word.now) result.now) ≡ true }
+{
+    match kind {
+        AstType::VariableDeclaration => &["var", "let", "const", "using", "await using"],
+        AstType::Function => &["declaration", "expression", "ts-declare", "ts-empty-body"],
+        AstType::FormalParameters => &["formal", "unique", "arrow", "signature"],
+        AstType::Class => &["declaration", "expression"],
+        AstType::MethodDefinition => &["constructor", "method", "get", "set"],
+        AstType::BooleanLiteral => &["true", "false"],
+        AstType::ObjectProperty => &["init", "get", "set"],
+        AstType::UnaryExpression => &["+", "-", "!", "~", "typeof", "void", "delete"],
+        AstType::UpdateExpression => &["++", "--"],
+        AstType::TSTypeOperator => &["keyof", "unique", "readonly"],
+        AstType::TSMethodSignature => &["method", "get", "set"],
+        _ => &[],
+    }
+}
+
 /// Whether the text is a word of a kind whose text is one of some words.
 pub fn is_word_of(kind: AstType, text: &str) -> bool
     ensures { result ≡ is_word_of kind (chars text.now) }
 {
-    match kind {
-        AstType::VariableDeclaration => is_word(text, "var")
-            || is_word(text, "let")
-            || is_word(text, "const")
-            || is_word(text, "using")
-            || is_word(text, "await using"),
-        AstType::Function => is_word(text, "declaration")
-            || is_word(text, "expression")
-            || is_word(text, "ts-declare")
-            || is_word(text, "ts-empty-body"),
-        AstType::FormalParameters => is_word(text, "formal")
-            || is_word(text, "unique")
-            || is_word(text, "arrow")
-            || is_word(text, "signature"),
-        AstType::Class => is_word(text, "declaration") || is_word(text, "expression"),
-        AstType::MethodDefinition => is_word(text, "constructor")
-            || is_word(text, "method")
-            || is_word(text, "get")
-            || is_word(text, "set"),
-        AstType::BooleanLiteral => is_word(text, "true") || is_word(text, "false"),
-        AstType::ObjectProperty => is_word(text, "init")
-            || is_word(text, "get")
-            || is_word(text, "set"),
-        AstType::UnaryExpression => is_word(text, "+")
-            || is_word(text, "-")
-            || is_word(text, "!")
-            || is_word(text, "~")
-            || is_word(text, "typeof")
-            || is_word(text, "void")
-            || is_word(text, "delete"),
-        AstType::UpdateExpression => is_word(text, "++") || is_word(text, "--"),
-        AstType::TSTypeOperator => is_word(text, "keyof")
-            || is_word(text, "unique")
-            || is_word(text, "readonly"),
-        AstType::TSMethodSignature => is_word(text, "method")
-            || is_word(text, "get")
-            || is_word(text, "set"),
-        _ => false,
-    }
+    words_of(kind).contains(&text)
 }
 
 /// Whether a node of the kind may have the text.

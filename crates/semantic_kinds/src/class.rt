@@ -260,7 +260,6 @@ pub fn is_statement_kind(kind: AstType) -> bool
 }
 
 /// Whether a text is this word.
-#[tactic(auto, using(crate::proofs::Words::words))]
 pub fn is_word(text: &str, word: &str) -> bool
     requires { is_ascii word.now ≡ true }
     ensures { result ≡ bytes_eq (chars text.now) word.now }
