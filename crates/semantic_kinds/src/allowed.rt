@@ -91,7 +91,7 @@ pub fn allowed_marks(kind: AstType) -> &'static [Mark]
             Mark::Private,
             Mark::Protected,
         ],
-        AstType::PropertyDefinition => &[
+        AstType::PropertyDefinition | AstType::AccessorProperty => &[
             Mark::Declare,
             Mark::Static,
             Mark::Computed,
@@ -104,25 +104,12 @@ pub fn allowed_marks(kind: AstType) -> &'static [Mark]
             Mark::Private,
             Mark::Protected,
         ],
-        AstType::AccessorProperty => &[
-            Mark::Declare,
-            Mark::Static,
-            Mark::Computed,
-            Mark::Abstract,
-            Mark::Optional,
-            Mark::Definite,
-            Mark::Readonly,
-            Mark::Override,
-            Mark::Public,
-            Mark::Private,
-            Mark::Protected,
-        ],
-        AstType::ImportDeclaration => &[Mark::TypeOnly],
-        AstType::ImportSpecifier => &[Mark::TypeOnly],
-        AstType::ExportNamedDeclaration => &[Mark::TypeOnly],
-        AstType::ExportFromDeclaration => &[Mark::TypeOnly],
-        AstType::ExportAllDeclaration => &[Mark::TypeOnly],
-        AstType::ExportSpecifier => &[Mark::TypeOnly],
+        AstType::ImportDeclaration
+        | AstType::ImportSpecifier
+        | AstType::ExportNamedDeclaration
+        | AstType::ExportFromDeclaration
+        | AstType::ExportAllDeclaration
+        | AstType::ExportSpecifier => &[Mark::TypeOnly],
         AstType::NumericLiteral => &[
             Mark::Binary,
             Mark::Octal,
@@ -133,9 +120,9 @@ pub fn allowed_marks(kind: AstType) -> &'static [Mark]
         AstType::ObjectProperty => &[Mark::Method, Mark::Shorthand, Mark::Computed],
         AstType::CallExpression => &[Mark::Optional, Mark::Pure],
         AstType::NewExpression => &[Mark::Pure],
-        AstType::ComputedMemberExpression => &[Mark::Optional],
-        AstType::StaticMemberExpression => &[Mark::Optional],
-        AstType::PrivateFieldExpression => &[Mark::Optional],
+        AstType::ComputedMemberExpression
+        | AstType::StaticMemberExpression
+        | AstType::PrivateFieldExpression => &[Mark::Optional],
         AstType::UpdateExpression => &[Mark::Prefix],
         AstType::YieldExpression => &[Mark::Delegate],
         AstType::ArrowFunctionExpression => &[Mark::Async, Mark::Pure],
@@ -144,19 +131,17 @@ pub fn allowed_marks(kind: AstType) -> &'static [Mark]
         AstType::TSMappedType => &[Mark::Optional, Mark::Readonly],
         AstType::TSNamedTupleMember => &[Mark::Optional],
         AstType::TSTypePredicate => &[Mark::Asserts],
-        AstType::JSDocNullableType => &[Mark::Postfix],
-        AstType::JSDocNonNullableType => &[Mark::Postfix],
+        AstType::JSDocNullableType | AstType::JSDocNonNullableType => &[Mark::Postfix],
         AstType::TSTypeParameter => &[Mark::Const, Mark::In, Mark::Out],
         AstType::TSPropertySignature => &[Mark::Computed, Mark::Optional, Mark::Readonly],
         AstType::TSMethodSignature => &[Mark::Computed, Mark::Optional],
         AstType::TSIndexSignature => &[Mark::Static, Mark::Readonly],
-        AstType::TSTypeAliasDeclaration => &[Mark::Declare],
-        AstType::TSInterfaceDeclaration => &[Mark::Declare],
+        AstType::TSTypeAliasDeclaration | AstType::TSInterfaceDeclaration => &[Mark::Declare],
         AstType::TSEnumDeclaration => &[Mark::Declare, Mark::Const],
         AstType::TSEnumMember => &[Mark::Computed],
-        AstType::TSExternalModuleDeclaration => &[Mark::Declare],
-        AstType::TSNamespaceDeclaration => &[Mark::Declare],
-        AstType::TSGlobalDeclaration => &[Mark::Declare],
+        AstType::TSExternalModuleDeclaration
+        | AstType::TSNamespaceDeclaration
+        | AstType::TSGlobalDeclaration => &[Mark::Declare],
         AstType::TSImportEqualsDeclaration => &[Mark::TypeOnly],
         _ => &[],
     }

@@ -230,29 +230,7 @@ pub fn parts(kind: AstType) -> &'static [Part]
                 class: Class::Only(AstType::Function),
             },
         ],
-        AstType::PropertyDefinition => &[
-            Part {
-                role: Role::Decorators,
-                count: Count::AnyNumber,
-                class: Class::Only(AstType::Decorator),
-            },
-            Part {
-                role: Role::Key,
-                count: Count::One,
-                class: Class::Key,
-            },
-            Part {
-                role: Role::Annotation,
-                count: Count::AtMostOne,
-                class: Class::Only(AstType::TSTypeAnnotation),
-            },
-            Part {
-                role: Role::Value,
-                count: Count::AtMostOne,
-                class: Class::Expression,
-            },
-        ],
-        AstType::AccessorProperty => &[
+        AstType::PropertyDefinition | AstType::AccessorProperty => &[
             Part {
                 role: Role::Decorators,
                 count: Count::AnyNumber,

@@ -13,12 +13,12 @@ pub fn parts(kind: AstType) -> &'static [Part]
     ensures { result.now ≡ expression_parts kind }
 {
     match kind {
-        AstType::BooleanLiteral => &[],
-        AstType::NullLiteral => &[],
-        AstType::NumericLiteral => &[],
-        AstType::BigIntLiteral => &[],
-        AstType::RegExpLiteral => &[],
-        AstType::StringLiteral => &[],
+        AstType::BooleanLiteral
+        | AstType::NullLiteral
+        | AstType::NumericLiteral
+        | AstType::BigIntLiteral
+        | AstType::RegExpLiteral
+        | AstType::StringLiteral => &[],
         AstType::TemplateLiteral => &[
             Part {
                 role: Role::Quasis,
@@ -49,8 +49,7 @@ pub fn parts(kind: AstType) -> &'static [Part]
                 class: Class::Only(AstType::TemplateLiteral),
             },
         ],
-        AstType::ThisExpression => &[],
-        AstType::Super => &[],
+        AstType::ThisExpression | AstType::Super => &[],
         AstType::MetaProperty => &[
             Part {
                 role: Role::Meta,
@@ -91,24 +90,7 @@ pub fn parts(kind: AstType) -> &'static [Part]
                 class: Class::Expression,
             },
         ],
-        AstType::CallExpression => &[
-            Part {
-                role: Role::Callee,
-                count: Count::One,
-                class: Class::Callee,
-            },
-            Part {
-                role: Role::TypeArguments,
-                count: Count::AtMostOne,
-                class: Class::Only(AstType::TSTypeParameterInstantiation),
-            },
-            Part {
-                role: Role::Arguments,
-                count: Count::AnyNumber,
-                class: Class::Argument,
-            },
-        ],
-        AstType::NewExpression => &[
+        AstType::CallExpression | AstType::NewExpression => &[
             Part {
                 role: Role::Callee,
                 count: Count::One,
@@ -360,31 +342,7 @@ pub fn parts(kind: AstType) -> &'static [Part]
             count: Count::One,
             class: Class::Target,
         }],
-        AstType::TSAsExpression => &[
-            Part {
-                role: Role::Expression,
-                count: Count::One,
-                class: Class::Expression,
-            },
-            Part {
-                role: Role::Annotation,
-                count: Count::One,
-                class: Class::Type,
-            },
-        ],
-        AstType::TSSatisfiesExpression => &[
-            Part {
-                role: Role::Expression,
-                count: Count::One,
-                class: Class::Expression,
-            },
-            Part {
-                role: Role::Annotation,
-                count: Count::One,
-                class: Class::Type,
-            },
-        ],
-        AstType::TSTypeAssertion => &[
+        AstType::TSAsExpression | AstType::TSSatisfiesExpression | AstType::TSTypeAssertion => &[
             Part {
                 role: Role::Expression,
                 count: Count::One,
@@ -469,9 +427,8 @@ pub fn parts(kind: AstType) -> &'static [Part]
             count: Count::One,
             class: Class::JsxName,
         }],
-        AstType::JSXOpeningFragment => &[],
-        AstType::JSXClosingFragment => &[],
-        AstType::JSXEmptyExpression => &[],
+        AstType::JSXOpeningFragment | AstType::JSXClosingFragment | AstType::JSXEmptyExpression =>
+            &[],
         AstType::JSXAttribute => &[
             Part {
                 role: Role::Name,
@@ -499,8 +456,7 @@ pub fn parts(kind: AstType) -> &'static [Part]
             count: Count::One,
             class: Class::Expression,
         }],
-        AstType::JSXText => &[],
-        AstType::JSXIdentifier => &[],
+        AstType::JSXText | AstType::JSXIdentifier => &[],
         AstType::JSXNamespacedName => &[
             Part {
                 role: Role::Namespace,

@@ -42,12 +42,7 @@ pub fn parts(kind: AstType) -> &'static [Part]
                 class: Class::Only(AstType::BindingIdentifier),
             },
         ],
-        AstType::ImportDefaultSpecifier => &[Part {
-            role: Role::Local,
-            count: Count::One,
-            class: Class::Only(AstType::BindingIdentifier),
-        }],
-        AstType::ImportNamespaceSpecifier => &[Part {
+        AstType::ImportDefaultSpecifier | AstType::ImportNamespaceSpecifier => &[Part {
             role: Role::Local,
             count: Count::One,
             class: Class::Only(AstType::BindingIdentifier),

@@ -36,11 +36,11 @@ pub fn parts(kind: AstType) -> &'static [Part]
             count: Count::One,
             class: Class::Only(AstType::StringLiteral),
         }],
-        AstType::BindingIdentifier => &[],
-        AstType::IdentifierReference => &[],
-        AstType::IdentifierName => &[],
-        AstType::LabelIdentifier => &[],
-        AstType::PrivateIdentifier => &[],
+        AstType::BindingIdentifier
+        | AstType::IdentifierReference
+        | AstType::IdentifierName
+        | AstType::LabelIdentifier
+        | AstType::PrivateIdentifier => &[],
         AstType::FunctionBody => &[
             Part {
                 role: Role::Directives,
@@ -94,8 +94,7 @@ pub fn parts(kind: AstType) -> &'static [Part]
             count: Count::AnyNumber,
             class: Class::Statement,
         }],
-        AstType::EmptyStatement => &[],
-        AstType::DebuggerStatement => &[],
+        AstType::EmptyStatement | AstType::DebuggerStatement => &[],
         AstType::ExpressionStatement => &[Part {
             role: Role::Expression,
             count: Count::One,
@@ -164,7 +163,7 @@ pub fn parts(kind: AstType) -> &'static [Part]
                 class: Class::Statement,
             },
         ],
-        AstType::ForInStatement => &[
+        AstType::ForInStatement | AstType::ForOfStatement => &[
             Part {
                 role: Role::Left,
                 count: Count::One,
@@ -181,29 +180,7 @@ pub fn parts(kind: AstType) -> &'static [Part]
                 class: Class::Statement,
             },
         ],
-        AstType::ForOfStatement => &[
-            Part {
-                role: Role::Left,
-                count: Count::One,
-                class: Class::LoopLeft,
-            },
-            Part {
-                role: Role::Right,
-                count: Count::One,
-                class: Class::Expression,
-            },
-            Part {
-                role: Role::Body,
-                count: Count::One,
-                class: Class::Statement,
-            },
-        ],
-        AstType::ContinueStatement => &[Part {
-            role: Role::Label,
-            count: Count::AtMostOne,
-            class: Class::Only(AstType::LabelIdentifier),
-        }],
-        AstType::BreakStatement => &[Part {
+        AstType::ContinueStatement | AstType::BreakStatement => &[Part {
             role: Role::Label,
             count: Count::AtMostOne,
             class: Class::Only(AstType::LabelIdentifier),

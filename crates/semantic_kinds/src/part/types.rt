@@ -13,27 +13,22 @@ pub fn parts(kind: AstType) -> &'static [Part]
     ensures { result.now ≡ type_parts kind }
 {
     match kind {
-        AstType::TSAnyKeyword => &[],
-        AstType::TSBigIntKeyword => &[],
-        AstType::TSBooleanKeyword => &[],
-        AstType::TSIntrinsicKeyword => &[],
-        AstType::TSNeverKeyword => &[],
-        AstType::TSNullKeyword => &[],
-        AstType::TSNumberKeyword => &[],
-        AstType::TSObjectKeyword => &[],
-        AstType::TSStringKeyword => &[],
-        AstType::TSSymbolKeyword => &[],
-        AstType::TSUndefinedKeyword => &[],
-        AstType::TSUnknownKeyword => &[],
-        AstType::TSVoidKeyword => &[],
-        AstType::TSThisType => &[],
-        AstType::JSDocUnknownType => &[],
-        AstType::TSArrayType => &[Part {
-            role: Role::Element,
-            count: Count::One,
-            class: Class::Type,
-        }],
-        AstType::TSParenthesizedType => &[Part {
+        AstType::TSAnyKeyword
+        | AstType::TSBigIntKeyword
+        | AstType::TSBooleanKeyword
+        | AstType::TSIntrinsicKeyword
+        | AstType::TSNeverKeyword
+        | AstType::TSNullKeyword
+        | AstType::TSNumberKeyword
+        | AstType::TSObjectKeyword
+        | AstType::TSStringKeyword
+        | AstType::TSSymbolKeyword
+        | AstType::TSUndefinedKeyword
+        | AstType::TSUnknownKeyword
+        | AstType::TSVoidKeyword
+        | AstType::TSThisType
+        | AstType::JSDocUnknownType => &[],
+        AstType::TSArrayType | AstType::TSParenthesizedType => &[Part {
             role: Role::Element,
             count: Count::One,
             class: Class::Type,
@@ -60,73 +55,10 @@ pub fn parts(kind: AstType) -> &'static [Part]
                 class: Class::Type,
             },
         ],
-        AstType::TSConstructorType => &[
-            Part {
-                role: Role::TypeParameters,
-                count: Count::AtMostOne,
-                class: Class::Only(AstType::TSTypeParameterDeclaration),
-            },
-            Part {
-                role: Role::This,
-                count: Count::AtMostOne,
-                class: Class::Only(AstType::TSThisParameter),
-            },
-            Part {
-                role: Role::Params,
-                count: Count::One,
-                class: Class::Only(AstType::FormalParameters),
-            },
-            Part {
-                role: Role::ReturnType,
-                count: Count::AtMostOne,
-                class: Class::Only(AstType::TSTypeAnnotation),
-            },
-        ],
-        AstType::TSFunctionType => &[
-            Part {
-                role: Role::TypeParameters,
-                count: Count::AtMostOne,
-                class: Class::Only(AstType::TSTypeParameterDeclaration),
-            },
-            Part {
-                role: Role::This,
-                count: Count::AtMostOne,
-                class: Class::Only(AstType::TSThisParameter),
-            },
-            Part {
-                role: Role::Params,
-                count: Count::One,
-                class: Class::Only(AstType::FormalParameters),
-            },
-            Part {
-                role: Role::ReturnType,
-                count: Count::AtMostOne,
-                class: Class::Only(AstType::TSTypeAnnotation),
-            },
-        ],
-        AstType::TSCallSignatureDeclaration => &[
-            Part {
-                role: Role::TypeParameters,
-                count: Count::AtMostOne,
-                class: Class::Only(AstType::TSTypeParameterDeclaration),
-            },
-            Part {
-                role: Role::This,
-                count: Count::AtMostOne,
-                class: Class::Only(AstType::TSThisParameter),
-            },
-            Part {
-                role: Role::Params,
-                count: Count::One,
-                class: Class::Only(AstType::FormalParameters),
-            },
-            Part {
-                role: Role::ReturnType,
-                count: Count::AtMostOne,
-                class: Class::Only(AstType::TSTypeAnnotation),
-            },
-        ],
-        AstType::TSConstructSignatureDeclaration => &[
+        AstType::TSConstructorType
+        | AstType::TSFunctionType
+        | AstType::TSCallSignatureDeclaration
+        | AstType::TSConstructSignatureDeclaration => &[
             Part {
                 role: Role::TypeParameters,
                 count: Count::AtMostOne,
@@ -199,12 +131,7 @@ pub fn parts(kind: AstType) -> &'static [Part]
             count: Count::One,
             class: Class::Only(AstType::TSTypeParameter),
         }],
-        AstType::TSIntersectionType => &[Part {
-            role: Role::Types,
-            count: Count::AtLeastOne,
-            class: Class::Type,
-        }],
-        AstType::TSUnionType => &[Part {
+        AstType::TSIntersectionType | AstType::TSUnionType => &[Part {
             role: Role::Types,
             count: Count::AtLeastOne,
             class: Class::Type,
@@ -321,12 +248,7 @@ pub fn parts(kind: AstType) -> &'static [Part]
                 class: Class::Only(AstType::TSTypeParameterInstantiation),
             },
         ],
-        AstType::JSDocNullableType => &[Part {
-            role: Role::Element,
-            count: Count::One,
-            class: Class::Type,
-        }],
-        AstType::JSDocNonNullableType => &[Part {
+        AstType::JSDocNullableType | AstType::JSDocNonNullableType => &[Part {
             role: Role::Element,
             count: Count::One,
             class: Class::Type,

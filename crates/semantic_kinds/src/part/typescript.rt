@@ -57,19 +57,7 @@ pub fn parts(kind: AstType) -> &'static [Part]
             count: Count::AnyNumber,
             class: Class::Signature,
         }],
-        AstType::TSInterfaceHeritage => &[
-            Part {
-                role: Role::Name,
-                count: Count::One,
-                class: Class::TypeName,
-            },
-            Part {
-                role: Role::TypeArguments,
-                count: Count::AtMostOne,
-                class: Class::Only(AstType::TSTypeParameterInstantiation),
-            },
-        ],
-        AstType::TSClassImplements => &[
+        AstType::TSInterfaceHeritage | AstType::TSClassImplements => &[
             Part {
                 role: Role::Name,
                 count: Count::One,
