@@ -1,8 +1,5 @@
 -- Each kind is found by its name, and by its number.
-use Rattle.std.proofs.Common.{◌≡◌, ℕ, List, Some, map, slice_get, slice_index_or, refl, sym, ap, ◌∙◌}
-use Rattle.std.proofs.Math.ListN.{get_or-map}
-use Rattle.std.proofs.lemmas.Option.{slice_get-map, get_or_from_slice_get}
-use Rattle.std.specs.Prelude.{option_map}
+use Rattle.std.proofs.Common.{◌≡◌, Some, slice_get, refl}
 use Rattle.semantic_kinds.specs.Kinds.{kind_name, kind_named, kind_number, all_kinds}
 use Rattle.semantic_kinds.specs.declared.kind.AstType.{AstType}
 use Rattle.semantic_kinds.specs.declared.kind.AstType.TheVariants as kind
@@ -392,9 +389,3 @@ kind_in_place kind.TSImportEqualsDeclaration = refl
 kind_in_place kind.TSExternalModuleReference = refl
 kind_in_place kind.TSExportAssignment = refl
 kind_in_place kind.TSNamespaceExportDeclaration = refl
-
--- in a table that has the names in the order of the kinds, the name of a kind stands at its number
-pub name_in_place : {X : Type 0} (shown : X → List ℕ) (table : List X) (n : ℕ) (d : X) (one : AstType) → n ≡ kind_number one → map shown table ≡ map kind_name all_kinds → shown (slice_index_or table n d) ≡ kind_name one
-name_in_place shown table n d one e same =
-    let there : slice_get (map kind_name all_kinds) (kind_number one) ≡ Some (kind_name one) = slice_get-map kind_name all_kinds (kind_number one) ∙ ap (option_map kind_name) (kind_in_place one) in
-    sym (get_or-map shown table n d) ∙ ap (λ names. slice_index_or names n (shown d)) same ∙ ap (λ i. slice_index_or (map kind_name all_kinds) i (shown d)) e ∙ get_or_from_slice_get (map kind_name all_kinds) (kind_number one) (kind_name one) (shown d) there

@@ -1,4 +1,5 @@
 pub mod Words
+mod Named
 pub mod KindNames
 pub mod RoleNames
 pub mod MarkNames

@@ -1,8 +1,10 @@
--- Each role is found by its name.
-use Rattle.std.proofs.Common.{◌≡◌, Some, refl}
-use Rattle.semantic_kinds.specs.Roles.{role_name, role_named}
+-- Each role is found by its name, and stands in its place.
+use Rattle.std.proofs.Common.{◌≡◌, Some, slice_get, refl}
+use denote.Enum.Declared.{tag_of}
+use Rattle.semantic_kinds.specs.Roles.{all_roles, role_name, role_named}
 use Rattle.semantic_kinds.specs.declared.role.Role.{Role}
 use Rattle.semantic_kinds.specs.declared.role.Role.TheVariants as role
+use Rattle.semantic_kinds.specs.contracts.role.Role.{the_type as the_roles}
 
 pub role_named-role_name : (one : Role) → role_named (role_name one) ≡ Some one
 unfolding role_named
@@ -87,3 +89,87 @@ role_named-role_name role.Members = refl
 role_named-role_name role.Default = refl
 role_named-role_name role.Parameters = refl
 role_named-role_name role.Reference = refl
+
+-- each role stands in its place
+pub role_in_place : (one : Role) → slice_get all_roles (tag_of the_roles one) ≡ Some one
+role_in_place role.Root = refl
+role_in_place role.Hashbang = refl
+role_in_place role.Directives = refl
+role_in_place role.Body = refl
+role_in_place role.Expression = refl
+role_in_place role.Test = refl
+role_in_place role.Consequent = refl
+role_in_place role.Param = refl
+role_in_place role.Pattern = refl
+role_in_place role.Annotation = refl
+role_in_place role.Alternate = refl
+role_in_place role.Init = refl
+role_in_place role.Update = refl
+role_in_place role.Left = refl
+role_in_place role.Right = refl
+role_in_place role.Label = refl
+role_in_place role.Argument = refl
+role_in_place role.Object = refl
+role_in_place role.Discriminant = refl
+role_in_place role.Cases = refl
+role_in_place role.Block = refl
+role_in_place role.Handler = refl
+role_in_place role.Finalizer = refl
+role_in_place role.Declarators = refl
+role_in_place role.Id = refl
+role_in_place role.TypeParameters = refl
+role_in_place role.This = refl
+role_in_place role.Params = refl
+role_in_place role.ReturnType = refl
+role_in_place role.Items = refl
+role_in_place role.Rest = refl
+role_in_place role.Decorators = refl
+role_in_place role.Initializer = refl
+role_in_place role.Properties = refl
+role_in_place role.Key = refl
+role_in_place role.Value = refl
+role_in_place role.Elements = refl
+role_in_place role.Heritage = refl
+role_in_place role.TypeArguments = refl
+role_in_place role.Implements = refl
+role_in_place role.Specifiers = refl
+role_in_place role.Source = refl
+role_in_place role.Attributes = refl
+role_in_place role.Imported = refl
+role_in_place role.Local = refl
+role_in_place role.Entries = refl
+role_in_place role.Declaration = refl
+role_in_place role.Exported = refl
+role_in_place role.Quasis = refl
+role_in_place role.Expressions = refl
+role_in_place role.Tag = refl
+role_in_place role.Quasi = refl
+role_in_place role.Meta = refl
+role_in_place role.Property = refl
+role_in_place role.Callee = refl
+role_in_place role.Arguments = refl
+role_in_place role.Options = refl
+role_in_place role.Field = refl
+role_in_place role.Binding = refl
+role_in_place role.Opening = refl
+role_in_place role.Children = refl
+role_in_place role.Closing = refl
+role_in_place role.Name = refl
+role_in_place role.Namespace = refl
+role_in_place role.Element = refl
+role_in_place role.Check = refl
+role_in_place role.Extends = refl
+role_in_place role.True = refl
+role_in_place role.False = refl
+role_in_place role.Qualifier = refl
+role_in_place role.Index = refl
+role_in_place role.Parameter = refl
+role_in_place role.Types = refl
+role_in_place role.Literal = refl
+role_in_place role.Constraint = refl
+role_in_place role.NameType = refl
+role_in_place role.ValueType = refl
+role_in_place role.Members = refl
+role_in_place role.Default = refl
+role_in_place role.Parameters = refl
+role_in_place role.Reference = refl

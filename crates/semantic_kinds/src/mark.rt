@@ -1,6 +1,6 @@
 //! The marks of nodes.
 
-ghost use Rattle.std.specs.Prelude.{◌≡◌, find};
+ghost use Rattle.std.specs.Prelude.{◌≡◌, map, find};
 ghost use Rattle.std.specs.Str.{bytes_eq};
 ghost use Rattle.semantic_kinds.specs.Marks.{mark_name, mark_named, mark_bit, all_marks};
 
@@ -40,6 +40,40 @@ pub enum Mark {
     Hex,
     Float,
 }
+
+/// The names of the marks, in their order.
+static NAMES: [&str; 30] = [
+    "async",
+    "generator",
+    "declare",
+    "pure",
+    "static",
+    "computed",
+    "abstract",
+    "optional",
+    "definite",
+    "readonly",
+    "override",
+    "public",
+    "private",
+    "protected",
+    "method",
+    "shorthand",
+    "prefix",
+    "delegate",
+    "await",
+    "type",
+    "const",
+    "in",
+    "out",
+    "asserts",
+    "postfix",
+    "binary",
+    "octal",
+    "decimal",
+    "hex",
+    "float",
+];
 
 impl Mark {
     pub const ALL: [Mark; 30] = [
@@ -86,38 +120,7 @@ impl Mark {
     pub fn name(self) -> &'static str
         ensures { result.now ≡ mark_name self }
     {
-        match self {
-            Mark::Async => "async",
-            Mark::Generator => "generator",
-            Mark::Declare => "declare",
-            Mark::Pure => "pure",
-            Mark::Static => "static",
-            Mark::Computed => "computed",
-            Mark::Abstract => "abstract",
-            Mark::Optional => "optional",
-            Mark::Definite => "definite",
-            Mark::Readonly => "readonly",
-            Mark::Override => "override",
-            Mark::Public => "public",
-            Mark::Private => "private",
-            Mark::Protected => "protected",
-            Mark::Method => "method",
-            Mark::Shorthand => "shorthand",
-            Mark::Prefix => "prefix",
-            Mark::Delegate => "delegate",
-            Mark::Await => "await",
-            Mark::TypeOnly => "type",
-            Mark::Const => "const",
-            Mark::In => "in",
-            Mark::Out => "out",
-            Mark::Asserts => "asserts",
-            Mark::Postfix => "postfix",
-            Mark::Binary => "binary",
-            Mark::Octal => "octal",
-            Mark::Decimal => "decimal",
-            Mark::Hex => "hex",
-            Mark::Float => "float",
-        }
+        names()[self as usize]
     }
 
     /// The mark of a name, if there is one.
@@ -164,6 +167,13 @@ impl Mark {
             Mark::Float => 0x20000000,
         }
     }
+}
+
+/// The names of the marks, in their order.
+fn names() -> &'static [&'static str; 30]
+    ensures { map (λ name. name.now) result.now ≡ map mark_name all_marks }
+{
+    &NAMES
 }
 
 /// The first of these marks that has the name.

@@ -1,6 +1,6 @@
 //! The roles of children.
 
-ghost use Rattle.std.specs.Prelude.{◌≡◌, find};
+ghost use Rattle.std.specs.Prelude.{◌≡◌, map, find};
 ghost use Rattle.std.specs.Str.{bytes_eq};
 ghost use Rattle.semantic_kinds.specs.Roles.{role_name, role_named, all_roles};
 
@@ -91,6 +91,91 @@ pub enum Role {
     Parameters,
     Reference,
 }
+
+/// The names of the roles, in their order.
+static NAMES: [&str; 81] = [
+    "root",
+    "hashbang",
+    "directives",
+    "body",
+    "expression",
+    "test",
+    "consequent",
+    "param",
+    "pattern",
+    "type",
+    "alternate",
+    "init",
+    "update",
+    "left",
+    "right",
+    "label",
+    "argument",
+    "object",
+    "discriminant",
+    "cases",
+    "block",
+    "handler",
+    "finalizer",
+    "declarators",
+    "id",
+    "typeParameters",
+    "this",
+    "params",
+    "returnType",
+    "items",
+    "rest",
+    "decorators",
+    "initializer",
+    "properties",
+    "key",
+    "value",
+    "elements",
+    "heritage",
+    "typeArguments",
+    "implements",
+    "specifiers",
+    "source",
+    "attributes",
+    "imported",
+    "local",
+    "entries",
+    "declaration",
+    "exported",
+    "quasis",
+    "expressions",
+    "tag",
+    "quasi",
+    "meta",
+    "property",
+    "callee",
+    "arguments",
+    "options",
+    "field",
+    "binding",
+    "opening",
+    "children",
+    "closing",
+    "name",
+    "namespace",
+    "element",
+    "check",
+    "extends",
+    "true",
+    "false",
+    "qualifier",
+    "index",
+    "parameter",
+    "types",
+    "literal",
+    "constraint",
+    "nameType",
+    "valueType",
+    "members",
+    "default",
+    "parameters",
+    "reference",
+];
 
 impl Role {
     pub const ALL: [Role; 81] = [
@@ -188,89 +273,7 @@ impl Role {
     pub fn name(self) -> &'static str
         ensures { result.now ≡ role_name self }
     {
-        match self {
-            Role::Root => "root",
-            Role::Hashbang => "hashbang",
-            Role::Directives => "directives",
-            Role::Body => "body",
-            Role::Expression => "expression",
-            Role::Test => "test",
-            Role::Consequent => "consequent",
-            Role::Param => "param",
-            Role::Pattern => "pattern",
-            Role::Annotation => "type",
-            Role::Alternate => "alternate",
-            Role::Init => "init",
-            Role::Update => "update",
-            Role::Left => "left",
-            Role::Right => "right",
-            Role::Label => "label",
-            Role::Argument => "argument",
-            Role::Object => "object",
-            Role::Discriminant => "discriminant",
-            Role::Cases => "cases",
-            Role::Block => "block",
-            Role::Handler => "handler",
-            Role::Finalizer => "finalizer",
-            Role::Declarators => "declarators",
-            Role::Id => "id",
-            Role::TypeParameters => "typeParameters",
-            Role::This => "this",
-            Role::Params => "params",
-            Role::ReturnType => "returnType",
-            Role::Items => "items",
-            Role::Rest => "rest",
-            Role::Decorators => "decorators",
-            Role::Initializer => "initializer",
-            Role::Properties => "properties",
-            Role::Key => "key",
-            Role::Value => "value",
-            Role::Elements => "elements",
-            Role::Heritage => "heritage",
-            Role::TypeArguments => "typeArguments",
-            Role::Implements => "implements",
-            Role::Specifiers => "specifiers",
-            Role::Source => "source",
-            Role::Attributes => "attributes",
-            Role::Imported => "imported",
-            Role::Local => "local",
-            Role::Entries => "entries",
-            Role::Declaration => "declaration",
-            Role::Exported => "exported",
-            Role::Quasis => "quasis",
-            Role::Expressions => "expressions",
-            Role::Tag => "tag",
-            Role::Quasi => "quasi",
-            Role::Meta => "meta",
-            Role::Property => "property",
-            Role::Callee => "callee",
-            Role::Arguments => "arguments",
-            Role::Options => "options",
-            Role::Field => "field",
-            Role::Binding => "binding",
-            Role::Opening => "opening",
-            Role::Children => "children",
-            Role::Closing => "closing",
-            Role::Name => "name",
-            Role::Namespace => "namespace",
-            Role::Element => "element",
-            Role::Check => "check",
-            Role::Extends => "extends",
-            Role::True => "true",
-            Role::False => "false",
-            Role::Qualifier => "qualifier",
-            Role::Index => "index",
-            Role::Parameter => "parameter",
-            Role::Types => "types",
-            Role::Literal => "literal",
-            Role::Constraint => "constraint",
-            Role::NameType => "nameType",
-            Role::ValueType => "valueType",
-            Role::Members => "members",
-            Role::Default => "default",
-            Role::Parameters => "parameters",
-            Role::Reference => "reference",
-        }
+        names()[self as usize]
     }
 
     /// The role of a name, if there is one.
@@ -279,6 +282,13 @@ impl Role {
     {
         named_among(roles_of_length(text.len()), text)
     }
+}
+
+/// The names of the roles, in their order.
+fn names() -> &'static [&'static str; 81]
+    ensures { map (λ name. name.now) result.now ≡ map role_name all_roles }
+{
+    &NAMES
 }
 
 /// The first of these roles that has the name.
