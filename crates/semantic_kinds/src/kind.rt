@@ -396,6 +396,13 @@ static NAMES: [&str; 190] = [
     "TSNamespaceExportDeclaration",
 ];
 
+/// The names of the kinds, in their order.
+fn names() -> &'static [&'static str; 190]
+    ensures { map (λ name. name.now) result.now ≡ map kind_name all_kinds }
+{
+    &NAMES
+}
+
 impl AstType {
     pub const ALL: [AstType; 190] = [
         AstType::Program,
@@ -633,13 +640,6 @@ impl fmt::Debug for AstType {
     fn fmt<W: fmt::Write>(&self, f: &mut fmt::Formatter<W>) -> fmt::Result {
         f.write_str(self.name())
     }
-}
-
-/// The names of the kinds, in their order.
-fn names() -> &'static [&'static str; 190]
-    ensures { map (λ name. name.now) result.now ≡ map kind_name all_kinds }
-{
-    &NAMES
 }
 
 /// The first of these kinds that has the name.

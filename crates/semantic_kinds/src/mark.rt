@@ -75,6 +75,13 @@ static NAMES: [&str; 30] = [
     "float",
 ];
 
+/// The names of the marks, in their order.
+fn names() -> &'static [&'static str; 30]
+    ensures { map (λ name. name.now) result.now ≡ map mark_name all_marks }
+{
+    &NAMES
+}
+
 impl Mark {
     pub const ALL: [Mark; 30] = [
         Mark::Async,
@@ -167,13 +174,6 @@ impl Mark {
             Mark::Float => 0x20000000,
         }
     }
-}
-
-/// The names of the marks, in their order.
-fn names() -> &'static [&'static str; 30]
-    ensures { map (λ name. name.now) result.now ≡ map mark_name all_marks }
-{
-    &NAMES
 }
 
 /// The first of these marks that has the name.

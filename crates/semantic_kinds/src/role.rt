@@ -177,6 +177,13 @@ static NAMES: [&str; 81] = [
     "reference",
 ];
 
+/// The names of the roles, in their order.
+fn names() -> &'static [&'static str; 81]
+    ensures { map (λ name. name.now) result.now ≡ map role_name all_roles }
+{
+    &NAMES
+}
+
 impl Role {
     pub const ALL: [Role; 81] = [
         Role::Root,
@@ -282,13 +289,6 @@ impl Role {
     {
         named_among(roles_of_length(text.len()), text)
     }
-}
-
-/// The names of the roles, in their order.
-fn names() -> &'static [&'static str; 81]
-    ensures { map (λ name. name.now) result.now ≡ map role_name all_roles }
-{
-    &NAMES
 }
 
 /// The first of these roles that has the name.
