@@ -7,6 +7,7 @@ pub mod Readings
 pub mod Outcomes
 pub mod Numbering
 pub mod Items
+pub mod Steps
 pub mod Completes
 pub mod Finds
 pub mod Ends

@@ -1,5 +1,5 @@
 //! From bytes to a program.
-ghost use Rattle.std.specs.Prelude.{◌≡◌, Some, None, ◌<◌, ◌≤◌, ◌-◌, ◌^◌, Ok, length, IfOk, IfErr, IfSome, IsFalse};
+ghost use Rattle.std.specs.Prelude.{◌≡◌, Some, None, ◌<◌, ◌≤◌, ◌-◌, ◌^◌, Ok, length, map, IfOk, IfErr, IfSome, IsTrue, IsFalse, false};
 ghost use Rattle.std.specs.Str.{IsUtf8, chars};
 ghost use Rattle.serde_json.specs.Data.{Data};
 ghost use Rattle.serde_json.specs.Read.{read};
@@ -10,9 +10,10 @@ ghost use Rattle.semantic_tree.specs.Faults.{first_fault};
 ghost use Rattle.semantic_tree.specs.Shaped.{IsShaped};
 ghost use Rattle.semantic_tree.specs.declared.error.TreeError.TheVariants.{NotJson};
 ghost use Rattle.tree_json.specs.Lines.{listing};
+ghost use Rattle.tree_json.specs.Listing.{line, IsListing};
 ghost use Rattle.tree_json.specs.Views.{top_view, texts_view, parts_view};
 ghost use Rattle.tree_json.specs.Outcome.{Gives, IsWantOfMemory};
-ghost use Rattle.tree_json.specs.Reading.{value_in, lines_with, lines_in, listed_of, listed_in, reading, listed, are_too_many, Refuses};
+ghost use Rattle.tree_json.specs.Reading.{value_in, lines_with, lines_in, listed_of, listed_in, reading, listed, are_too_many, shallow_from, Refuses};
 ghost use Rattle.tree_json.specs.Pulled.{IsPulled};
 
 use crate::build::tree_of;
@@ -97,20 +98,46 @@ fn parts_at_once(alloc: Global, bytes: &[u8]) -> Result<Option<Parts>, AllocErro
 fn parts_of_pulled(alloc: Global, top: Pulled<'_>) -> Result<Option<Parts>, AllocError>
     ensures { IfOk result (λ o. IfSome o (λ parts. (d : Data) → IsPulled d top.entry → listed_in d ≡ Ok (parts_view parts))) }
 {
-    if top.rows.is_empty()
-        || are_too_many(top.rows.len(), top.comments.len(), top.source)
-        || !are_listed(&top.rows)
-    {
+    if !lists_tree(&top) {
         return Ok(None);
     }
     let root = tree_of(alloc, &top.rows)?;
-    let source = Text::new(alloc, top.source)?;
-    Ok(Some(Parts {
+    let parts = parts_with(alloc, top.source, top.source_type, top.comments, root)?;
+    Ok(Some(parts))
+}
+
+/// Whether what was pulled is within the limits, and its rows list a tree.
+fn lists_tree(top: &Pulled<'_>) -> bool
+    ensures some { IsTrue result → 0 < length top.now.rows.items }
+    ensures few { IsTrue result
+        → are_too_many (length top.now.rows.items) (length top.now.comments.items) (chars top.now.source.now) ≡ false }
+    ensures listed { IsTrue result → IsListing (map line top.now.rows.items)
+        × (shallow_from 0 (map line top.now.rows.items) ≡ Ok tt) }
+{
+    !top.rows.is_empty()
+        && !are_too_many(top.rows.len(), top.comments.len(), top.source)
+        && are_listed(&top.rows)
+}
+
+/// The parts with a text of their own. They are put together here alone, so that no other step has to
+/// give them back where it fails.
+fn parts_with(
+    alloc: Global,
+    source: &str,
+    source_type: SourceType,
+    comments: Vec<Comment>,
+    root: Node,
+) -> Result<Parts, AllocError>
+    ensures { IfOk result (λ parts. parts_view parts
+        ≡ record { source = chars source.now; source_type = source_type; comments = comments.items; lines = listing root }) }
+{
+    let source = Text::new(alloc, source)?;
+    Ok(Parts {
         source,
-        source_type: top.source_type,
-        comments: top.comments,
+        source_type,
+        comments,
         root,
-    }))
+    })
 }
 
 /// The program of these parts, if it has no fault.
@@ -158,13 +185,8 @@ fn parts_of_top(alloc: Global, top: &Top<'_>) -> Result<Parts, TreeError>
 {
     let comments = comments_of(alloc, top.comments)?;
     let root = root_of(alloc, top, comments.len())?;
-    let source = Text::new(alloc, top.source)?;
-    Ok(Parts {
-        source,
-        source_type: top.source_type,
-        comments,
-        root,
-    })
+    let parts = parts_with(alloc, top.source, top.source_type, comments, root)?;
+    Ok(parts)
 }
 
 /// The root of a top object with so many comments.

@@ -1,16 +1,17 @@
 //! From a program to its written forms.
-ghost use Rattle.std.specs.Prelude.{◌≡◌, Ok, None, codes, map, IfOk};
-ghost use Rattle.serde_json.specs.View.{view as data_of, items_of};
-ghost use Rattle.serde_json.specs.Data.{array, no_members, member};
+ghost use Rattle.std.specs.Prelude.{◌≡◌, Ok, None, codes, map, IfOk, OnOk};
+ghost use Rattle.serde_json.specs.View.{view as data_of, items_of, members_view};
+ghost use Rattle.serde_json.specs.Data.{array, string, number, unsigned, no_members, put};
 ghost use Rattle.serde_json.specs.Written.{compact_text};
 ghost use Rattle.semantic_tree.specs.Shaped.{IsShaped};
 ghost use Rattle.tree_json.specs.Form.{in_rows, in_list};
 ghost use Rattle.tree_json.specs.Lines.{listing};
 ghost use Rattle.tree_json.specs.Listing.{line};
+ghost use Rattle.tree_json.specs.Top.{goal_name, lang_name};
 ghost use Rattle.tree_json.specs.Views.{characters, places_view, IsSpelled, AreSpelled};
 ghost use Rattle.tree_json.specs.Reading.{reading, listed};
 ghost use Rattle.tree_json.specs.WrittenForm.{AreWrittenForm};
-ghost use Rattle.tree_json.specs.Written.{texts_of, comment_data, rows_data, text_data, object_data, program_data, Each, IsReadable};
+ghost use Rattle.tree_json.specs.Written.{texts_of, comment_data, rows_data, text_data, object_data, program_data, texts_member, Each, IsReadable};
 
 use crate::list::push_rows;
 use crate::places::{TextPlaces, texts_of};
@@ -21,7 +22,7 @@ use indexmap::IndexSet;
 use semantic_kinds::role::Role;
 use semantic_syntax::SourceType;
 use semantic_tree::program::Program;
-use serde_json::{Value, json};
+use serde_json::{Map, Value};
 use std::alloc::{AllocError, Global};
 
 /// The parts of a written form that differ from program to program, as JSON values.
@@ -93,8 +94,7 @@ fn value_with_texts(
     ensures readable { IfOk result (λ v. IsReadable (in_list (map characters texts.now.keys)) program.now) }
 {
     let parts = parts_of(alloc, program, TextPlaces::InSet(texts), rows)?;
-    let texts = Value::Array(text_values(alloc, texts.as_slice())?);
-    object_with_texts(alloc, program.source_type(), parts, texts)
+    object_with_texts(alloc, program.source_type(), parts, texts.as_slice())
 }
 
 /// The parts of a program's written form, whose rows are these and tell their texts so.
@@ -127,33 +127,70 @@ fn plain_object(alloc: Global, source_type: SourceType, parts: Parts) -> Result<
     ensures { IfOk result (λ v. data_of v ≡ object_data 1 source_type
         (data_of parts.comments) (data_of parts.rows) (data_of parts.source) no_members) }
 {
-    json!(in alloc; {
-        "comments": parts.comments,
-        "format": 1u64,
-        "goal": goal_name(source_type.goal),
-        "lang": lang_name(source_type.lang),
-        "rows": parts.rows,
-        "source": parts.source,
-    })
+    let mut members = Map::new(alloc);
+    put_parts(&mut members, alloc, parts)?;
+    put_type(&mut members, alloc, 1, source_type)?;
+    Ok(Value::Object(members))
 }
 
 fn object_with_texts(
     alloc: Global,
     source_type: SourceType,
     parts: Parts,
-    texts: Value,
+    texts: &[&str],
 ) -> Result<Value, AllocError>
     ensures { IfOk result (λ v. data_of v ≡ object_data 2 source_type
         (data_of parts.comments) (data_of parts.rows) (data_of parts.source)
-        (member (codes "texts") (data_of texts) no_members)) }
+        (texts_member (in_list (map characters texts.now)))) }
 {
-    json!(in alloc; {
-        "comments": parts.comments,
-        "format": 2u64,
-        "goal": goal_name(source_type.goal),
-        "lang": lang_name(source_type.lang),
-        "rows": parts.rows,
-        "source": parts.source,
-        "texts": texts,
-    })
+    let mut members = Map::new(alloc);
+    put_parts(&mut members, alloc, parts)?;
+    put_type(&mut members, alloc, 2, source_type)?;
+    let texts = Value::Array(text_values(alloc, texts)?);
+    serde_json::put(&mut members, alloc, "texts", texts)?;
+    Ok(Value::Object(members))
+}
+
+/// Puts the parts in. They are owned here alone, so that no other step has to give them back where
+/// it fails.
+fn put_parts(
+    members: &mut Map<String, Value>,
+    alloc: Global,
+    parts: Parts,
+) -> Result<(), AllocError>
+    ensures { OnOk result (members_view members.new.entries
+        ≡ put (codes "source") (data_of parts.source) (put (codes "rows") (data_of parts.rows)
+        (put (codes "comments") (data_of parts.comments) (members_view members.old.entries)))) }
+{
+    serde_json::put(members, alloc, "comments", parts.comments)?;
+    serde_json::put(members, alloc, "rows", parts.rows)?;
+    serde_json::put(members, alloc, "source", parts.source)
+}
+
+/// Puts the format and the type of the source in.
+fn put_type(
+    members: &mut Map<String, Value>,
+    alloc: Global,
+    format: u64,
+    source_type: SourceType,
+) -> Result<(), AllocError>
+    ensures { OnOk result (members_view members.new.entries
+        ≡ put (codes "lang") (string (lang_name source_type.lang)) (put (codes "goal") (string (goal_name source_type.goal))
+        (put (codes "format") (number (unsigned format)) (members_view members.old.entries)))) }
+{
+    serde_json::put(members, alloc, "format", Value::from(format))?;
+    put_name(members, alloc, "goal", goal_name(source_type.goal))?;
+    put_name(members, alloc, "lang", lang_name(source_type.lang))
+}
+
+fn put_name(
+    members: &mut Map<String, Value>,
+    alloc: Global,
+    key: &str,
+    name: &str,
+) -> Result<(), AllocError>
+    ensures { OnOk result (members_view members.new.entries
+        ≡ put key.now (string name.now) (members_view members.old.entries)) }
+{
+    serde_json::put(members, alloc, key, Value::try_from_str(alloc, name)?)
 }
