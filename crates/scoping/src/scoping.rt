@@ -121,12 +121,28 @@ impl Scoping {
     ) -> Result<(), AllocError>
         ensures { self.new ≡ self.old }
     {
-        self.names.reserve(symbols)?;
-        self.bindings.reserve(scopes, symbols)?;
+        self.reserve_scopes(scopes, symbols)?;
+        self.reserve_symbols(symbols)?;
+        self.references.reserve(references)?;
+        Ok(())
+    }
+
+    /// Makes room for more scopes, and for so many more bindings in all of them.
+    fn reserve_scopes(&mut self, scopes: usize, bindings: usize) -> Result<(), AllocError>
+        ensures { self.new ≡ self.old }
+    {
+        self.bindings.reserve(scopes, bindings)?;
         self.scopes.reserve(scopes)?;
+        Ok(())
+    }
+
+    /// Makes room for more symbols, with their names.
+    fn reserve_symbols(&mut self, symbols: usize) -> Result<(), AllocError>
+        ensures { self.new ≡ self.old }
+    {
+        self.names.reserve(symbols)?;
         self.symbols.reserve(symbols)?;
         self.uses.reserve(symbols)?;
-        self.references.reserve(references)?;
         Ok(())
     }
 

@@ -1,8 +1,71 @@
 //! Clones.
-ghost use Rattle.std.specs.Prelude.{◌≡◌, IfOk};
+ghost use Rattle.std.specs.Prelude.{◌≡◌, map, IfOk};
 
-use super::Scoping;
+use super::{ScopeRow, Scoping};
+use crate::binding_table::BindingTable;
+use crate::free_table::FreeTable;
+use crate::name_table::NameTable;
+use crate::symbol_row::SymbolRow;
+use semantic_syntax::{Reference, ReferenceId};
 use std::alloc::{AllocError, Global};
+
+/// The names, and what stands under their numbers.
+#[derive(Drop)]
+struct NamedTables {
+    names: NameTable,
+    bindings: BindingTable,
+    free: FreeTable,
+}
+
+impl NamedTables {
+    /// Clones of these tables.
+    fn cloned(
+        names: &NameTable,
+        bindings: &BindingTable,
+        free: &FreeTable,
+    ) -> Result<NamedTables, AllocError>
+        ensures names { IfOk result (λ t. t.names ≡ names.now) }
+        ensures bindings { IfOk result (λ t. t.bindings ≡ bindings.now) }
+        ensures free { IfOk result (λ t. t.free ≡ free.now) }
+    {
+        Ok(NamedTables {
+            names: names.clone()?,
+            bindings: bindings.clone()?,
+            free: free.clone()?,
+        })
+    }
+}
+
+/// The rows of scopes, symbols and references, and the list of uses of each symbol.
+#[derive(Drop)]
+struct Rows {
+    scopes: Vec<ScopeRow>,
+    symbols: Vec<SymbolRow>,
+    references: Vec<Reference>,
+    uses: Vec<Vec<ReferenceId>>,
+}
+
+impl Rows {
+    /// Clones of these rows and lists.
+    fn cloned(
+        scopes: &Vec<ScopeRow>,
+        symbols: &Vec<SymbolRow>,
+        references: &Vec<Reference>,
+        uses: &Vec<Vec<ReferenceId>>,
+    ) -> Result<Rows, AllocError>
+        ensures scopes { IfOk result (λ t. t.scopes.items ≡ scopes.now.items) }
+        ensures symbols { IfOk result (λ t. t.symbols.items ≡ symbols.now.items) }
+        ensures references { IfOk result (λ t. t.references.items ≡ references.now.items) }
+        ensures uses { IfOk result (λ t. map (λ v. v.items) t.uses.items ≡ map (λ v. v.items) uses.now.items) }
+    {
+        Ok(Rows {
+            scopes: scopes.clone()?,
+            symbols: symbols.clone()?,
+            references: references.clone()?,
+            uses: uses.clone()?,
+        })
+    }
+}
 
 impl Scoping {
     /// Equal tables, with memory of their own.
@@ -12,16 +75,19 @@ impl Scoping {
     ) -> Result<Scoping, AllocError>
         ensures { IfOk result (λ t. t ≡ self.now) }
     {
+        let named = NamedTables::cloned(&self.names, &self.bindings, &self.free)?;
+        let rows = Rows::cloned(&self.scopes, &self.symbols, &self.references, &self.uses)?;
+        let pure_symbols = self.pure_symbols.clone()?;
         Ok(Scoping {
             alloc,
-            names: self.names.clone()?,
-            scopes: self.scopes.clone()?,
-            bindings: self.bindings.clone()?,
-            symbols: self.symbols.clone()?,
-            references: self.references.clone()?,
-            uses: self.uses.clone()?,
-            free: self.free.clone()?,
-            pure_symbols: self.pure_symbols.clone()?,
+            names: named.names,
+            scopes: rows.scopes,
+            bindings: named.bindings,
+            symbols: rows.symbols,
+            references: rows.references,
+            uses: rows.uses,
+            free: named.free,
+            pure_symbols,
         })
     }
 }
