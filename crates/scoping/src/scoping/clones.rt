@@ -75,9 +75,9 @@ impl Scoping {
     ) -> Result<Scoping, AllocError>
         ensures { IfOk result (λ t. t ≡ self.now) }
     {
-        let named = NamedTables::cloned(&self.names, &self.bindings, &self.free)?;
         let rows = Rows::cloned(&self.scopes, &self.symbols, &self.references, &self.uses)?;
         let pure_symbols = self.pure_symbols.clone()?;
+        let named = NamedTables::cloned(&self.names, &self.bindings, &self.free)?;
         Ok(Scoping {
             alloc,
             names: named.names,
