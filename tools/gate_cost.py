@@ -163,9 +163,15 @@ def print_edits(costs):
         print(f"{seconds:8.0f}  {crate}/{edit.removesuffix('.edit')}")
 
 
+def known(words):
+    """Those of the words that this kit's `rt` speaks of: one whose gate keeps nothing doesn't know --anew."""
+    ran = subprocess.run(["rt", "help"], stdout=subprocess.PIPE, stderr=subprocess.STDOUT, errors="replace", check=False)
+    return [it for it in words if it in ran.stdout]
+
+
 def main(words):
     begun = time.monotonic()
-    with subprocess.Popen(["rt", "ci", *words]) as gate:
+    with subprocess.Popen(["rt", "ci", *known(words)]) as gate:
         costs = Costs(gate.pid)
         while gate.poll() is None:
             costs.look()
@@ -177,7 +183,8 @@ def main(words):
     print_edits(costs)
     rest = whole - sum(costs.seconds.values())
     minutes = (time.monotonic() - begun) / 60
-    print(f"\n{whole / 60:.1f} processor minutes, {rest:.0f} seconds of them of no crate, in {minutes:.1f} minutes")
+    processors = len(os.sched_getaffinity(0))
+    print(f"\n{whole / 60:.1f} processor minutes, {rest:.0f} seconds of them of no crate, in {minutes:.1f} minutes on {processors} processors")
     return gate.returncode if gate.returncode >= 0 else 128 - gate.returncode
 
 

@@ -5,7 +5,7 @@ use Rattle.std.specs.Map.{keys_of}
 use Rattle.semantic_tree.specs.declared.node.Node.{Node}
 use Rattle.check_context.specs.Handed.{IsHanded}
 use Rattle.check_context.specs.declared.context.CheckContext.{CheckContext}
-use Rattle.class_checks.specs.SoundElements.{AreSound}
+use Rattle.expression_checks.specs.SoundElements.{AreSound}
 use Rattle.type_checks.specs.GoodTypes.{HasGoodType}
 
 -- the node, what it annotates and the elements of classes stand in the source, and a node has one reference at most

@@ -6,3 +6,12 @@ pub mod Orelse
 pub mod Within
 pub mod Searched
 pub mod Passed
+pub mod WaysEnding
+pub mod Weight
+pub mod Walking
+pub mod Spreads
+pub mod Backward
+pub mod PairNumbers
+pub mod Few
+pub mod Graphs
+pub mod Bounded

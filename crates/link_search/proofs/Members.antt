@@ -5,7 +5,7 @@ use Rattle.std.proofs.lemmas.Bool.{cases_eq, cases_lt}
 use Rattle.std.proofs.lemmas.Map.Keys.{apart_from_distinct}
 use Rattle.std.proofs.lemmas.Option.{slice_get_within, get_or_from_slice_get}
 use Rattle.reachability.specs.Rows.{Among}
-use Rattle.pair_numbers.specs.Numbering.{Pair, AreNumbersOf, AreDistinctPairs}
+use Rattle.link_search.specs.Numbering.{Pair, AreNumbersOf, AreDistinctPairs}
 use Rattle.link_search.specs.declared.target.Target.{Target}
 use Rattle.link_search.specs.declared.target.Target.TheVariants.{Name, End}
 use Rattle.link_search.specs.declared.terminal.Terminal.{Terminal}

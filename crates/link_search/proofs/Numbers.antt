@@ -5,7 +5,7 @@ use Rattle.std.specs.declared.alloc.Global.{Global}
 use Rattle.std.proofs.lemmas.List.{take_more, drop_more, length-map}
 use Rattle.reachability.specs.Rows.{Among, lists}
 use Rattle.reachability.proofs.Lists.{among_left, among_right, among_either}
-use Rattle.pair_numbers.specs.Numbering.{Pair}
+use Rattle.link_search.specs.Numbering.{Pair}
 use Rattle.link_search.specs.declared.exports.SetExports.{SetExports}
 use Rattle.link_search.specs.declared.terminal.Terminal.{Terminal}
 use Rattle.link_search.specs.Ends.{Extends, AreNumbered, ends_in, ends_from}

@@ -1,12 +1,12 @@
 -- The answers are right.
 use Rattle.std.proofs.Common.{◌≡◌, ℕ, ◌+◌, List, Bool, true, false, Some, refl, sym, ap, subst, ◌∙◌, slice_get, arith}
 use Rattle.reachability.specs.Rows.{Among}
-use Rattle.pair_numbers.specs.Numbering.{Pair, AreDistinctPairs}
-use Rattle.pair_numbers.specs.Graph.{AreRowsOf}
-use Rattle.pair_search.specs.Steps.{Leads, LeadsToRing}
-use Rattle.pair_search.specs.Reached.{ReachesEnd, Tells}
-use Rattle.pair_search.specs.declared.terminals.Terminals.{Terminals}
-use Rattle.pair_search.specs.declared.terminals.Terminals.TheVariants as those
+use Rattle.link_search.specs.Numbering.{Pair, AreDistinctPairs}
+use Rattle.link_search.specs.Graph.{AreRowsOf}
+use Rattle.link_search.specs.Steps.{Leads, LeadsToRing}
+use Rattle.link_search.specs.Reached.{ReachesEnd, Tells}
+use Rattle.link_search.specs.declared.terminals.Terminals.{Terminals}
+use Rattle.link_search.specs.declared.terminals.Terminals.TheVariants as those
 use Rattle.link_search.specs.declared.exports.SetExports.{SetExports}
 use Rattle.link_search.specs.declared.target.Target.{Target}
 use Rattle.link_search.specs.declared.target.Target.TheVariants.{Name, End}

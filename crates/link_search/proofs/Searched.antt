@@ -8,10 +8,10 @@ use Rattle.std.proofs.lemmas.List.Sums.{position_or_len_is}
 use Rattle.std.proofs.lemmas.Option.{slice_get_within, slice_get-get_or, get_or_from_slice_get}
 use Rattle.reachability.specs.Marked.{is_marked}
 use Rattle.reachability.specs.Rows.{Among}
-use Rattle.pair_numbers.specs.Graph.{StartAmong, AreRowsOf}
-use Rattle.pair_numbers.specs.Numbering.{Pair, same_pair, AreDistinctPairs}
-use Rattle.pair_search.specs.Reached.{Tells, value_of}
-use Rattle.pair_search.specs.Steps.{LeadsToRing}
+use Rattle.link_search.specs.Graph.{StartAmong, AreRowsOf}
+use Rattle.link_search.specs.Numbering.{Pair, same_pair, AreDistinctPairs}
+use Rattle.link_search.specs.Reached.{Tells, value_of}
+use Rattle.link_search.specs.Steps.{LeadsToRing}
 use Rattle.link_search.specs.Answers.{answer_if, IsSearched}
 use Rattle.link_search.specs.Ends.{AreApart, AreNumbered, ends_from}
 use Rattle.link_search.specs.Exports.{leads_of}

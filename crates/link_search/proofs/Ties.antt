@@ -1,9 +1,9 @@
 -- Numbers lead to one another as the names do that have them.
 use Rattle.std.proofs.Common.{◌≡◌, ℕ, List, Some, refl, sym, subst, ◌∙◌, slice_get}
 use Rattle.reachability.specs.Rows.{Among, row}
-use Rattle.pair_numbers.specs.Numbering.{Pair, AreDistinctPairs}
-use Rattle.pair_numbers.specs.Graph.{AreRowsOf}
-use Rattle.pair_search.specs.Steps.{Leads, LeadsOn, LeadsToRing}
+use Rattle.link_search.specs.Numbering.{Pair, AreDistinctPairs}
+use Rattle.link_search.specs.Graph.{AreRowsOf}
+use Rattle.link_search.specs.Steps.{Leads, LeadsOn, LeadsToRing}
 use Rattle.link_search.specs.declared.exports.SetExports.{SetExports}
 use Rattle.link_search.specs.declared.target.Target.{Target}
 use Rattle.link_search.specs.declared.target.Target.TheVariants.{Name, End}

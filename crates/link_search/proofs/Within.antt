@@ -5,7 +5,7 @@ use Rattle.std.specs.declared.alloc.Global.{Global}
 use Rattle.std.proofs.lemmas.List.{take_more}
 use Rattle.reachability.specs.Rows.{Among}
 use Rattle.reachability.proofs.Lists.{among_at}
-use Rattle.pair_numbers.specs.Numbering.{Pair, ArePairsWithin}
+use Rattle.link_search.specs.Numbering.{Pair, ArePairsWithin}
 use Rattle.link_search.specs.declared.answer.Found.{Found}
 use Rattle.link_search.specs.declared.answer.Found.TheVariants as found
 use Rattle.link_search.specs.declared.answer.Search.{Search}

@@ -2,10 +2,10 @@
 use Rattle.std.specs.Prelude.{ℕ, List, Bool, Option, Some, None, if◌then◌else◌, position, slice_get}
 use Rattle.reachability.specs.Rows.{Among}
 use Rattle.reachability.specs.Marked.{is_marked}
-use Rattle.pair_numbers.specs.Numbering.{Pair, same_pair}
-use Rattle.pair_search.specs.Reached.{value_of}
-use Rattle.pair_search.specs.declared.terminals.Terminals.{Terminals}
-use Rattle.pair_search.specs.declared.terminals.Terminals.TheVariants as those
+use Rattle.link_search.specs.Numbering.{Pair, same_pair}
+use Rattle.link_search.specs.Reached.{value_of}
+use Rattle.link_search.specs.declared.terminals.Terminals.{Terminals}
+use Rattle.link_search.specs.declared.terminals.Terminals.TheVariants as those
 use Rattle.link_search.specs.declared.target.Target.{Target}
 use Rattle.link_search.specs.declared.target.Target.TheVariants.{Name, End}
 use Rattle.link_search.specs.declared.terminal.Terminal.{Terminal}

@@ -1,6 +1,6 @@
 -- The terminals of names, and their numbers.
 use Rattle.std.specs.Prelude.{◌≡◌, ℕ, ◌+◌, List, [], ◌∷◌, ◌++◌, Some, map, slice_get}
-use Rattle.pair_numbers.specs.Numbering.{Pair}
+use Rattle.link_search.specs.Numbering.{Pair}
 use Rattle.link_search.specs.declared.target.Target.{Target}
 use Rattle.link_search.specs.declared.target.Target.TheVariants.{Name, End}
 use Rattle.link_search.specs.declared.terminal.Terminal.{Terminal}

@@ -2,7 +2,7 @@
 use Rattle.std.specs.Prelude.{ℕ, ◌<◌, ◌==◌, nat_eq, nat_lt, List, [], ◌∷◌, Option, Some, None, if◌then◌else◌, map, length, slice_get}
 use Rattle.indexmap.specs.IndexMap.{get}
 use Rattle.reachability.specs.Rows.{Among}
-use Rattle.pair_numbers.specs.Numbering.{Pair}
+use Rattle.link_search.specs.Numbering.{Pair}
 use Rattle.link_search.specs.declared.target.Target.{Target}
 use Rattle.link_search.specs.declared.target.Target.TheVariants.{Name, End}
 use Rattle.link_search.specs.declared.exports.ModuleExports.{ModuleExports}

@@ -3,3 +3,9 @@ pub mod Targets
 pub mod Exports
 pub mod Ends
 pub mod Answers
+pub mod Steps
+pub mod Walked
+pub mod Keeping
+pub mod Reached
+pub mod Numbering
+pub mod Graph

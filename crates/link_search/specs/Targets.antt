@@ -1,6 +1,6 @@
 -- Where imports and exported names lead, in numbers, and what they come to.
 use Rattle.std.specs.Prelude.{ℕ, ◌<◌, List, [], ◌∷◌, Bool, true, false}
-use Rattle.pair_numbers.specs.Numbering.{Pair}
+use Rattle.link_search.specs.Numbering.{Pair}
 use Rattle.link_search.specs.declared.target.Target.{Target}
 use Rattle.link_search.specs.declared.target.Target.TheVariants.{Name, End}
 use Rattle.link_search.specs.declared.answer.Found.{Found}

@@ -4,8 +4,8 @@ ghost use Rattle.link_search.specs.Answers.{answer_at, answer};
 
 use crate::target::Target;
 use crate::terminal::Terminal;
+use crate::terminals::Terminals;
 use indexmap::IndexSet;
-use pair_search::Terminals;
 
 /// What a target comes to.
 #[derive(Clone, Copy, PartialEq, Eq, Debug)]

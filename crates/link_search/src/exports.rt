@@ -5,10 +5,10 @@ ghost use Rattle.link_search.specs.Ends.{ends_in};
 ghost use Rattle.link_search.specs.Exports.{if_any, passed_on, module_targets, targets_of, StaysWithin};
 ghost use Rattle.link_search.specs.Targets.{names_in};
 
+use crate::graph::Ways;
 use crate::target::Target;
 use crate::terminal::Terminal;
 use indexmap::IndexMap;
-use pair_numbers::Ways;
 use std::alloc::{AllocError, Global};
 
 /// What a module exports.

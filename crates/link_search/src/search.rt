@@ -1,6 +1,6 @@
 //! The search from all wanted targets at once.
 ghost use Rattle.std.specs.Prelude.{length, IfOk};
-ghost use Rattle.pair_numbers.specs.Numbering.{ArePairsWithin};
+ghost use Rattle.link_search.specs.Numbering.{ArePairsWithin};
 ghost use Rattle.link_search.specs.Exports.{leads_of, StaysWithin};
 ghost use Rattle.link_search.specs.Targets.{AreTargetsWithin, AreFound};
 ghost use Rattle.link_search.specs.Answers.{IsSearched};
@@ -8,10 +8,11 @@ ghost use Rattle.link_search.specs.Answers.{IsSearched};
 use crate::answer::{Found, Search};
 use crate::ends::{ends_of, numbered};
 use crate::exports::{NameWays, SetExports};
+use crate::graph::graph_of;
+use crate::rings::leading_to_rings;
 use crate::target::{Target, names_in};
+use crate::terminals::reached_terminals;
 use indexmap::IndexSet;
-use pair_numbers::graph_of;
-use pair_search::{leading_to_rings, reached_terminals};
 use std::alloc::{AllocError, Global};
 
 // What is found from these names.

@@ -7,7 +7,7 @@ use Rattle.std.proofs.lemmas.List.{length-map}
 use Rattle.std.proofs.lemmas.List.Quantifiers.{position-Some}
 use Rattle.std.proofs.lemmas.Option.{slice_get_within, slice_get-get_or}
 use Rattle.reachability.specs.Rows.{Among}
-use Rattle.pair_numbers.specs.Numbering.{Pair}
+use Rattle.link_search.specs.Numbering.{Pair}
 use Rattle.semantic_kinds.specs.declared.kind.AstType.TheVariants as kind
 use Rattle.semantic_tree.specs.Views.{is as is_kind}
 use Rattle.semantic_syntax.specs.Tables.{Name}

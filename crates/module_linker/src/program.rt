@@ -14,7 +14,7 @@ use crate::LinkStatus;
 use crate::failure::LinkFailure;
 use crate::linking::link;
 use crate::stops::{refuse_words, tell_failure};
-use link_lines::write_links;
+use crate::write::write_links;
 use link_model::{Link, LinkOutcome};
 use module_set::{Modules, read_modules};
 use report_ends::{Sink, Source, read_input};

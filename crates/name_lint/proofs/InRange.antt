@@ -7,8 +7,8 @@ use Rattle.semantic_tree.specs.Tree.{Tree}
 use Rattle.semantic_model.specs.Step.{steps}
 use Rattle.semantic_model.specs.TablesOf.{tables_of}
 use Rattle.reachability.proofs.Within.{all_from}
-use Rattle.name_uses.specs.Live.{AreUnused}
-use Rattle.name_uses.specs.Undeclared.{is_undeclared, undeclared_from, undeclared, reference_names}
+use Rattle.name_lint.specs.Live.{AreUnused}
+use Rattle.name_lint.specs.Undeclared.{is_undeclared, undeclared_from, undeclared, reference_names}
 
 -- unused symbols are symbols
 pub unused_below : (p : Tree) (t : Tables) (unused : List ℕ) → t ≡ tables_of p → AreUnused p unused → All (λ y. y < length t.symbols) unused

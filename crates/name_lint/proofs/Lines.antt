@@ -8,8 +8,8 @@ use Rattle.semantic_tree.specs.Tree.{Tree}
 use Rattle.semantic_tree.specs.declared.view.AstKind.{AstKind}
 use Rattle.semantic_model.specs.Step.{steps}
 use Rattle.semantic_model.specs.TablesOf.{tables_of}
-use Rattle.name_uses.specs.Gathered.{text_of, span_of}
-use Rattle.name_uses.specs.Undeclared.{reference_names, reference_spans}
+use Rattle.name_lint.specs.Gathered.{text_of, span_of}
+use Rattle.name_lint.specs.Undeclared.{reference_names, reference_spans}
 use Rattle.name_lint.specs.Lines.{name_line, no_span, undeclared_line, name_lines, lines_of}
 
 -- the line of a reference, by its node

@@ -14,8 +14,8 @@ use Rattle.program_ends.specs.Telling.{stop_of}
 use Rattle.program_ends.specs.declared.stops.Stop.TheVariants as stop
 use Rattle.program_ends.proofs.Endings.{ends_usage, ends_answered, ends_told, answer_ends, memory_ends}
 use Rattle.program_ends.proofs.Meanings.{clear_reading}
-use Rattle.name_uses.specs.Known.{names_of}
-use Rattle.name_uses.specs.Undeclared.{undeclared}
+use Rattle.name_lint.specs.Known.{names_of}
+use Rattle.name_lint.specs.Undeclared.{undeclared}
 use Rattle.program_ends.specs.FindingEnds.{end_of}
 use Rattle.name_lint.specs.Codes.{status_for}
 use Rattle.name_lint.specs.Meaning.{Answers, Ends, RefusesNone, Means}

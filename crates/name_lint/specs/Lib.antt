@@ -3,3 +3,9 @@ pub mod Lines
 pub mod Words
 pub mod Telling
 pub mod Meaning
+pub mod Uses
+pub mod Live
+pub mod Undeclared
+pub mod Known
+pub mod Gathered
+pub mod Within

@@ -9,7 +9,7 @@ use Rattle.semantic_syntax.specs.Reading.{symbol_of}
 use Rattle.semantic_model.specs.Step.{Step, steps}
 use Rattle.semantic_model.specs.TablesOf.{tables_by}
 use Rattle.report_lines.specs.Pieces.{quoted, span_text}
-use Rattle.name_uses.specs.Undeclared.{reference_names, reference_spans}
+use Rattle.name_lint.specs.Undeclared.{reference_names, reference_spans}
 
 -- a line on a name, given in UTF-8: what is said of it, the number that it has there, and where it stands
 unfoldable pub name_line : (what : List ℕ) → ℕ → List ℕ → Span → List ℕ

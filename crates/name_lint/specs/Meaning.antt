@@ -10,9 +10,9 @@ use Rattle.program_ends.specs.Lines.{tree_line}
 use Rattle.program_ends.specs.Meaning.{End, Finds}
 use Rattle.program_ends.specs.Meaning as ends
 use Rattle.program_ends.specs.Reads.{Stands, RefusedFor}
-use Rattle.name_uses.specs.Known.{names_of}
-use Rattle.name_uses.specs.Live.{AreUnused}
-use Rattle.name_uses.specs.Undeclared.{undeclared}
+use Rattle.name_lint.specs.Known.{names_of}
+use Rattle.name_lint.specs.Live.{AreUnused}
+use Rattle.name_lint.specs.Undeclared.{undeclared}
 use Rattle.program_ends.specs.FindingEnds.{end_of}
 use Rattle.name_lint.specs.Codes.{status_for}
 use Rattle.name_lint.specs.Lines.{lines_of}

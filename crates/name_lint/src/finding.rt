@@ -1,10 +1,10 @@
 //! The names of a program that are unused or undeclared.
 ghost use Rattle.std.specs.Prelude.{◌≡◌, IfOk};
-ghost use Rattle.name_uses.specs.Known.{names_of};
-ghost use Rattle.name_uses.specs.Live.{AreUnused};
-ghost use Rattle.name_uses.specs.Undeclared.{undeclared};
+ghost use Rattle.name_lint.specs.Known.{names_of};
+ghost use Rattle.name_lint.specs.Live.{AreUnused};
+ghost use Rattle.name_lint.specs.Undeclared.{undeclared};
 
-use name_uses::{NameReport, names_in};
+use crate::found_names::{NameReport, names_in};
 use semantic::{SemanticBuilder, SemanticBuilderReturn};
 use semantic_tree::Program;
 use std::alloc::{AllocError, Global};

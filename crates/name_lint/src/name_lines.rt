@@ -1,11 +1,11 @@
 //! Writes the lines on unused symbols and on undeclared references.
 ghost use Rattle.std.specs.Prelude.{◌≡◌, ◌<◌, ℕ, length, map, All, OnOk};
 ghost use Rattle.std.specs.List.{flat_map};
-ghost use Rattle.name_uses.specs.Gathered.{text_of, span_of};
+ghost use Rattle.name_lint.specs.Gathered.{text_of, span_of};
 ghost use Rattle.report_ends.specs.Streams.{Writes};
 ghost use Rattle.name_lint.specs.Lines.{name_line, unused_line, undeclared_line, name_lines};
 
-use name_uses::NameReport;
+use crate::found_names::NameReport;
 use report_ends::{ReportError, Sink};
 use report_lines::Line;
 use scoping::Scoping;

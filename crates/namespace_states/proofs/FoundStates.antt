@@ -19,8 +19,8 @@ use Rattle.namespace_laws.proofs.Standing.{apart, below_count}
 use Rattle.namespace_laws.proofs.Closed.{closed, leads-within}
 use Rattle.namespace_laws.proofs.Around.{place-in}
 use Rattle.namespace_laws.proofs.Greatest.{searched, only-one}
-use Rattle.namespace_leads.specs.Led.{Led}
-use Rattle.namespace_leads.proofs.Ties.{IsNoted}
+use Rattle.namespace_states.specs.Led.{Led}
+use Rattle.namespace_states.proofs.Ties.{IsNoted}
 use Rattle.namespace_states.specs.StatesByMarks.{state_by, states_by, state_in, AreStatesOf, AreSearched}
 
 listed : {X : Type 0} (x : X) (xs : List X) → Among x xs → IsListed x xs

@@ -1,9 +1,16 @@
 //! Whether a namespace is more than types (TypeScript's `getModuleInstanceState` in binder.ts).
+//! It is found by what the statements of a program lead to, and what they count as.
 #![tactic(auto)]
 
+mod first_by_name;
 pub mod instance_state;
+mod leads;
 pub mod namespace_row;
+mod open_lists;
+mod program_pass;
 mod states;
 
 pub use instance_state::{ModuleInstanceState, module_instance_state};
+pub use leads::Leads;
+pub use program_pass::leads_of;
 pub use states::NamespaceStates;

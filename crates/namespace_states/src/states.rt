@@ -11,12 +11,13 @@ ghost use Rattle.semantic_model.specs.Step.{entering, steps};
 ghost use Rattle.semantic_model.specs.Namespace.{Item, instance_state, nodes_around};
 ghost use Rattle.namespace_laws.specs.Reaches.{IsGreatestReached, statement_at};
 ghost use Rattle.namespace_laws.specs.Statements.{items_from};
-ghost use Rattle.namespace_leads.specs.Led.{nothing_led, led_from};
+ghost use Rattle.namespace_states.specs.Led.{nothing_led, led_from};
 ghost use Rattle.namespace_states.specs.InstanceStates.{state_of};
 ghost use Rattle.namespace_states.specs.StatesByMarks.{state_by, states_by, state_in, AreStatesOf, AreSearched};
 
 use crate::instance_state::ModuleInstanceState;
-use namespace_leads::{Leads, leads_of};
+use crate::leads::Leads;
+use crate::program_pass::leads_of;
 use reachability::{reached, rows_of};
 use semantic_syntax::NodeId;
 use semantic_tree::{AstKind, AstType, Program};

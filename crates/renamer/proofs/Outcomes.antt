@@ -19,9 +19,9 @@ use Rattle.rename_model.specs.Renamed.{bears_name, renamed}
 use Rattle.rename_model.specs.Same.{first_difference}
 use Rattle.rename_model.specs.WithName.{AreIdentifiers}
 use Rattle.rename_model.proofs.AloneNames.{are_identifiers}
-use Rattle.rename_passes.specs.Told.{told_by}
-use Rattle.rename_passes.specs.declared.analysed.Analysed.{Analysed}
-use Rattle.rename_passes.proofs.NamedChildren.{as_many}
+use Rattle.renamer.specs.Told.{told_by}
+use Rattle.renamer.specs.declared.analysed.Analysed.{Analysed}
+use Rattle.renamer.proofs.NamedChildren.{as_many}
 use Rattle.rename_model.proofs.Refusals.{ends_renamed, ends_bad, ends_fixed, ends_different}
 use Rattle.renamer.specs.declared.error.RenameError.{RenameError}
 use Rattle.renamer.specs.declared.error.RenameError.TheVariants.{BadName, Fixed, Differs, Memory}

@@ -4,3 +4,6 @@ pub mod Answers
 pub mod Codes
 pub mod Telling
 pub mod Meaning
+pub mod Told
+pub mod Fixing
+pub mod Renaming

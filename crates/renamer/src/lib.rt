@@ -2,16 +2,26 @@
 //! others see changes; and all that the program `renamer` does, over any source and any sinks.
 #![tactic(auto)]
 
+mod analysed;
+mod bearing;
+mod differing;
 mod error;
+mod fixing;
 mod program;
 mod refusal;
 mod rename;
+mod renaming;
 mod request;
 mod status;
 mod stops;
 
+pub use analysed::Analysed;
+pub use bearing::is_bad_name;
+pub use differing::first_difference;
 pub use error::RenameError;
+pub use fixing::first_fixed;
 pub use program::run_rename;
 pub use rename::rename_program;
+pub use renaming::renamed;
 pub use status::RenameStatus;
 pub use stops::USAGE;

@@ -10,3 +10,4 @@ pub mod Stored
 pub mod AtPlace
 pub mod Leaving
 pub mod Begun
+pub mod Leavable

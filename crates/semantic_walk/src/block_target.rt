@@ -5,11 +5,11 @@ ghost use Rattle.std.specs.Str.{chars};
 ghost use Rattle.table_building.specs.Routes.{IsRoute};
 ghost use Rattle.semantic_walk.specs.Binds.{stands_on};
 
-use namesakes::LazyNamesakes;
 use scoping::Scoping;
 use semantic_syntax::Ident;
 use std::alloc::AllocError;
 use table_building::route::{PassedScope, Route};
+use walk_notes::LazyNamesakes;
 
 /// The scopes that the route passes, but for the one where it begins.
 fn between(route: &Route) -> &[PassedScope]

@@ -5,6 +5,7 @@ pub mod analysis;
 pub mod binder;
 mod block_target;
 pub mod laws;
+mod on_leaving;
 pub mod path;
 pub mod settings;
 pub mod visit;
@@ -12,5 +13,6 @@ pub mod walk;
 
 pub use analysis::{Analysis, analyse};
 pub use binder::Binder;
+pub use on_leaving::tell_leaving;
 pub use settings::{Room, Settings};
 pub use walk::Walk;

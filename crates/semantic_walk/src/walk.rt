@@ -42,9 +42,10 @@ ghost use Rattle.semantic_walk.specs.AtPlace.{ComesTo, IsWithin, IsShown, entere
 
 use crate::analysis::Analysis;
 use crate::block_target::stand_on;
+use crate::on_leaving::tell_leaving;
 use crate::path::Path;
 use crate::settings::{Room, Settings};
-use namesakes::LazyNamesakes;
+use check_context::CheckContext;
 use namespace_states::NamespaceStates;
 use node_rules::ambient::is_ambient_inside;
 use node_rules::cursor;
@@ -59,9 +60,8 @@ use std::alloc::{AllocError, Global};
 use std::marker::Model;
 use table_building::declared::Declared;
 use table_building::route::Route;
-use walk_checks::{CheckContext, tell_leaving};
-use walk_notes::Notes;
 use walk_notes::notes::{is_noted, is_noted_behind};
+use walk_notes::{LazyNamesakes, Notes};
 
 /// The walker's state: what the walk has made so far, and where it stands.
 #[derive(Drop)]

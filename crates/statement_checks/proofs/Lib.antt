@@ -1,2 +1,6 @@
 pub mod UnderLabels
 pub mod LoopNames
+pub mod FirstBad
+pub mod Skipped
+pub mod Ends
+pub mod Counts

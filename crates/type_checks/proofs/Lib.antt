@@ -4,3 +4,6 @@ pub mod UnmarkedSpans
 pub mod GlobalWord
 pub mod Suggestions
 pub mod CountsOn
+pub mod LastSeen
+pub mod Repeating
+pub mod NextMembers

@@ -1,2 +1,3 @@
 pub mod GoodTypes
 pub mod Places
+pub mod Repeats

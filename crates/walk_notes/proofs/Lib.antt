@@ -1,2 +1,3 @@
 pub mod Unnoted
 pub mod WholeProgram
+pub mod Adding

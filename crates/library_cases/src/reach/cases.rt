@@ -1,5 +1,5 @@
 // Numbers that lead to numbers, and what is to be found.
-use pair_search::Terminals;
+use link_search::Terminals;
 
 /// Numbers below the count of `terminals`, the steps between them, and the terminals where they end.
 #[derive(Clone, Copy)]

@@ -4,7 +4,7 @@ ghost use Rattle.std.specs.Bool.{OnTrue};
 ghost use Rattle.reachability.specs.Rows.{lists, AreWithin};
 
 use super::cases::{CASES, Case};
-use pair_search::{leading_to_rings, reached_terminals};
+use link_search::{leading_to_rings, reached_terminals};
 use reachability::{are_within, reached, rows_of};
 use std::alloc::{AllocError, Global};
 use std::process::Abort;
@@ -93,7 +93,7 @@ fn goes_along_a_long_ring(rt: HostRuntime) -> Result<(), Fail> {
     assert!(rt;
         terminals
             .iter()
-            .all(|found| matches!(found, pair_search::Terminals::Several))
+            .all(|found| matches!(found, link_search::Terminals::Several))
     );
     Ok(())
 }

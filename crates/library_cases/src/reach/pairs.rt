@@ -1,7 +1,7 @@
 //! Pairs get numbers as they are met.
 ghost use Rattle.std.specs.Prelude.{◌≡◌, ◌∷◌, [], ◌+◌, ◌%◌};
 
-use pair_numbers::{Ways, graph_of};
+use link_search::{Ways, graph_of};
 use std::alloc::{AllocError, Global};
 use std::test::Fail;
 

@@ -1,5 +1,5 @@
 use Rattle.std.proofs.Common.{length, arith, subst, sym, ◌∙◌}
-use Rattle.pair_numbers.specs.Numbering.{ArePairsWithin}
+use Rattle.link_search.specs.Numbering.{ArePairsWithin}
 use Rattle.link_search.proofs.Within.{names_within, found_more}
 use Rattle.link_search.proofs.search.found_all.Goals as goal
 

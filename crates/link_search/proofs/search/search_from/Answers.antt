@@ -1,7 +1,7 @@
 use Rattle.std.proofs.Common.{◌<◌, length, ap, sym, subst, ◌∙◌, arith}
 use Rattle.std.proofs.lemmas.List.{length-map}
 use Rattle.reachability.specs.Rows.{lists}
-use Rattle.pair_numbers.specs.Graph.{AreRowsOf}
+use Rattle.link_search.specs.Graph.{AreRowsOf}
 use Rattle.link_search.specs.Ends.{AreNumbered, ends_from}
 use Rattle.link_search.proofs.Numbers.{ends_fit}
 use Rattle.link_search.proofs.Searched.{ends_below, searched}

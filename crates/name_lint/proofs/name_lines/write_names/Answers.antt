@@ -1,6 +1,6 @@
 use Rattle.std.proofs.Common.{refl, flat_map, map}
 use Rattle.report_ends.proofs.Stages.{writes_not_then, writes_then}
-use Rattle.name_uses.specs.Gathered.{text_of, span_of}
+use Rattle.name_lint.specs.Gathered.{text_of, span_of}
 use Rattle.name_lint.specs.Lines.{undeclared_line}
 use Rattle.name_lint.proofs.name_lines.write_names.Goals as goal
 

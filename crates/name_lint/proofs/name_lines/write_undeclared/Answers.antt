@@ -1,7 +1,7 @@
 use Rattle.std.proofs.Common.{◌<◌, length, map, sym, subst}
 use Rattle.std.proofs.lemmas.List.Elements.{All-get_or}
 use Rattle.report_ends.proofs.Stages.{flat_map_goes_on, flat_map_fails}
-use Rattle.name_uses.specs.Gathered.{text_of, span_of}
+use Rattle.name_lint.specs.Gathered.{text_of, span_of}
 use Rattle.name_lint.specs.Lines.{undeclared_line}
 use Rattle.name_lint.proofs.name_lines.write_undeclared.Goals as goal
 

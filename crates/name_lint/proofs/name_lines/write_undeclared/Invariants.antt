@@ -1,6 +1,6 @@
 use Rattle.std.proofs.Common.{flat_map, drop, map}
 use Rattle.report_ends.specs.Streams.{PartWritten}
-use Rattle.name_uses.specs.Gathered.{text_of, span_of}
+use Rattle.name_lint.specs.Gathered.{text_of, span_of}
 use Rattle.name_lint.specs.Lines.{undeclared_line}
 use Rattle.name_lint.proofs.name_lines.write_undeclared.Given as goal
 

@@ -1,9 +1,9 @@
 use Rattle.std.proofs.Common.{◌≡◌, ℕ, List, length, map, sym, ap, ◌∙◌}
 use Rattle.std.proofs.lemmas.List.{length-map}
 use Rattle.semantic_model.specs.Step.{steps}
-use Rattle.name_uses.specs.Gathered.{Gathered, text_of, span_of}
-use Rattle.name_uses.specs.Known.{names_of}
-use Rattle.name_uses.specs.Undeclared.{reference_names, reference_spans}
+use Rattle.name_lint.specs.Gathered.{Gathered, text_of, span_of}
+use Rattle.name_lint.specs.Known.{names_of}
+use Rattle.name_lint.specs.Undeclared.{reference_names, reference_spans}
 use Rattle.program_ends.specs.FindingEnds.{end_of}
 use Rattle.name_lint.specs.Codes.{status_for}
 use Rattle.name_lint.specs.Lines.{name_lines}

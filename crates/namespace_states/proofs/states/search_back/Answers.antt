@@ -6,8 +6,8 @@ use Rattle.semantic_tree.specs.declared.node.Node.{Node}
 use Rattle.semantic_model.specs.Namespace.{InstanceState, instantiated, const_enum_only}
 use Rattle.namespace_laws.specs.Reaches.{IsGreatestReached}
 use Rattle.namespace_laws.proofs.Standing.{below_count}
-use Rattle.namespace_leads.specs.Led.{Led, led_from, nothing_led}
-use Rattle.namespace_leads.proofs.Ties.{IsNoted, noted_of}
+use Rattle.namespace_states.specs.Led.{Led, led_from, nothing_led}
+use Rattle.namespace_states.proofs.Ties.{IsNoted, noted_of}
 use Rattle.namespace_states.specs.StatesByMarks.{state_in, states_by}
 use Rattle.namespace_states.proofs.FoundStates.{firsts, seconds, seeds_within, values_of, const_enums_of, made_count, made_within, marks_of, state-found, state_at}
 use Rattle.namespace_states.proofs.states.search_back.Goals as goal

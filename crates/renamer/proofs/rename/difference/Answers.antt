@@ -1,7 +1,7 @@
 use Rattle.std.proofs.Common.{◌≡◌, sym, ◌∙◌}
 use Rattle.program_names.specs.Analysis.{analysis_of}
 use Rattle.rename_model.specs.Same.{first_difference}
-use Rattle.rename_passes.specs.Told.{told_by}
+use Rattle.renamer.specs.Told.{told_by}
 use Rattle.renamer.proofs.Outcomes.{built}
 use Rattle.renamer.proofs.rename.difference.Goals as goal
 

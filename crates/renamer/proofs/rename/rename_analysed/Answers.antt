@@ -2,7 +2,7 @@ use Rattle.std.proofs.Common.{◌≡◌, false, sym, ◌∙◌}
 use Rattle.std.specs.Str.{chars}
 use Rattle.semantic_tree.proofs.ShapedLaws.{IsShaped-no_fault}
 use Rattle.rename_model.specs.Refusal.{is_bad_name}
-use Rattle.rename_passes.specs.Told.{told_by}
+use Rattle.renamer.specs.Told.{told_by}
 use Rattle.renamer.proofs.Outcomes.{identifiers_by, compared_by}
 use Rattle.renamer.proofs.rename.rename_analysed.Goals as goal
 

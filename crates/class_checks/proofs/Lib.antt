@@ -1,5 +1,0 @@
-pub mod Predecessors
-pub mod SpelledNames
-pub mod EachElement
-pub mod AroundClasses
-pub mod EachClass

@@ -1,3 +1,0 @@
-pub mod LastSeen
-pub mod Repeating
-pub mod NextMembers

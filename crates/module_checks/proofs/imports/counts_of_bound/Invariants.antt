@@ -1,6 +1,0 @@
-use Rattle.std.proofs.Common.{length}
-use Rattle.module_checks.specs.Bound.{bound_in, AreCounting}
-use Rattle.module_checks.proofs.imports.counts_of_bound.Given as goal
-
-abbrev pub invariant-loop-symbol : goal.invariant-loop-symbol
-invariant-loop-symbol l = AreCounting (bound_in l.fn.scoping) l.symbol-iterator (length l.fn.scoping.symbols) l.counts.items

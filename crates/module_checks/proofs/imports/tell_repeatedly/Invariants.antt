@@ -1,9 +1,0 @@
-use Rattle.std.proofs.Common.{◌-◌}
-use Rattle.check_model.specs.Exports.{import_rows}
-use Rattle.semantic_syntax.specs.Reading.{symbol_of}
-use Rattle.check_context.specs.Tells.{IsTelling}
-use Rattle.module_checks.specs.Bound.{repeated}
-use Rattle.module_checks.proofs.imports.tell_repeatedly.Given as goal
-
-abbrev pub invariant-loop-turn : goal.invariant-loop-turn
-invariant-loop-turn l = IsTelling (repeated l.fn.times (import_rows (symbol_of l.scoping l.symbol))) (repeated (l.fn.times - l.turn) (import_rows (symbol_of l.scoping l.symbol))) l.fn.out l.out

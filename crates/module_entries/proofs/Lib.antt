@@ -1,3 +1,0 @@
-pub mod AsciiTexts
-pub mod Passed
-pub mod Specifiers

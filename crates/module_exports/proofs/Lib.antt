@@ -1,3 +1,0 @@
-pub mod AnalysisTold
-pub mod SetSteps
-pub mod Ending

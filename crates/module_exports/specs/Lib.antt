@@ -1,2 +1,0 @@
-pub mod SetTold
-pub mod LinksBy

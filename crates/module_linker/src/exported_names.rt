@@ -1,0 +1,42 @@
+//! Names that a module exports twice.
+ghost use Rattle.std.specs.Prelude.{◌≡◌, ◌≤◌, [], length, map, IfOk};
+ghost use Rattle.link_model.specs.Refusal.{repeated, first_repeated};
+ghost use Rattle.module_linker.specs.Views.{shown_export};
+ghost use Rattle.module_linker.specs.Checks.{Checks};
+ghost use Rattle.module_linker.specs.Seen.{exports_seen};
+
+use crate::entries::ModuleEntries;
+use crate::export::ExportEntry;
+use crate::name_set::add_name;
+use indexmap::IndexSet;
+use module_set::LinkError;
+use semantic_syntax::NodeId;
+use std::alloc::{AllocError, Global};
+
+/// The first node that exports a name which an earlier one exports.
+#[tactic(auto, using(crate::proofs::Turns::export_turn, crate::proofs::Turns::export_found, crate::proofs::Turns::exports_end))]
+fn first_repeated(alloc: Global, exports: &[ExportEntry<'_>]) -> Result<Option<NodeId>, AllocError>
+    ensures { IfOk result (λ found. found ≡ repeated [] (map shown_export exports.now)) }
+{
+    let mut names = IndexSet::new(alloc);
+    for export in exports {
+        if !add_name(&mut names, export.name())? {
+            return Ok(Some(export.node()));
+        }
+    }
+    Ok(None)
+}
+
+/// Refuses the first node that exports a name which an earlier one of its module exports.
+#[tactic(auto, using(crate::proofs::Turns::exports_turn, crate::proofs::Turns::exports_found, crate::proofs::Turns::all_exports_end))]
+pub(crate) fn check_exports(alloc: Global, entries: &[ModuleEntries<'_>]) -> Result<(), LinkError>
+    requires { length entries.now ≤ 4294967294 }
+    ensures { Checks (first_repeated 0 (map exports_seen entries.now)) result }
+{
+    for (number, module) in entries.iter().enumerate() {
+        if let Some(node) = first_repeated(alloc, &module.exports)? {
+            return Err(LinkError::TwoExports(number as u32, node));
+        }
+    }
+    Ok(())
+}

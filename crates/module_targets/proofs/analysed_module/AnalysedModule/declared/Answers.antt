@@ -1,4 +1,0 @@
-use Rattle.module_targets.proofs.analysed_module.AnalysedModule.declared.Goals as goal
-
-pub returns : goal.returns
-returns c = c.symbol_at.ensures c.args.self.now.scoping.now

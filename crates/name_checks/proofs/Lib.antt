@@ -1,2 +1,0 @@
-pub mod FirstBad
-pub mod Skipped

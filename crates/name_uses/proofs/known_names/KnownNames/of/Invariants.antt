@@ -1,7 +1,0 @@
-use Rattle.std.proofs.Common.{◌≡◌, ◌||◌, ℕ, List, drop}
-use Rattle.name_uses.specs.Known.{names_of}
-use Rattle.name_uses.specs.Undeclared.{is_known}
-use Rattle.name_uses.proofs.known_names.KnownNames.of.Given as goal
-
-abbrev pub invariant-loop-word : goal.invariant-loop-word
-invariant-loop-word l = (name : List ℕ) → (is_known l.known name || is_known (names_of (drop l.word-index l.words)) name) ≡ is_known (names_of l.words) name

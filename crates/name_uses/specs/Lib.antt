@@ -1,6 +1,0 @@
-pub mod Uses
-pub mod Live
-pub mod Undeclared
-pub mod Known
-pub mod Gathered
-pub mod Within

@@ -1,5 +1,0 @@
-pub mod SpelledNames
-pub mod Leading
-pub mod Found
-pub mod Opening
-pub mod Ties

@@ -1,4 +1,0 @@
-pub mod FirstNames
-pub mod Entries
-pub mod OpenBlocks
-pub mod Led

@@ -1,4 +1,0 @@
-pub mod Numbers
-pub mod Few
-pub mod Graphs
-pub mod Bounded

@@ -1,5 +1,0 @@
-pub mod FixedPlaces
-pub mod GoingOn
-pub mod KnownMarks
-pub mod NamedChildren
-pub mod SetIds

@@ -1,4 +1,0 @@
-use Rattle.rename_passes.proofs.analysed.Analysed.symbol_at.Goals as goal
-
-pub returns : goal.returns
-returns c = c.symbol_at.ensures c.args.self.now.scoping.now

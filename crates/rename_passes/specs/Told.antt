@@ -1,7 +1,0 @@
--- The analysis that tables tell.
-use Rattle.program_names.specs.Analysis.{Analysis}
-use Rattle.node_symbols.specs.Shown.{shown}
-use Rattle.rename_passes.specs.declared.analysed.Analysed.{Analysed}
-
-abbrev pub told_by : Analysed → Analysis
-told_by a = shown a.scoping.now a.tables.now

@@ -1,0 +1,2 @@
+pub mod BadEscapes
+pub mod Bound

@@ -1,0 +1,103 @@
+//! Early errors of the parameters of signatures.
+ghost use Rattle.std.specs.Prelude.{◌≡◌, ◌∷◌, ◌++◌, ◌&&◌, ℕ, List, [], codes, length, nat_lt, IfOk, OnOk};
+ghost use Rattle.semantic_kinds.specs.declared.role.Role.TheVariants as roles;
+ghost use Rattle.semantic_tree.specs.BoundNames.{bound_names};
+ghost use Rattle.semantic_tree.specs.Tree.{IsPreorder};
+ghost use Rattle.semantic_tree.specs.Views.{all_in, has_text};
+ghost use Rattle.semantic_tree.specs.declared.node.Node.{Node};
+ghost use Rattle.check_model.specs.Methods as rows;
+ghost use Rattle.check_model.specs.Search.{each_after};
+ghost use Rattle.check_context.specs.Handed.{sight, IsHanded};
+ghost use Rattle.check_context.specs.Tells.{Tells};
+ghost use Rattle.type_checks.specs.Repeats.{last_span, rows_after, HasLast};
+
+use check_context::CheckContext;
+use indexmap::IndexMap;
+use node_rules::questions::reads;
+use semantic_diagnostics::Diagnostics;
+use semantic_diagnostics::makers::redeclaration;
+use semantic_syntax::Span;
+use semantic_tree::{AstKind, Role};
+use std::alloc::{AllocError, Global};
+
+/// Whether a node has two parameters or more.
+fn has_two_items(kind: AstKind<'_>) -> bool
+    ensures { result ≡ nat_lt 1 (length (all_in roles.Items kind.entry.node.now)) }
+{
+    let mut left = kind.children(Role::Items);
+    left.next().is_some() && left.next().is_some()
+}
+
+/// Notes where a name stands, and gives where it stood before that.
+fn note<'a>(
+    seen: &mut IndexMap<&'a str, Span>,
+    name: AstKind<'a>,
+) -> Result<Option<Span>, AllocError>
+    ensures before { IfOk result (λ before. (earlier : List Node) → HasLast earlier seen.old → before ≡ last_span earlier name.entry.node.now) }
+    ensures noted { OnOk result ((earlier : List Node) → HasLast earlier seen.old → HasLast (earlier ++ name.entry.node.now ∷ []) seen.new) }
+{
+    let before = seen.insert(name.node().text.as_str(), name.span())?;
+    Ok(before)
+}
+
+/// Tells of a name that stood elsewhere before.
+#[tactic(auto, using(check_context::proofs::Telling::telling))]
+fn tell_repeated(
+    alloc: Global,
+    before: Option<Span>,
+    name: AstKind<'_>,
+    out: &mut Diagnostics,
+) -> Result<(), AllocError>
+    ensures { Tells result (rows_after before name.entry.node.now) out.old out.new }
+{
+    let Some(before) = before else {
+        return Ok(());
+    };
+    let text = name.text();
+    out.push(redeclaration(alloc, text.as_str(), before, name.span())?)
+}
+
+/// Tells of each name that a node binds again, by a map that has none of them yet.
+fn tell_each_repeated<'a>(
+    alloc: Global,
+    kind: AstKind<'a>,
+    seen: &mut IndexMap<&'a str, Span>,
+    out: &mut Diagnostics,
+) -> Result<(), AllocError>
+    requires numbered { IsPreorder kind.node.now }
+    requires new { HasLast [] seen.old }
+    ensures { Tells result (each_after rows.repeated_rows [] (bound_names kind.entry.node.now)) out.old out.new }
+{
+    for name in kind.bound_names() {
+        let before = note(seen, name)?;
+        tell_repeated(alloc, before, name, out)?;
+    }
+    Ok(())
+}
+
+/// Tells of each name that a node binds again.
+fn tell_repeats(alloc: Global, kind: AstKind<'_>, out: &mut Diagnostics) -> Result<(), AllocError>
+    requires { IsPreorder kind.node.now }
+    ensures { Tells result (each_after rows.repeated_rows [] (bound_names kind.entry.node.now)) out.old out.new }
+{
+    let mut seen = IndexMap::new(alloc);
+    tell_each_repeated(alloc, kind, &mut seen, out)
+}
+
+/// The parameters of a signature have different names (TypeScript 2300).
+#[tactic(auto, using(check_context::proofs::Telling::telling))]
+pub fn check_formal_parameters<'a>(
+    alloc: Global,
+    kind: AstKind<'a>,
+    ctx: &CheckContext<'a, '_>,
+    out: &mut Diagnostics,
+) -> Result<(), AllocError>
+    requires { IsHanded kind.node.now ctx.now }
+    ensures { Tells result (rows.check_formal_parameters (sight kind.entry.node.now ctx.now)) out.old out.new }
+{
+    if reads(kind, "signature") && has_two_items(kind) {
+        tell_repeats(alloc, kind, out)
+    } else {
+        Ok(())
+    }
+}
