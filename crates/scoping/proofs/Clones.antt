@@ -1,10 +1,17 @@
 -- What clones show.
-use Rattle.std.proofs.Common.{◌≡◌, List, [], ◌∷◌, length, map, refl, sym, ap, ◌∙◌}
+use Rattle.std.proofs.Common.{◌≡◌, ℕ, List, [], ◌∷◌, length, map, refl, sym, ap, ◌∙◌}
 use Rattle.std.specs.List.{AllZip}
 use Rattle.std.proofs.lemmas.List.{length-map}
+use Rattle.semantic_syntax.specs.declared.references.Reference.{Reference}
+use Rattle.semantic_syntax.specs.Tables.{Name, Tables}
+use Rattle.scoping.specs.declared.scoping.ScopeRow.{ScopeRow}
 use Rattle.scoping.specs.declared.scoping.Scoping.TheInside.{Inside}
-use Rattle.scoping.specs.View.{IsSound}
+use Rattle.scoping.specs.Flat.{Numbered}
+use Rattle.scoping.specs.Names.{named}
+use Rattle.scoping.specs.Row.{Row, symbol_of_row}
+use Rattle.scoping.specs.View.{IsSound, scope_of_row, tables}
 use Rattle.scoping.proofs.Rows.{rows}
+use Rattle.scoping.proofs.Shown.{tables_eq}
 
 module _ {X : Type 0} (R : X → X → Type 0) where
   pub clones_shown : {Y : Type 0} (f : X → Y) → ((x y : X) → R x y → f y ≡ f x) → (xs ys : List X) → AllZip R xs ys → map f ys ≡ map f xs
@@ -18,6 +25,20 @@ module _ {X : Type 0} (R : X → X → Type 0) where
   clones_same same [] (y ∷ ys) h = absurd h
   clones_same same (x ∷ xs) [] h = absurd h
   clones_same same (x ∷ xs) (y ∷ ys) h = λ j. same x y h.0 j ∷ clones_same same xs ys h.1 j
+
+-- fields that are equal show the same tables
+pub tables_same : (a : Inside) (names : List Name) (scopes : List ScopeRow) (bindings : List Numbered) (symbols : List Row) (references : List Reference) (uses : List (List ℕ)) (free : List (ℕ × List ℕ)) (pure_symbols : List ℕ)
+    → names ≡ a.names → scopes ≡ a.scopes.items → bindings ≡ a.bindings → symbols ≡ a.symbols.items → references ≡ a.references.items → uses ≡ rows a.uses.items → free ≡ a.free → pure_symbols ≡ a.pure_symbols.keys
+    → (let shown : Tables = record { scopes = map scope_of_row scopes; bindings = map (named names) bindings; symbols = map (symbol_of_row names) symbols; references = references; uses = uses; free = named names free; pure_symbols = pure_symbols } in shown ≡ tables a)
+tables_same a _ _ _ _ _ _ _ _ names scopes bindings symbols references uses free pure_symbols =
+    tables_eq _ _
+    (ap (map scope_of_row) scopes)
+    (λ j. map (named (names j)) (bindings j))
+    (λ j. map (symbol_of_row (names j)) (symbols j))
+    references
+    uses
+    (λ j. named (names j) (free j))
+    pure_symbols
 
 -- fields that are equal are as sound
 pub sound_same : (a b : Inside) → IsSound a → b.names ≡ a.names → b.scopes.items ≡ a.scopes.items → b.bindings ≡ a.bindings → b.symbols.items ≡ a.symbols.items

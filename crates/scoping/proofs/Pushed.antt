@@ -1,7 +1,7 @@
 -- Tables with one symbol more.
 use Rattle.std.proofs.Common.{◌≡◌, ℕ, ◌<◌, ◌+◌, List, [], ◌∷◌, ◌++◌, length, map, refl, ap, ◌∙◌, arith, length-append}
 use Rattle.std.specs.Global.{Vec}
-use Rattle.std.proofs.lemmas.List.{length-map, map-append}
+use Rattle.std.proofs.lemmas.List.{length-map}
 use Rattle.semantic_syntax.specs.Tables.{Name}
 use Rattle.semantic_syntax.proofs.Every.{every-push}
 use Rattle.scoping.specs.declared.scoping.Scoping.TheInside.{Inside}
@@ -14,12 +14,12 @@ use Rattle.scoping.proofs.Shown.{tables_eq, bound_more, symbols_pushed, sound_in
 -- the row is pushed, and an empty list of uses for it, where room was made for each
 module _ (a : Inside) (sound : IsSound a) (names : List Name) (name : Name) (row : Row) (interned : IsInterned a.names names name row.name)
     (symbols : Vec Row) (had : List Row) (y : Row) (pushed : symbols.items ≡ had ++ y ∷ []) (kept : had ≡ a.symbols.items) (is : y ≡ row)
-    (uses : Vec (Vec ℕ)) (had_uses : List (Vec ℕ)) (none : Vec ℕ) (pushed_uses : uses.items ≡ had_uses ++ none ∷ []) (kept_uses : had_uses ≡ a.uses.items) (empty : none.items ≡ []) where
+    (uses : Vec (Vec ℕ)) (had_uses : List (Vec ℕ)) (listed : rows uses.items ≡ rows had_uses ++ [] ∷ []) (kept_uses : had_uses ≡ a.uses.items) where
   made : symbols.items ≡ a.symbols.items ++ row ∷ []
   made = pushed ∙ (λ j. kept j ++ is j ∷ [])
 
-  lists : uses.items ≡ a.uses.items ++ none ∷ []
-  lists = pushed_uses ∙ ap (λ us. us ++ none ∷ []) kept_uses
+  lists : rows uses.items ≡ rows a.uses.items ++ [] ∷ []
+  lists = listed ∙ ap (λ us. rows us ++ [] ∷ []) kept_uses
 
   pub count_pushed : length symbols.items ≡ length a.symbols.items + 1
   count_pushed = ap length made ∙ length-append a.symbols.items (row ∷ [])
@@ -33,7 +33,7 @@ module _ (a : Inside) (sound : IsSound a) (names : List Name) (name : Name) (row
       ∙ symbols_pushed names row (record (symbol_of_row names row) { name = name }) (λ j. record (symbol_of_row names row) { name = interned.number.named j }) a.symbols.items
       ∙ ap (λ ys. ys ++ record (symbol_of_row names row) { name = name } ∷ []) (symbols_interned a sound names name row.name interned))
       refl
-      (ap rows lists ∙ map-append (λ v. v.items) a.uses.items (none ∷ []) ∙ ap (λ us. rows a.uses.items ++ us ∷ []) empty)
+      lists
       (free_interned a sound names name row.name interned)
       refl
 
@@ -44,8 +44,8 @@ module _ (a : Inside) (sound : IsSound a) (names : List Name) (name : Name) (row
         counted = before.counted;
         bound = bound_more _ _ _ _ (omega arith) (omega (arith, count_pushed)) a.bindings before.bound;
         named = rw made (every-push _ row a.symbols.items before.named interned.number.within);
-        used = omega (arith, count_pushed, ap length lists, length-append a.uses.items (none ∷ []), before.used);
-        uses = rw (lists, map-append) (every-push _ none.items (rows a.uses.items) before.uses (rw empty tt));
+        used = omega (arith, count_pushed, length-map uses.items (λ v. v.items), length-map a.uses.items (λ v. v.items), ap length lists, length-append (rows a.uses.items) ([] ∷ []), before.used);
+        uses = rw lists (every-push _ [] (rows a.uses.items) before.uses tt);
         free = before.free;
         forest = before.forest;
         symbols_fit = omega (arith, count_pushed, rw length-map at room);

@@ -13,6 +13,7 @@ mod moves;
 mod parents;
 mod references;
 mod renames;
+mod room;
 mod scopes;
 mod symbols;
 mod told;
@@ -21,6 +22,7 @@ use crate::binding_table::BindingTable;
 use crate::free_table::FreeTable;
 use crate::name_table::NameTable;
 use crate::symbol_row::SymbolRow;
+use room::reserve_rows;
 use semantic_syntax::{NodeId, Reference, ReferenceId, ScopeFlags, ScopeId, SymbolId};
 use std::alloc::{AllocError, Global};
 use std::collections::BTreeSet;
@@ -121,29 +123,17 @@ impl Scoping {
     ) -> Result<(), AllocError>
         ensures { self.new ≡ self.old }
     {
-        self.reserve_scopes(scopes, symbols)?;
-        self.reserve_symbols(symbols)?;
-        self.references.reserve(references)?;
-        Ok(())
-    }
-
-    /// Makes room for more scopes, and for so many more bindings in all of them.
-    fn reserve_scopes(&mut self, scopes: usize, bindings: usize) -> Result<(), AllocError>
-        ensures { self.new ≡ self.old }
-    {
-        self.bindings.reserve(scopes, bindings)?;
-        self.scopes.reserve(scopes)?;
-        Ok(())
-    }
-
-    /// Makes room for more symbols, with their names.
-    fn reserve_symbols(&mut self, symbols: usize) -> Result<(), AllocError>
-        ensures { self.new ≡ self.old }
-    {
         self.names.reserve(symbols)?;
-        self.symbols.reserve(symbols)?;
-        self.uses.reserve(symbols)?;
-        Ok(())
+        self.bindings.reserve(scopes, symbols)?;
+        reserve_rows(
+            &mut self.scopes,
+            &mut self.symbols,
+            &mut self.uses,
+            &mut self.references,
+            scopes,
+            symbols,
+            references,
+        )
     }
 
     /// The symbols without side effects.

@@ -8,6 +8,7 @@ ghost use Rattle.semantic_syntax.specs.Reading.{bindings_of, chain, first_bound}
 ghost use Rattle.scoping.specs.Writing.{bound, unbound};
 
 use super::Scoping;
+use super::room::{push_symbol, reserve_symbol};
 use crate::bindings::{AllBindings, Bindings, BoundSymbols};
 use crate::bound_name::BoundName;
 use crate::symbol_row::SymbolRow;
@@ -35,13 +36,11 @@ impl Scoping {
         ensures err { OnErr result (self.new ≡ self.old) }
     {
         let id = SymbolId::new(self.symbols.len() as u32);
-        self.symbols.reserve(1)?;
-        self.uses.reserve(1)?;
+        reserve_symbol(&mut self.symbols, &mut self.uses)?;
         let number = self.names.intern(name)?;
         self.bindings.insert(bind_in, number, id)?;
-        self.symbols
-            .push(SymbolRow::new(number, span, flags, scope, node))?;
-        self.uses.push(Vec::new(self.alloc))?;
+        let row = SymbolRow::new(number, span, flags, scope, node);
+        push_symbol(self.alloc, &mut self.symbols, &mut self.uses, row);
         Ok(id)
     }
 

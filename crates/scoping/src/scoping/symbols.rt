@@ -10,6 +10,7 @@ ghost use Rattle.scoping.specs.Writing.{with_symbol, bound};
 ghost use Rattle.scoping.specs.Redeclared.{without_declaration};
 
 use super::Scoping;
+use super::room::{push_symbol, reserve_symbol};
 use crate::symbol_iterators::{Declarations, SymbolIds, SymbolNames};
 use crate::symbol_row::SymbolRow;
 use semantic_syntax::{Ident, NodeId, Redeclaration, ScopeId, Span, SymbolFlags, SymbolId};
@@ -34,12 +35,10 @@ impl Scoping {
         ensures err { OnErr result (self.new ≡ self.old) }
     {
         let id = SymbolId::new(self.symbols.len() as u32);
-        self.symbols.reserve(1)?;
-        self.uses.reserve(1)?;
+        reserve_symbol(&mut self.symbols, &mut self.uses)?;
         let number = self.names.intern(name)?;
-        self.symbols
-            .push(SymbolRow::new(number, span, flags, scope, node))?;
-        self.uses.push(Vec::new(self.alloc))?;
+        let row = SymbolRow::new(number, span, flags, scope, node);
+        push_symbol(self.alloc, &mut self.symbols, &mut self.uses, row);
         Ok(id)
     }
 

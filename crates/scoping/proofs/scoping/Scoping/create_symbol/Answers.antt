@@ -1,13 +1,37 @@
+use Rattle.std.proofs.Common.{refl, ap}
+use Rattle.semantic_syntax.proofs.Results.{on_err}
+use Rattle.scoping.proofs.Clones.{sound_same, tables_same}
 use Rattle.scoping.proofs.Pushed.{tables_pushed, sound_pushed}
+use Rattle.scoping.proofs.Rows.{rows}
 use Rattle.scoping.proofs.scoping.Scoping.create_symbol.Goals as goal
+
+pub invariant_of-self : goal.invariant_of-self
+invariant_of-self c =
+    let room = c.reserve_symbol.ensures in
+    sound_same c.self.inside _ c.self.invariant refl refl refl room.symbols refl (ap rows room.uses) refl
+
+pub returns-in_err-reserve_symbol-clause-err : goal.returns-in_err-reserve_symbol-clause-err
+returns-in_err-reserve_symbol-clause-err c =
+    let room = c.reserve_symbol.ensures in
+    rw (← c.self.view_is) (on_err c.from_residual.result (tables_same c.self.inside _ _ _ _ _ _ _ _ refl refl refl room.symbols refl (ap rows room.uses) refl refl))
+
+pub invariant_of-self-in_err-number : goal.invariant_of-self-in_err-number
+invariant_of-self-in_err-number c =
+    let room = c.reserve_symbol.ensures in
+    sound_same c.self.inside _ c.self.invariant c.in_err-number.ensures.err refl refl room.symbols refl (ap rows room.uses) refl
+
+pub returns-in_err-number-clause-err : goal.returns-in_err-number-clause-err
+returns-in_err-number-clause-err c =
+    let room = c.reserve_symbol.ensures in
+    rw (← c.self.view_is) (on_err c.from_residual-in_err-number.result (tables_same c.self.inside _ _ _ _ _ _ _ _ c.in_err-number.ensures.err refl refl room.symbols refl (ap rows room.uses) refl refl))
 
 pub invariant_of-self-2 : goal.invariant_of-self-2
 invariant_of-self-2 c =
-    sound_pushed c.self.inside c.self.invariant _ _ _ c.in_ok-number.ensures.ok c.push.new.self _ _ c.in_ok-push.ensures.items c.reserve.ensures.items c.new.ensures
-    c.push-2.new.self _ _ c.in_ok-push-2.ensures.items c.reserve-2.ensures.items c.new-2.ensures.items (rw (← c.self.view_is) at c.requires.room)
+    sound_pushed c.self.inside c.self.invariant _ _ _ c.in_ok-number.ensures.ok c.push_symbol.new.symbols _ _ c.push_symbol.ensures.symbols c.reserve_symbol.ensures.symbols c.new-row.ensures
+    c.push_symbol.new.uses _ c.push_symbol.ensures.uses c.reserve_symbol.ensures.uses (rw (← c.self.view_is) at c.requires.room)
 
 pub returns-clause-ok : goal.returns-clause-ok
 returns-clause-ok c =
     rw (← c.self.view_is)
-    (tables_pushed c.self.inside c.self.invariant _ _ _ c.in_ok-number.ensures.ok c.push.new.self _ _ c.in_ok-push.ensures.items c.reserve.ensures.items c.new.ensures
-    c.push-2.new.self _ _ c.in_ok-push-2.ensures.items c.reserve-2.ensures.items c.new-2.ensures.items)
+    (tables_pushed c.self.inside c.self.invariant _ _ _ c.in_ok-number.ensures.ok c.push_symbol.new.symbols _ _ c.push_symbol.ensures.symbols c.reserve_symbol.ensures.symbols c.new-row.ensures
+    c.push_symbol.new.uses _ c.push_symbol.ensures.uses c.reserve_symbol.ensures.uses)

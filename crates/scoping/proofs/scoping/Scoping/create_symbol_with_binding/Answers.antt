@@ -1,26 +1,49 @@
-use Rattle.std.proofs.Common.{◌≡◌, [], length, map, get_or, ap, ◌∙◌, arith}
+use Rattle.std.proofs.Common.{◌≡◌, [], length, map, get_or, refl, ap, ◌∙◌, arith}
 use Rattle.std.specs.Str.{bytes_eq}
 use Rattle.std.proofs.Math.ListN.{set}
 use Rattle.std.proofs.lemmas.List.{length-set, length-map}
 use Rattle.indexmap.specs.IndexMap.{insert_entry}
 use Rattle.scoping.specs.Names.{name_of}
 use Rattle.scoping.specs.Row.{symbol_of_row}
+use Rattle.semantic_syntax.proofs.Results.{on_err}
+use Rattle.scoping.proofs.Clones.{sound_same, tables_same}
+use Rattle.scoping.proofs.Rows.{rows}
 use Rattle.scoping.proofs.Pushed.{count_pushed, tables_pushed, sound_pushed}
 use Rattle.scoping.proofs.Shown.{bound_insert, shown_insert, scope_within, err_interned, sound_interned, sound_bindings, bindings_interned}
 use Rattle.scoping.proofs.scoping.Scoping.create_symbol_with_binding.Goals as goal
 
+pub invariant_of-self : goal.invariant_of-self
+invariant_of-self c =
+    let room = c.reserve_symbol.ensures in
+    sound_same c.self.inside _ c.self.invariant refl refl refl room.symbols refl (ap rows room.uses) refl
+
+pub returns-in_err-reserve_symbol-clause-err : goal.returns-in_err-reserve_symbol-clause-err
+returns-in_err-reserve_symbol-clause-err c =
+    let room = c.reserve_symbol.ensures in
+    rw (← c.self.view_is) (on_err c.from_residual.result (tables_same c.self.inside _ _ _ _ _ _ _ _ refl refl refl room.symbols refl (ap rows room.uses) refl refl))
+
+pub invariant_of-self-in_err-number : goal.invariant_of-self-in_err-number
+invariant_of-self-in_err-number c =
+    let room = c.reserve_symbol.ensures in
+    sound_same c.self.inside _ c.self.invariant c.in_err-number.ensures.err refl refl room.symbols refl (ap rows room.uses) refl
+
+pub returns-in_err-number-clause-err : goal.returns-in_err-number-clause-err
+returns-in_err-number-clause-err c =
+    let room = c.reserve_symbol.ensures in
+    rw (← c.self.view_is) (on_err c.from_residual-in_err-number.result (tables_same c.self.inside _ _ _ _ _ _ _ _ c.in_err-number.ensures.err refl refl room.symbols refl (ap rows room.uses) refl refl))
+
 pub returns-in_err-insert-clause-err : goal.returns-in_err-insert-clause-err
 returns-in_err-insert-clause-err c =
-    rw (c.in_err-insert.ensures.err, c.reserve.ensures.items, c.reserve-2.ensures.items)
+    rw (c.in_err-insert.ensures.err, c.reserve_symbol.ensures.symbols, c.reserve_symbol.ensures.uses)
     (err_interned c.self.inside c.self.invariant _ _ _ c.in_ok-number.ensures.ok c.from_residual-in_err-insert.result _ c.self.view_is)
 
 pub invariant_of-self-2 : goal.invariant_of-self-2
 invariant_of-self-2 c =
     let interned = c.in_ok-number.ensures.ok in
-    let sound = sound_pushed c.self.inside c.self.invariant _ _ _ interned c.push.new.self _ _ c.in_ok-push.ensures.items c.reserve.ensures.items c.new.ensures
-    c.push-2.new.self _ _ c.in_ok-push-2.ensures.items c.reserve-2.ensures.items c.new-2.ensures.items (rw (← c.self.view_is) at c.requires.room) in
-    let count = count_pushed c.self.inside c.self.invariant _ _ _ interned c.push.new.self _ _ c.in_ok-push.ensures.items c.reserve.ensures.items c.new.ensures
-    c.push-2.new.self _ _ c.in_ok-push-2.ensures.items c.reserve-2.ensures.items c.new-2.ensures.items in
+    let sound = sound_pushed c.self.inside c.self.invariant _ _ _ interned c.push_symbol.new.symbols _ _ c.push_symbol.ensures.symbols c.reserve_symbol.ensures.symbols c.new-row.ensures
+    c.push_symbol.new.uses _ c.push_symbol.ensures.uses c.reserve_symbol.ensures.uses (rw (← c.self.view_is) at c.requires.room) in
+    let count = count_pushed c.self.inside c.self.invariant _ _ _ interned c.push_symbol.new.symbols _ _ c.push_symbol.ensures.symbols c.reserve_symbol.ensures.symbols c.new-row.ensures
+    c.push_symbol.new.uses _ c.push_symbol.ensures.uses c.reserve_symbol.ensures.uses in
     rw c.in_ok-insert.ensures.ok
     (sound_bindings _ sound _ (length-set c.self.inside.bindings c.args.bind_in _)
     (bound_insert _ _ c.args.bind_in c.in_ok-number.number c.new-id.result c.self.inside.bindings interned.number.within
@@ -33,8 +56,8 @@ returns-clause-ok c =
     let within = scope_within c.self.inside c.self.invariant c.args.bind_in (rw (← c.self.view_is) at c.requires.bind_in) in
     let id : c.new-id.result ≡ length (map (symbol_of_row c.self.inside.names) c.self.inside.symbols.items) =
     omega (arith, c.new-id.ensures, c.len.ensures, c.self.inside.symbols.ok.0, length-map c.self.inside.symbols.items (symbol_of_row c.self.inside.names)) in
-    let pushed = tables_pushed c.self.inside c.self.invariant _ _ _ interned c.push.new.self _ _ c.in_ok-push.ensures.items c.reserve.ensures.items c.new.ensures
-    c.push-2.new.self _ _ c.in_ok-push-2.ensures.items c.reserve-2.ensures.items c.new-2.ensures.items in
+    let pushed = tables_pushed c.self.inside c.self.invariant _ _ _ interned c.push_symbol.new.symbols _ _ c.push_symbol.ensures.symbols c.reserve_symbol.ensures.symbols c.new-row.ensures
+    c.push_symbol.new.uses _ c.push_symbol.ensures.uses c.reserve_symbol.ensures.uses in
     let bound = shown_insert _ _ c.self.inside.bindings sound.bound c.args.bind_in within _ _ interned.number c.new-id.result
     ∙ ap (λ bs. set bs c.args.bind_in (insert_entry bytes_eq (get_or bs c.args.bind_in []) (name_of c.args.name) c.new-id.result)) (bindings_interned c.self.inside c.self.invariant _ _ _ interned) in
     rw (← c.self.view_is, c.in_ok-insert.ensures.ok, ← id) (λ j. record (pushed j) { bindings = bound j })

@@ -1,0 +1,14 @@
+use Rattle.std.proofs.Common.{refl, ap}
+use Rattle.scoping.proofs.Clones.{sound_same, tables_same}
+use Rattle.scoping.proofs.Rows.{rows}
+use Rattle.scoping.proofs.scoping.Scoping.reserve.Goals as goal
+
+pub invariant_of-self-2 : goal.invariant_of-self-2
+invariant_of-self-2 c =
+    let room = c.reserve_rows.ensures in
+    sound_same c.self.inside _ c.self.invariant c.reserve.ensures room.scopes c.reserve-2.ensures room.symbols room.references (ap rows room.uses) refl
+
+pub returns : goal.returns
+returns c =
+    let room = c.reserve_rows.ensures in
+    rw (← c.self.view_is) (tables_same c.self.inside _ _ _ _ _ _ _ _ c.reserve.ensures room.scopes c.reserve-2.ensures room.symbols room.references (ap rows room.uses) refl refl)
