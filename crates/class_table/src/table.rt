@@ -177,11 +177,13 @@ impl<'a> ClassTable<'a> {
     {
         let alloc = self.allocator();
         let id = ClassId::new(self.declarations.len() as u32);
+        reserve_class(
+            &mut self.declarations,
+            &mut self.elements,
+            &mut self.private_identifier_references,
+            &mut self.names,
+        )?;
         let names = MeantNames::of(alloc, elements.as_slice())?;
-        self.declarations.reserve(1)?;
-        self.elements.reserve(1)?;
-        self.private_identifier_references.reserve(1)?;
-        self.names.reserve(1)?;
         put_inside(&mut self.parent_ids, id, parent)?;
         push_in_room(&mut self.declarations, node);
         push_in_room(&mut self.elements, elements);
@@ -218,6 +220,28 @@ impl<'a> ClassTable<'a> {
         self.private_identifier_references[c.index()].push(reference)?;
         Ok(())
     }
+}
+
+/// Makes room in each list for one more class.
+fn reserve_class<'a>(
+    declarations: &mut Vec<NodeId>,
+    elements: &mut Vec<Vec<Element<'a>>>,
+    uses: &mut Vec<Vec<PrivateIdentifierReference<'a>>>,
+    names: &mut Vec<MeantNames<'a>>,
+) -> Result<(), AllocError>
+    ensures declarations { declarations.new.items ≡ declarations.old.items }
+    ensures elements { elements.new.items ≡ elements.old.items }
+    ensures uses { uses.new.items ≡ uses.old.items }
+    ensures names { names.new.items ≡ names.old.items }
+    ensures declarations_room { OnOk result (vec_len declarations.new < vec_capacity declarations.new) }
+    ensures elements_room { OnOk result (vec_len elements.new < vec_capacity elements.new) }
+    ensures uses_room { OnOk result (vec_len uses.new < vec_capacity uses.new) }
+    ensures names_room { OnOk result (vec_len names.new < vec_capacity names.new) }
+{
+    declarations.reserve(1)?;
+    elements.reserve(1)?;
+    uses.reserve(1)?;
+    names.reserve(1)
 }
 
 /// Notes the class around a new one, if there is one.
