@@ -87,7 +87,7 @@ listing_told p sound =
     let short : length (texts_of p) < 2 ^ 32 = omega (arith, nodes, listing-len p.root, texts_from-len (listing p.root) []) in
     told_each (texts_of p) (listing p.root) short (texts_from-has (listing p.root) [])
 
-spelled_again : (keys : List (Bor (List ℕ))) → Each IsSpelled keys → Each IsTextAgain (map characters keys)
+pub spelled_again : (keys : List (Bor (List ℕ))) → Each IsSpelled keys → Each IsTextAgain (map characters keys)
 spelled_again [] spelled = tt
 spelled_again (k ∷ ks) spelled = (ap chars spelled.0, spelled_again ks spelled.1)
 
@@ -106,12 +106,11 @@ plain_again p d (Ok b) is shaped readable utf8 back =
     reading-form b.items (program_data in_rows p) p utf8 (back low ∙ ap Some is) (plain_form p readable (listing_marks p sound)) sound
 plain_again p d (Err e) is shaped readable utf8 back = tt
 
-pub texts_again : (p : Tree) (keys : List (Bor (List ℕ))) (d : Data) (result : Result (Vec ℕ Global) AllocError) → map characters keys ≡ texts_of p → Each IsSpelled keys
+pub texts_again : (p : Tree) (d : Data) (result : Result (Vec ℕ Global) AllocError) → Each IsTextAgain (texts_of p)
     → d ≡ program_data (in_list (texts_of p)) p → IsShaped p → IsReadable (in_list (texts_of p)) p
     → IfOk result (λ b. IsUtf8 b.items) → IfOk result (λ b. depth d ≤ max_depth → read b.items ≡ Some d) → IfOk result (λ b. reading b.items ≡ Ok (listed p))
-texts_again p keys d (Ok b) are spelled is shaped readable utf8 back =
+texts_again p d (Ok b) again is shaped readable utf8 back =
     let sound = IsShaped-no_fault p shaped in
     let low : depth d ≤ max_depth = rw is (program_low (in_list (texts_of p)) p) in
-    let again : Each IsTextAgain (texts_of p) = subst (Each IsTextAgain) are (spelled_again keys spelled) in
     reading-form b.items (program_data (in_list (texts_of p)) p) p utf8 (back low ∙ ap Some is) (texts_form p (texts_of p) readable again (listing_told p sound) (listing_marks p sound)) sound
-texts_again p keys d (Err e) are spelled is shaped readable utf8 back = tt
+texts_again p d (Err e) again is shaped readable utf8 back = tt

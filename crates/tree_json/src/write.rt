@@ -11,7 +11,7 @@ ghost use Rattle.tree_json.specs.Top.{goal_name, lang_name};
 ghost use Rattle.tree_json.specs.Views.{characters, places_view, IsSpelled, AreSpelled};
 ghost use Rattle.tree_json.specs.Reading.{reading, listed};
 ghost use Rattle.tree_json.specs.WrittenForm.{AreWrittenForm};
-ghost use Rattle.tree_json.specs.Written.{texts_of, comment_data, rows_data, text_data, object_data, program_data, texts_member, Each, IsReadable};
+ghost use Rattle.tree_json.specs.Written.{texts_of, comment_data, rows_data, text_data, object_data, program_data, texts_member, Each, IsReadable, IsTextAgain};
 
 use crate::list::push_rows;
 use crate::places::{TextPlaces, texts_of};
@@ -53,8 +53,7 @@ pub fn write_program_with_texts(alloc: Global, program: &Program) -> Result<Vec<
     ensures again { IfOk result (λ bytes. reading bytes.items ≡ Ok (listed program.now)) }
 {
     let rows = rows_of(alloc, program)?;
-    let texts = texts_of(alloc, &rows)?;
-    let value = value_with_texts(alloc, program, &texts, &rows)?;
+    let value = form_with_texts(alloc, program, &rows)?;
     value.to_vec(alloc)
 }
 
@@ -77,6 +76,18 @@ fn plain_value(alloc: Global, program: &Program, rows: &[Row<'_>]) -> Result<Val
 {
     let parts = parts_of(alloc, program, TextPlaces::InPlace, rows)?;
     plain_object(alloc, program.source_type(), parts)
+}
+
+/// The written form in format 2 of a program with these rows. The list of their texts is given back
+/// before a text is made of it.
+fn form_with_texts(alloc: Global, program: &Program, rows: &[Row<'_>]) -> Result<Value, AllocError>
+    requires { map line rows.now ≡ listing program.now.root }
+    ensures value { IfOk result (λ v. data_of v ≡ program_data (in_list (texts_of program.now)) program.now) }
+    ensures readable { IfOk result (λ v. IsReadable (in_list (texts_of program.now)) program.now) }
+    ensures again { IfOk result (λ v. Each IsTextAgain (texts_of program.now)) }
+{
+    let texts = texts_of(alloc, rows)?;
+    value_with_texts(alloc, program, &texts, rows)
 }
 
 /// The written form in format 2 of a program with these rows, whose texts are these.
