@@ -98,12 +98,11 @@ fn parts_at_once(alloc: Global, bytes: &[u8]) -> Result<Option<Parts>, AllocErro
 fn parts_of_pulled(alloc: Global, top: Pulled<'_>) -> Result<Option<Parts>, AllocError>
     ensures { IfOk result (λ o. IfSome o (λ parts. (d : Data) → IsPulled d top.entry → listed_in d ≡ Ok (parts_view parts))) }
 {
-    if !lists_tree(&top) {
-        return Ok(None);
+    if lists_tree(&top) {
+        Ok(Some(parts_listed(alloc, top)?))
+    } else {
+        Ok(None)
     }
-    let root = tree_of(alloc, &top.rows)?;
-    let parts = parts_with(alloc, top.source, top.source_type, top.comments, root)?;
-    Ok(Some(parts))
 }
 
 /// Whether what was pulled is within the limits, and its rows list a tree.
@@ -117,6 +116,20 @@ fn lists_tree(top: &Pulled<'_>) -> bool
     !top.rows.is_empty()
         && !are_too_many(top.rows.len(), top.comments.len(), top.source)
         && are_listed(&top.rows)
+}
+
+/// The parts that what was pulled says, whose rows list a tree.
+fn parts_listed(alloc: Global, top: Pulled<'_>) -> Result<Parts, AllocError>
+    requires { IsListing (map line top.rows.items) }
+    ensures { IfOk result (λ parts. parts_view parts ≡ record {
+      source = chars top.entry.source.now;
+      source_type = top.entry.source_type;
+      comments = top.entry.comments.items;
+      lines = map line top.entry.rows.items;
+    }) }
+{
+    let root = tree_of(alloc, &top.rows)?;
+    parts_with(alloc, top.source, top.source_type, top.comments, root)
 }
 
 /// The parts with a text of their own. They are put together here alone, so that no other step has to
