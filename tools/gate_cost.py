@@ -163,6 +163,18 @@ def print_edits(costs):
         print(f"{seconds:8.0f}  {crate}/{edit.removesuffix('.edit')}")
 
 
+def machine_times():
+    """The time of all processors since the machine began, and how much of it a host that shares them took."""
+    with open("/proc/stat", encoding="utf-8") as file:
+        times = [int(it) for it in file.readline().split()[1:9]]
+    return sum(times), times[7] if len(times) > 7 else 0
+
+
+def share_of_host(before, after):
+    """The percentage of the processors' time that the host took between two such readings."""
+    return 100 * (after[1] - before[1]) / max(after[0] - before[0], 1)
+
+
 def known(words):
     """Those of the words that this kit's `rt` speaks of: one whose gate keeps nothing doesn't know --anew."""
     ran = subprocess.run(["rt", "help"], stdout=subprocess.PIPE, stderr=subprocess.STDOUT, errors="replace", check=False)
@@ -170,7 +182,7 @@ def known(words):
 
 
 def main(words):
-    begun = time.monotonic()
+    begun, times = time.monotonic(), machine_times()
     with subprocess.Popen(["rt", "ci", *known(words)]) as gate:
         costs = Costs(gate.pid)
         while gate.poll() is None:
@@ -185,6 +197,7 @@ def main(words):
     minutes = (time.monotonic() - begun) / 60
     processors = len(os.sched_getaffinity(0))
     print(f"\n{whole / 60:.1f} processor minutes, {rest:.0f} seconds of them of no crate, in {minutes:.1f} minutes on {processors} processors")
+    print(f"a host that shares the processors took {share_of_host(times, machine_times()):.0f} % of the time of all")
     return gate.returncode if gate.returncode >= 0 else 128 - gate.returncode
 
 
