@@ -7,7 +7,7 @@ use report::{USAGE, run};
 use std::process::ExitCode;
 
 fn main(rt: HostRuntime) -> ExitCode {
-    let status = run_over_standard_ends(&rt, USAGE, |alloc, words, source, out, errs| {
+    let status = run_over_standard_ends(&rt, 1, USAGE, |alloc, words, source, out, errs| {
         run(alloc, words, source, out, errs)
     });
     ExitCode::from(status.code())
