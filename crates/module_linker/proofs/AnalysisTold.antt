@@ -5,8 +5,8 @@ use Rattle.semantic_diagnostics.specs.declared.diagnostic.Diagnostic.{Diagnostic
 use Rattle.semantic_syntax.specs.Tables.{Tables}
 use Rattle.semantic_walk.specs.Begun.{IsAnalysis, BelongsToNodes}
 use Rattle.module_set.specs.declared.modules.Module.{Module}
-use Rattle.node_symbols.specs.Shown.{shown}
-use Rattle.node_symbols.proofs.Lookups.{shows}
+use Rattle.semantic.specs.Shown.{shown}
+use Rattle.semantic.proofs.Lookups.{shows}
 use Rattle.link_model.specs.Module.{Analysed, analysed}
 
 abbrev pub seen_by : Module → Tables → NodeEntries → Analysed

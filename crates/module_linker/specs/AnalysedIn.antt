@@ -1,7 +1,7 @@
 -- What contracts see of a module with its analysis, and of its entries.
 use Rattle.std.specs.Prelude.{◌≡◌, ℕ, List, map}
 use Rattle.semantic_tree.specs.ChildIter.{shown}
-use Rattle.node_symbols.specs.Shown as tables
+use Rattle.semantic.specs.Shown as tables
 use Rattle.link_model.specs.Exports.{exports, stars}
 use Rattle.link_model.specs.Imports.{Import, imports}
 use Rattle.link_model.specs.Leads.{Ties, ties_of}

@@ -12,7 +12,7 @@ use Rattle.scoping.specs.NodeEntries.{NodeEntries}
 use Rattle.semantic_model.specs.NodeTable.{Belongs, node_tables, number_of}
 use Rattle.semantic_model.specs.Step.{steps}
 use Rattle.semantic_model.specs.TablesOf.{tables_of}
-use Rattle.node_symbols.specs.Shown.{entries}
+use Rattle.semantic.specs.Shown.{entries}
 use Rattle.program_names.specs.Analysis.{analysis_of, symbol_at}
 use Rattle.name_lint.specs.Gathered.{Gathered, nothing_gathered, symbol_in, text_of, gathered_from, gathered_by}
 use Rattle.name_lint.specs.Live.{AreOutside, AreUnused, exports}

@@ -4,7 +4,7 @@ ghost use Rattle.semantic_tree.specs.Tree.{Tree};
 ghost use Rattle.semantic_model.specs.NodeTable.{node_tables};
 ghost use Rattle.semantic_model.specs.Step.{steps};
 ghost use Rattle.semantic_model.specs.TablesOf.{tables_of};
-ghost use Rattle.node_symbols.specs.Shown.{entries};
+ghost use Rattle.semantic.specs.Shown.{entries};
 ghost use Rattle.name_lint.specs.Gathered.{text_of, span_of};
 ghost use Rattle.program_ends.specs.Answering.{WritesAll};
 ghost use Rattle.program_ends.specs.Calls.{source_call, sink_call};

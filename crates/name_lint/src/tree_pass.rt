@@ -2,7 +2,7 @@
 ghost use Rattle.std.specs.Prelude.{◌≡◌, map, OnOk, IfOk};
 ghost use Rattle.semantic_model.specs.NodeTable.{node_tables};
 ghost use Rattle.semantic_model.specs.Step.{steps};
-ghost use Rattle.node_symbols.specs.Shown.{entries};
+ghost use Rattle.semantic.specs.Shown.{entries};
 ghost use Rattle.name_lint.specs.Uses.{is_declaration};
 ghost use Rattle.name_lint.specs.Gathered.{nothing_gathered, symbol_in, text_of, span_of, owner_inside, gathered_at, gathered_from, HasGathered};
 

@@ -1,6 +1,6 @@
 -- The analysis that tables tell.
 use Rattle.program_names.specs.Analysis.{Analysis}
-use Rattle.node_symbols.specs.Shown.{shown}
+use Rattle.semantic.specs.Shown.{shown}
 use Rattle.renamer.specs.declared.analysed.Analysed.{Analysed}
 
 abbrev pub told_by : Analysed → Analysis

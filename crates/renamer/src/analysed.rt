@@ -19,13 +19,13 @@ impl Analysed<'_> {
     pub fn symbol_at(&self, node: NodeId) -> Option<SymbolId>
         ensures { result ≡ symbol_at (told_by self.now) node }
     {
-        node_symbols::symbol_at(self.tables, node)
+        semantic::node_symbols::symbol_at(self.tables, node)
     }
 
     /// The symbol to which the node is tied, if any.
     pub fn tied_at(&self, node: NodeId) -> Option<SymbolId>
         ensures { result ≡ tied_at (told_by self.now) node }
     {
-        node_symbols::tied_at(self.scoping, self.tables, node)
+        semantic::node_symbols::tied_at(self.scoping, self.tables, node)
     }
 }

@@ -15,7 +15,7 @@ ghost use Rattle.renamer.specs.Fixing.{names_property_at, fixes_at};
 
 use crate::analysed::Analysed;
 use crate::bearing::bears_name;
-use node_symbols::exported_names;
+use semantic::node_symbols::exported_names;
 use semantic_syntax::{NodeId, SymbolId};
 use semantic_tree::{AstType, Node, Place, Program, Role};
 use std::alloc::{AllocError, Global};

@@ -9,3 +9,5 @@ pub use Rattle.semantic_walk.specs.Begun
 pub use Rattle.semantic_walk.specs.Listed
 pub use Rattle.walk_notes.specs.NoteLists
 pub use Rattle.namespace_states.specs.InstanceStates
+pub mod Shown
+pub mod Given

@@ -5,6 +5,7 @@ pub mod builder;
 pub mod global_reference;
 pub mod laws;
 pub mod node_queries;
+pub mod node_symbols;
 pub mod semantic;
 pub mod stats;
 

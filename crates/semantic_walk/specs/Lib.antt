@@ -11,3 +11,4 @@ pub mod AtPlace
 pub mod Leaving
 pub mod Begun
 pub mod Leavable
+pub mod Checkable

@@ -6,7 +6,7 @@ ghost use Rattle.check_context.specs.Handed.{sight};
 ghost use Rattle.semantic_walk.specs.Leavable.{IsLeavable};
 
 use check_context::CheckContext;
-use checker::check;
+use crate::checker::check;
 use semantic_diagnostics::Diagnostics;
 use semantic_tree::AstKind;
 use std::alloc::{AllocError, Global};
