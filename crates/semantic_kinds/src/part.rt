@@ -1,14 +1,9 @@
-//! What each kind of node is made of, by the headings of the shape table.
+//! What each kind of node is made of.
 
 ghost use Rattle.std.specs.Prelude.{◌≡◌};
 ghost use Rattle.semantic_kinds.specs.Parts.{parts};
 
-mod declarations;
-mod expressions;
-mod modules;
-mod statements;
-mod types;
-mod typescript;
+mod table;
 
 use crate::class::Class;
 use crate::kind::AstType;
@@ -35,5 +30,5 @@ pub struct Part {
 pub fn parts(kind: AstType) -> &'static [Part]
     ensures { result.now ≡ parts kind }
 {
-    statements::parts(kind)
+    table::table()[kind.index()]
 }
