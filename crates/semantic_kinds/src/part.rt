@@ -81,26 +81,41 @@ macro_rules! some {
 
 pub(crate) use some;
 
+// Where the rows of each heading begin, in the order of the kinds.
+const DECLARATIONS: usize = 30;
+
+const MODULES: usize = 48;
+
+const EXPRESSIONS: usize = 60;
+
+const JSX: usize = 107;
+
+const TYPES: usize = 122;
+
+const SIGNATURES: usize = 164;
+
+const TYPESCRIPT: usize = 174;
+
 /// The parts of a node of a kind, in visiting order.
 pub fn parts(kind: AstType) -> &'static [Part]
     ensures { result.now ≡ parts kind }
 {
     let number = kind.index();
-    if number < 30 {
+    if number < DECLARATIONS {
         statements::rows()[number]
-    } else if number < 48 {
-        declarations::rows()[number - 30]
-    } else if number < 60 {
-        modules::rows()[number - 48]
-    } else if number < 107 {
-        expressions::rows()[number - 60]
-    } else if number < 122 {
-        jsx::rows()[number - 107]
-    } else if number < 164 {
-        types::rows()[number - 122]
-    } else if number < 174 {
-        signatures::rows()[number - 164]
+    } else if number < MODULES {
+        declarations::rows()[number - DECLARATIONS]
+    } else if number < EXPRESSIONS {
+        modules::rows()[number - MODULES]
+    } else if number < JSX {
+        expressions::rows()[number - EXPRESSIONS]
+    } else if number < TYPES {
+        jsx::rows()[number - JSX]
+    } else if number < SIGNATURES {
+        types::rows()[number - TYPES]
+    } else if number < TYPESCRIPT {
+        signatures::rows()[number - SIGNATURES]
     } else {
-        typescript::rows()[number - 174]
+        typescript::rows()[number - TYPESCRIPT]
     }
 }

@@ -12,30 +12,30 @@ row : (one : AstType) (number many start : ℕ) (rows : List (Bor (List Part))) 
 row one number many start rows d is from below same =
     named_from parts all_kinds (λ (r : Bor (List Part)). r.now) rows many start number d one (ap (slice_get all_kinds) is ∙ kind_in_place one) from below same
 
-pub returns-then-number-lt30 : goal.returns-then-number-lt30
-returns-then-number-lt30 c =
+pub returns-then-number-lt-DECLARATIONS : goal.returns-then-number-lt-DECLARATIONS
+returns-then-number-lt-DECLARATIONS c =
     let same : c.index-number.result ≡ c.index-number.result - 0 = omega arith in
-    ap (λ n. (slice_index_or c.rows.result.now n (record { ref_ptr = (0, 0); now = [] })).now) same ∙ row c.args.kind c.index-number.result 30 0 c.rows.result.now _ c.index-number.ensures (omega arith) (omega (arith, c.if-number-lt30.true)) c.rows.ensures
+    ap (λ n. (slice_index_or c.rows.result.now n (record { ref_ptr = (0, 0); now = [] })).now) same ∙ row c.args.kind c.index-number.result 30 0 c.rows.result.now _ c.index-number.ensures (omega arith) (omega (arith, c.if-number-lt-DECLARATIONS.true)) c.rows.ensures
 
-pub returns-then-number-lt48 : goal.returns-then-number-lt48
-returns-then-number-lt48 c = row c.args.kind c.index-number.result 18 30 c.rows-then-number-lt48.result.now _ c.index-number.ensures (omega (arith, c.if-number-lt30.false)) (omega (arith, c.if-number-lt48.true)) c.rows-then-number-lt48.ensures
+pub returns-then-number-lt-MODULES : goal.returns-then-number-lt-MODULES
+returns-then-number-lt-MODULES c = row c.args.kind c.index-number.result 18 30 c.rows-then-number-lt-MODULES.result.now _ c.index-number.ensures (omega (arith, c.if-number-lt-DECLARATIONS.false)) (omega (arith, c.if-number-lt-MODULES.true)) c.rows-then-number-lt-MODULES.ensures
 
-pub returns-then-number-lt60 : goal.returns-then-number-lt60
-returns-then-number-lt60 c = row c.args.kind c.index-number.result 12 48 c.rows-then-number-lt60.result.now _ c.index-number.ensures (omega (arith, c.if-number-lt48.false)) (omega (arith, c.if-number-lt60.true)) c.rows-then-number-lt60.ensures
+pub returns-then-number-lt-EXPRESSIONS : goal.returns-then-number-lt-EXPRESSIONS
+returns-then-number-lt-EXPRESSIONS c = row c.args.kind c.index-number.result 12 48 c.rows-then-number-lt-EXPRESSIONS.result.now _ c.index-number.ensures (omega (arith, c.if-number-lt-MODULES.false)) (omega (arith, c.if-number-lt-EXPRESSIONS.true)) c.rows-then-number-lt-EXPRESSIONS.ensures
 
-pub returns-then-number-lt107 : goal.returns-then-number-lt107
-returns-then-number-lt107 c = row c.args.kind c.index-number.result 47 60 c.rows-then-number-lt107.result.now _ c.index-number.ensures (omega (arith, c.if-number-lt60.false)) (omega (arith, c.if-number-lt107.true)) c.rows-then-number-lt107.ensures
+pub returns-then-number-lt-JSX : goal.returns-then-number-lt-JSX
+returns-then-number-lt-JSX c = row c.args.kind c.index-number.result 47 60 c.rows-then-number-lt-JSX.result.now _ c.index-number.ensures (omega (arith, c.if-number-lt-EXPRESSIONS.false)) (omega (arith, c.if-number-lt-JSX.true)) c.rows-then-number-lt-JSX.ensures
 
-pub returns-then-number-lt122 : goal.returns-then-number-lt122
-returns-then-number-lt122 c = row c.args.kind c.index-number.result 15 107 c.rows-then-number-lt122.result.now _ c.index-number.ensures (omega (arith, c.if-number-lt107.false)) (omega (arith, c.if-number-lt122.true)) c.rows-then-number-lt122.ensures
+pub returns-then-number-lt-TYPES : goal.returns-then-number-lt-TYPES
+returns-then-number-lt-TYPES c = row c.args.kind c.index-number.result 15 107 c.rows-then-number-lt-TYPES.result.now _ c.index-number.ensures (omega (arith, c.if-number-lt-JSX.false)) (omega (arith, c.if-number-lt-TYPES.true)) c.rows-then-number-lt-TYPES.ensures
 
-pub returns-then-number-lt164 : goal.returns-then-number-lt164
-returns-then-number-lt164 c = row c.args.kind c.index-number.result 42 122 c.rows-then-number-lt164.result.now _ c.index-number.ensures (omega (arith, c.if-number-lt122.false)) (omega (arith, c.if-number-lt164.true)) c.rows-then-number-lt164.ensures
+pub returns-then-number-lt-SIGNATURES : goal.returns-then-number-lt-SIGNATURES
+returns-then-number-lt-SIGNATURES c = row c.args.kind c.index-number.result 42 122 c.rows-then-number-lt-SIGNATURES.result.now _ c.index-number.ensures (omega (arith, c.if-number-lt-TYPES.false)) (omega (arith, c.if-number-lt-SIGNATURES.true)) c.rows-then-number-lt-SIGNATURES.ensures
 
-pub returns-then-number-lt174 : goal.returns-then-number-lt174
-returns-then-number-lt174 c = row c.args.kind c.index-number.result 10 164 c.rows-then-number-lt174.result.now _ c.index-number.ensures (omega (arith, c.if-number-lt164.false)) (omega (arith, c.if-number-lt174.true)) c.rows-then-number-lt174.ensures
+pub returns-then-number-lt-TYPESCRIPT : goal.returns-then-number-lt-TYPESCRIPT
+returns-then-number-lt-TYPESCRIPT c = row c.args.kind c.index-number.result 10 164 c.rows-then-number-lt-TYPESCRIPT.result.now _ c.index-number.ensures (omega (arith, c.if-number-lt-SIGNATURES.false)) (omega (arith, c.if-number-lt-TYPESCRIPT.true)) c.rows-then-number-lt-TYPESCRIPT.ensures
 
-pub returns-else-number-lt174 : goal.returns-else-number-lt174
-returns-else-number-lt174 c =
+pub returns-else-number-lt-TYPESCRIPT : goal.returns-else-number-lt-TYPESCRIPT
+returns-else-number-lt-TYPESCRIPT c =
     let within : c.index-number.result < 190 = slice_get_within all_kinds c.index-number.result c.args.kind (ap (slice_get all_kinds) c.index-number.ensures ∙ kind_in_place c.args.kind) in
-    row c.args.kind c.index-number.result 16 174 c.rows-else-number-lt174.result.now _ c.index-number.ensures (omega (arith, c.if-number-lt174.false)) (omega (arith, within)) c.rows-else-number-lt174.ensures
+    row c.args.kind c.index-number.result 16 174 c.rows-else-number-lt-TYPESCRIPT.result.now _ c.index-number.ensures (omega (arith, c.if-number-lt-TYPESCRIPT.false)) (omega (arith, within)) c.rows-else-number-lt-TYPESCRIPT.ensures
