@@ -646,5 +646,10 @@ impl fmt::Debug for AstType {
 fn named_among(kinds: &[AstType], text: &str) -> Option<AstType>
     ensures { result ≡ find (λ one. bytes_eq (kind_name one) text.now) kinds.now }
 {
-    kinds.iter().copied().find(|one| one.name() == text)
+    for one in kinds {
+        if one.name() == text {
+            return Some(*one);
+        }
+    }
+    None
 }

@@ -180,5 +180,10 @@ impl Mark {
 fn named_among(marks: &[Mark], text: &str) -> Option<Mark>
     ensures { result ≡ find (λ one. bytes_eq (mark_name one) text.now) marks.now }
 {
-    marks.iter().copied().find(|one| one.name() == text)
+    for one in marks {
+        if one.name() == text {
+            return Some(*one);
+        }
+    }
+    None
 }

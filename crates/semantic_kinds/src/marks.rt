@@ -60,6 +60,11 @@ impl Marks {
     pub fn is_single(self) -> bool
         ensures { result ≡ is_single self }
     {
-        Mark::ALL.iter().any(|mark| self.bits == mark.bit())
+        for mark in Mark::all() {
+            if self.bits == mark.bit() {
+                return true;
+            }
+        }
+        false
     }
 }

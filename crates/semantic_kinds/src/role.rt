@@ -295,5 +295,10 @@ impl Role {
 fn named_among(roles: &[Role], text: &str) -> Option<Role>
     ensures { result ≡ find (λ one. bytes_eq (role_name one) text.now) roles.now }
 {
-    roles.iter().copied().find(|one| one.name() == text)
+    for one in roles {
+        if one.name() == text {
+            return Some(*one);
+        }
+    }
+    None
 }
