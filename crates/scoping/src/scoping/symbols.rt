@@ -180,8 +180,7 @@ impl Scoping {
             declaration: node,
             flags,
         };
-        self.symbols[symbol.index()].add_redeclaration(self.alloc, added)?;
-        Ok(())
+        self.symbols[symbol.index()].add_redeclaration(self.alloc, added)
     }
 
     /// Forgets the symbol's list of redeclarations.
