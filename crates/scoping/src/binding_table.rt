@@ -331,8 +331,7 @@ impl BindingTable {
         ensures { self.new ≡ self.old }
     {
         self.scopes.reserve(scopes)?;
-        self.positions.reserve(bindings)?;
-        Ok(())
+        self.positions.reserve(bindings)
     }
 }
 

@@ -9,6 +9,9 @@ use Rattle.scoping.proofs.Cases.{either}
 use Rattle.scoping.proofs.Shown.{tables_eq, bound_insert, shown_insert, scope_within, symbol_within, sound_bindings, sound_interned, tables_interned, bindings_interned, symbols_interned, free_interned}
 use Rattle.scoping.proofs.scoping.Scoping.add_binding.Goals as goal
 
+pub insert-requires : goal.insert-requires
+insert-requires c = scope_within c.self.inside c.self.invariant c.args.scope (rw (← c.self.view_is) at c.requires.scope)
+
 pub invariant_of-self-2 : goal.invariant_of-self-2
 invariant_of-self-2 c =
     let interned = c.in_ok-number.ensures.ok in

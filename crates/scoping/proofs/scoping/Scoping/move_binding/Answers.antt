@@ -6,6 +6,12 @@ use Rattle.scoping.proofs.Moves.{bound_moved, length_moved, moved_is, moved_unkn
 use Rattle.scoping.proofs.Shown.{scope_within, sound_bindings}
 use Rattle.scoping.proofs.scoping.Scoping.move_binding.Goals as goal
 
+pub move_number-requires-clause-from : goal.move_number-requires-clause-from
+move_number-requires-clause-from c = scope_within c.self.inside c.self.invariant c.args.from (rw (← c.self.view_is) at c.requires.from)
+
+pub move_number-requires-clause-to : goal.move_number-requires-clause-to
+move_number-requires-clause-to c = scope_within c.self.inside c.self.invariant c.args.to (rw (← c.self.view_is) at c.requires.to)
+
 pub invariant_of-self : goal.invariant_of-self
 invariant_of-self c =
     let sound = c.self.invariant in

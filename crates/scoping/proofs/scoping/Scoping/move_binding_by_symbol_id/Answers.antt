@@ -7,6 +7,18 @@ use Rattle.scoping.proofs.Moves.{bound_moved, length_moved, moved_is}
 use Rattle.scoping.proofs.Shown.{tables_eq, scope_within, symbol_within, sound_bindings, sound_rows, shown_number}
 use Rattle.scoping.proofs.scoping.Scoping.move_binding_by_symbol_id.Goals as goal
 
+pub own_number-number-requires-clause-id : goal.own_number-number-requires-clause-id
+own_number-number-requires-clause-id c = symbol_within c.self.inside c.self.invariant c.args.symbol (rw (← c.self.view_is) at c.requires.symbol)
+
+pub own_number-number-requires-clause-named : goal.own_number-number-requires-clause-named
+own_number-number-requires-clause-named c = c.self.invariant.named
+
+pub move_number-requires-clause-from : goal.move_number-requires-clause-from
+move_number-requires-clause-from c = scope_within c.self.inside c.self.invariant c.args.from (rw (← c.self.view_is) at c.requires.from)
+
+pub move_number-requires-clause-to : goal.move_number-requires-clause-to
+move_number-requires-clause-to c = scope_within c.self.inside c.self.invariant c.args.to (rw (← c.self.view_is) at c.requires.to)
+
 pub invariant_of-self-2 : goal.invariant_of-self-2
 invariant_of-self-2 c =
     let sound = c.self.invariant in
