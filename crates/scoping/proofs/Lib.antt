@@ -1,4 +1,5 @@
 pub mod Names
+pub mod Cases
 pub mod Found
 pub mod Filled
 pub mod Indexed

@@ -9,7 +9,7 @@ use Rattle.std.proofs.lemmas.List.{length-set, get_or-set_same, set-set}
 use Rattle.std.proofs.lemmas.Bool.{eqb-true, eqb-false, false_from_ne_true}
 use Rattle.indexmap.specs.IndexMap.{insert_entry, shift_remove_entry}
 use Rattle.semantic_syntax.specs.Tables.{Name, Tables}
-use Rattle.scoping.specs.Flat.{Numbered, put, cut, moved_number}
+use Rattle.scoping.specs.Flat.{Numbered, put, cut, moved_number, renumbered}
 use Rattle.scoping.specs.Names.{named, IsUnknown, IsNumberOf}
 use Rattle.scoping.specs.View.{IsBoundWithin}
 use Rattle.scoping.specs.Writing.{bound, unbound, moved, renamed}
@@ -94,18 +94,33 @@ module _ (names : List Name) (symbols : ℕ) (bs : List Numbered) (h : AreBound 
     tells : (b : Bool) → (n == m) ≡ b → bytes_eq new old ≡ b
     tells b e = ap (bytes_eq new) (sym first.named) ∙ second.only m first.within ∙ e
 
-    pub rename_same : (n == m) ≡ true → renamed (showing bs) s y old new ≡ showing bs
+    rename_same : (n == m) ≡ true → renamed (showing bs) s y old new ≡ showing bs
     rename_same same = rw (tells true same) refl
 
-    pub rename_is : (n == m) ≡ false → showing (put (cut bs s m) s n y) ≡ renamed (showing bs) s y old new
+    rename_is : (n == m) ≡ false → showing (put (cut bs s m) s n y) ≡ renamed (showing bs) s y old new
     rename_is apart =
         let inner = bound_remove (length names) symbols s m bs h in
         rw (tells false apart)
         (ap (λ b. record t { bindings = b }) (shown_insert names symbols (cut bs s m) inner s (rw length-set within) new n second y)
         ∙ ap (λ u. bound u s new y) (unbound_is s within old m first))
 
-pub bound_renamed : (names symbols s m n y : ℕ) (bs : List Numbered) → n < names → y < symbols → AreBound names symbols bs → AreBound names symbols (put (cut bs s m) s n y)
-bound_renamed names symbols s m n y bs l k h = bound_insert names symbols s n y (cut bs s m) l k (bound_remove names symbols s m bs h)
+    pub renumbered_is : showing (renumbered bs s m n y) ≡ renamed (showing bs) s y old new
+    renumbered_is = by (n == m) refl
+      where
+        by : (b : Bool) → (n == m) ≡ b → showing (if b then bs else put (cut bs s m) s n y) ≡ renamed (showing bs) s y old new
+        by true e = sym (rename_same e)
+        by false e = rename_is e
 
-pub length_renamed : (s m n y : ℕ) (bs : List Numbered) → length (put (cut bs s m) s n y) ≡ length bs
-length_renamed s m n y bs = length-set (cut bs s m) s _ ∙ length-set bs s _
+pub bound_renumbered : (names symbols s m n y : ℕ) (bs : List Numbered) → n < names → y < symbols → AreBound names symbols bs → AreBound names symbols (renumbered bs s m n y)
+bound_renumbered names symbols s m n y bs l k h = by (n == m)
+  where
+    by : (b : Bool) → AreBound names symbols (if b then bs else put (cut bs s m) s n y)
+    by true = h
+    by false = bound_insert names symbols s n y (cut bs s m) l k (bound_remove names symbols s m bs h)
+
+pub length_renumbered : (s m n y : ℕ) (bs : List Numbered) → length (renumbered bs s m n y) ≡ length bs
+length_renumbered s m n y bs = by (n == m)
+  where
+    by : (b : Bool) → length (if b then bs else put (cut bs s m) s n y) ≡ length bs
+    by true = refl
+    by false = length-set (cut bs s m) s _ ∙ length-set bs s _

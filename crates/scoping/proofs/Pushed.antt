@@ -1,15 +1,17 @@
 -- Tables with one symbol more.
-use Rattle.std.proofs.Common.{◌≡◌, ℕ, ◌<◌, ◌+◌, List, [], ◌∷◌, ◌++◌, length, map, refl, ap, ◌∙◌, arith, length-append}
+use Rattle.std.proofs.Common.{◌≡◌, ℕ, ◌<◌, ◌≤◌, ◌+◌, List, [], ◌∷◌, ◌++◌, length, map, refl, ap, ◌∙◌, arith, length-append}
 use Rattle.std.specs.Global.{Vec}
+use Rattle.std.specs.List.{AllByRecursion}
+use Rattle.semantic_syntax.specs.declared.references.Reference.{Reference}
 use Rattle.std.proofs.lemmas.List.{length-map}
 use Rattle.semantic_syntax.specs.Tables.{Name}
-use Rattle.semantic_syntax.proofs.Every.{every-push}
+use Rattle.semantic_syntax.proofs.Every.{every-push, every-more}
 use Rattle.scoping.specs.declared.scoping.Scoping.TheInside.{Inside}
 use Rattle.scoping.specs.Names.{IsInterned}
 use Rattle.scoping.specs.Row.{Row, symbol_of_row}
 use Rattle.scoping.specs.View.{IsSound, tables}
 use Rattle.scoping.proofs.Rows.{rows}
-use Rattle.scoping.proofs.Shown.{tables_eq, bound_more, symbols_pushed, sound_interned, bindings_interned, symbols_interned, free_interned}
+use Rattle.scoping.proofs.Shown.{tables_eq, bound_more, listed_more, symbols_pushed, sound_interned, bindings_interned, symbols_interned, free_interned}
 
 -- the row is pushed, and an empty list of uses for it, where room was made for each
 module _ (a : Inside) (sound : IsSound a) (names : List Name) (name : Name) (row : Row) (interned : IsInterned a.names names name row.name)
@@ -52,3 +54,23 @@ module _ (a : Inside) (sound : IsSound a) (names : List Name) (name : Name) (row
         scopes_fit = before.scopes_fit;
         references_fit = before.references_fit;
       }
+
+-- one reference more
+pub sound_referenced : (a : Inside) → IsSound a → (v : Vec Reference) (r : Reference) → v.items ≡ a.references.items ++ r ∷ [] → length a.references.items < 4294967295 → IsSound (record a { references = v })
+sound_referenced a sound v r pushed room =
+    let count : length v.items ≡ length a.references.items + 1 = ap length pushed ∙ length-append a.references.items (r ∷ []) in
+    let more : length a.references.items ≤ length v.items = omega (arith, count) in
+    record {
+      counted = sound.counted;
+      bound = sound.bound;
+      named = sound.named;
+      used = sound.used;
+      uses =
+          every-more (AllByRecursion (λ k. k < length a.references.items)) (AllByRecursion (λ k. k < length v.items))
+          (λ ks w. every-more (λ k. k < length a.references.items) (λ k. k < length v.items) (λ k l. omega (arith, l, more)) ks w) (rows a.uses.items) sound.uses;
+      free = listed_more _ _ _ _ (omega arith) more a.free sound.free;
+      forest = sound.forest;
+      symbols_fit = sound.symbols_fit;
+      scopes_fit = sound.scopes_fit;
+      references_fit = omega (arith, count, room);
+    }

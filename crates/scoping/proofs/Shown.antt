@@ -5,13 +5,13 @@ use Rattle.std.specs.Global.{Vec}
 use Rattle.std.specs.Map.{lookup}
 use Rattle.std.specs.Str.{bytes_eq}
 use Rattle.std.proofs.Math.ListN.{set, get_or-append}
-use Rattle.std.proofs.lemmas.List.{map-set, get_or-map, length-map, map-append}
+use Rattle.std.proofs.lemmas.List.{map-set, get_or-map, get_or_default, length-map, map-append}
 use Rattle.indexmap.specs.IndexMap.{insert_entry, shift_remove_entry}
 use Rattle.semantic_syntax.specs.Tables.{Name, Bindings, Tables, Symbol, Scope}
 use Rattle.scoping.specs.declared.scoping.Scoping.TheInside.{Inside}
 use Rattle.scoping.specs.Flat.{Numbered}
 use Rattle.scoping.specs.Names.{name_at, named, IsUnknown, IsNumberOf, IsInterned}
-use Rattle.scoping.specs.Row.{Row, symbol_of_row}
+use Rattle.scoping.specs.Row.{Row, symbol_of_row, no_row}
 use Rattle.std.proofs.Math.Seq.{map-set_same}
 use Rattle.scoping.specs.declared.scoping.ScopeRow.{ScopeRow}
 use Rattle.semantic_syntax.specs.Reading.{no_symbol, no_scope, IsForest}
@@ -293,8 +293,9 @@ named_set names i y ys h l = every-set (λ (x : Row). x.name < names) y ys i h l
 pub read_named : (names i s : ℕ) (was : Row) (ys : List Row) → AreNamed names ys → i ≡ s → s < length ys → was ≡ get_or ys i was → was.name < names
 read_named names i s was ys h at within read = subst (λ (y : Row). y.name < names) (sym read) (every-at (λ (y : Row). y.name < names) was ys i h (rw at within))
 
--- the name of a row that was read is its symbol's
-pub read_number : (names : List Name) (ys : List Row) (s i : ℕ) (was : Row) → i ≡ s → s < length ys → was ≡ get_or ys i was → IsNumberOf names (name_at names was.name) was.name
-    → IsNumberOf names (get_or (map (symbol_of_row names) ys) s no_symbol).name was.name
-read_number names ys s i was at within read number =
-    subst (λ k. IsNumberOf names k was.name) (sym (ap (λ (y : Symbol). y.name) (symbol_at names ys s i was was at within read))) number
+-- the number of a row's name is that of its symbol's
+pub shown_number : (names : List Name) (ys : List Row) (s m : ℕ) → s < length ys → IsNumberOf names (name_at names (get_or ys s no_row).name) m
+    → IsNumberOf names (get_or (map (symbol_of_row names) ys) s no_symbol).name m
+shown_number names ys s m within number =
+    let row = get_or ys s no_row in
+    subst (λ (x : Symbol). IsNumberOf names x.name m) (sym (symbol_at names ys s s row row refl within (get_or_default ys s no_row row within))) number

@@ -1,5 +1,5 @@
 -- What scopes bind, each binding in a slot of its scope, and one list of entries with the places of the slots.
-use Rattle.std.specs.Prelude.{◌≡◌, ℕ, List, slice_index_or, ◌==◌, ◌&&◌, Bool, false, filter_map, nat_eq, Option, None, slice_set, [], ◌∷◌, cond, zero, suc, take}
+use Rattle.std.specs.Prelude.{◌≡◌, ℕ, List, slice_index_or, ◌==◌, ◌&&◌, Bool, false, filter_map, nat_eq, Option, None, slice_set, [], ◌∷◌, cond, zero, suc, take, if◌then◌else◌}
 use Rattle.std.specs.Option.{option_map_or}
 use Rattle.indexmap.specs.IndexMap.{insert_entry, shift_remove_entry}
 use Rattle.std.specs.Map.{lookup}
@@ -67,6 +67,10 @@ cut bs s n = slice_set bs s (shift_remove_entry (nat_eq n) (slice_index_or bs s 
 -- with the number moved from one to another, where it is bound
 abbrev pub moved_number : List Numbered → ℕ → ℕ → ℕ → List Numbered
 moved_number bs from to n = option_map_or (λ y. cut (put bs to n y) from n) (lookup (nat_eq n) (slice_index_or bs from [])) bs
+
+-- with the old number unbound in one of them and the new one bound to the symbol; equal numbers stay as they are
+abbrev pub renumbered : List Numbered → ℕ → ℕ → ℕ → ℕ → List Numbered
+renumbered bs s old new y = if new == old then bs else put (cut bs s old) s new y
 
 -- the slots without what the first of them bind
 abbrev pub hollow : ℕ → SlotList → SlotList

@@ -2,7 +2,7 @@
 ghost use Rattle.std.specs.Prelude.{◌≡◌, ◌==◌, ◌+◌, ◌<◌, ◌≤◌, map, [], ◌∷◌, ◌++◌, length, nat_eq, false, None, Some, slice_index_or, slice_set, OnOk, OnErr};
 ghost use Rattle.std.specs.Map.{lookup};
 ghost use Rattle.indexmap.specs.IndexMap.{insert_entry, shift_remove_entry, spare};
-ghost use Rattle.scoping.specs.Flat.{key_eq, put, cut, filled, moved_number, HasPositions, HasAllPositions, KeepsElsewhere, IsRekeyed};
+ghost use Rattle.scoping.specs.Flat.{key_eq, filled, moved_number, renumbered, HasPositions, HasAllPositions, KeepsElsewhere, IsRekeyed};
 ghost use Rattle.scoping.specs.Kept.{rows_without_types, IsPacked};
 
 use crate::kept::stays;
@@ -281,7 +281,7 @@ impl BindingTable {
         Ok(())
     }
 
-    /// Unbinds the old number and binds the new one.
+    /// Unbinds the old number and binds the new one. Equal numbers stay as they are.
     pub fn rename(
         &mut self,
         scope: ScopeId,
@@ -290,10 +290,12 @@ impl BindingTable {
         symbol: SymbolId,
     ) -> Result<(), AllocError>
         requires scope { scope < length self.old }
-        requires apart { (new == old) ≡ false }
-        ensures ok { OnOk result (self.new ≡ put (cut self.old scope old) scope new symbol) }
+        ensures ok { OnOk result (self.new ≡ renumbered self.old scope old new symbol) }
         ensures err { OnErr result (self.new ≡ self.old) }
     {
+        if new == old {
+            return Ok(());
+        }
         self.insert(scope, new, symbol)?;
         self.remove(scope, old);
         Ok(())
@@ -329,8 +331,7 @@ impl BindingTable {
         ensures { self.new ≡ self.old }
     {
         self.scopes.reserve(scopes)?;
-        self.positions.reserve(bindings)?;
-        Ok(())
+        self.positions.reserve(bindings)
     }
 }
 

@@ -78,8 +78,7 @@ impl NameTable {
     pub fn reserve(&mut self, names: usize) -> Result<(), AllocError>
         ensures { self.new ≡ self.old }
     {
-        self.texts.reserve(names)?;
-        Ok(())
+        self.texts.reserve(names)
     }
 }
 

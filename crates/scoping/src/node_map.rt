@@ -66,8 +66,7 @@ impl<T: Copy> NodeMap<T> {
     pub fn reserve(&mut self, entries: usize) -> Result<(), AllocError>
         ensures { self.new ≡ self.old }
     {
-        self.rising.reserve(entries)?;
-        Ok(())
+        self.rising.reserve(entries)
     }
 
     /// The value of the node, if any.

@@ -14,6 +14,7 @@ mod parents;
 mod references;
 mod renames;
 mod room;
+mod rows;
 mod scopes;
 mod symbols;
 mod told;

@@ -106,8 +106,7 @@ impl Scoping {
         ensures err { OnErr result (self.new ≡ self.old) }
     {
         let number = self.names.intern(name)?;
-        self.bindings.insert(scope, number, symbol)?;
-        Ok(())
+        self.bindings.insert(scope, number, symbol)
     }
 
     /// Unbinds the name. The others keep their order.

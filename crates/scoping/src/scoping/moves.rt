@@ -7,6 +7,7 @@ ghost use Rattle.semantic_syntax.specs.Reading.{symbol_of, bindings_of};
 ghost use Rattle.scoping.specs.Writing.{with_symbol, moved, taken_over};
 
 use super::Scoping;
+use super::rows::{own_number, set_home};
 use crate::bindings::BoundSymbols;
 use crate::symbol_row::SymbolRow;
 use semantic_syntax::{Ident, ScopeId, SymbolId};
@@ -18,7 +19,7 @@ fn set_homes(rows: &mut Vec<SymbolRow>, bound: BoundSymbols<'_>, scope: ScopeId)
     ensures { rows.new.items ≡ fold (row_moved scope) rows.old.items bound.entry }
 {
     for symbol in bound {
-        rows[symbol.index()].set_scope(scope);
+        set_home(rows, symbol, scope);
     }
 }
 
@@ -35,10 +36,10 @@ impl Scoping {
         ensures ok { OnOk result (self.new ≡ moved self.old from to (name_of name.entry)) }
         ensures err { OnErr result (self.new ≡ self.old) }
     {
-        if let Some(number) = self.names.find(name) {
-            self.bindings.move_number(from, to, number)?;
+        match self.names.find(name) {
+            Some(number) => self.bindings.move_number(from, to, number),
+            None => Ok(()),
         }
-        Ok(())
     }
 
     /// Moves the symbol's name from one scope to the other, where it is bound, and gives the symbol to the other
@@ -55,10 +56,9 @@ impl Scoping {
         ensures ok { OnOk result (self.new ≡ with_symbol (moved self.old from to (symbol_of self.old symbol).name) symbol (record (symbol_of self.old symbol) { scope = to })) }
         ensures err { OnErr result (self.new ≡ self.old) }
     {
-        let number = self.symbols[symbol.index()].name();
-        self.names.attest(number);
+        let number = own_number(&self.names, &self.symbols, symbol);
         self.bindings.move_number(from, to, number)?;
-        self.symbols[symbol.index()].set_scope(to);
+        set_home(&mut self.symbols, symbol, to);
         Ok(())
     }
 

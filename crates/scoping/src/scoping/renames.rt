@@ -9,6 +9,7 @@ ghost use Rattle.semantic_syntax.specs.Reading.{symbol_of, bindings_of};
 ghost use Rattle.scoping.specs.Writing.{with_symbol, with_name, renamed};
 
 use super::Scoping;
+use super::rows::{own_number, set_name};
 use crate::symbol_row::SymbolRow;
 use semantic_syntax::{Ident, ScopeId, SymbolId};
 use std::alloc::AllocError;
@@ -19,7 +20,7 @@ fn set_names(rows: &mut Vec<SymbolRow>, ids: &[SymbolId], number: usize)
     ensures { rows.new.items ≡ fold (row_named number) rows.old.items ids.now }
 {
     for id in ids {
-        rows[id.index()].set_name(number);
+        set_name(rows, *id, number);
     }
 }
 
@@ -30,9 +31,7 @@ impl Scoping {
         ensures ok { OnOk result (self.new ≡ with_symbol self.old symbol (record (symbol_of self.old symbol) { name = name_of name.entry })) }
         ensures err { OnErr result (self.new ≡ self.old) }
     {
-        let number = self.names.intern(name)?;
-        self.symbols[symbol.index()].set_name(number);
-        Ok(())
+        self.set_symbol_names(&[symbol], name)
     }
 
     /// Gives the symbols another name. Bindings stay.
@@ -61,15 +60,10 @@ impl Scoping {
         ensures err { OnErr result (self.new ≡ self.old) }
     {
         let new_number = self.names.intern(new)?;
-        let old_number = match self.names.find(old) {
-            Some(number) => number,
-            None => return Ok(()),
-        };
-        if new_number == old_number {
-            return Ok(());
+        match self.names.find(old) {
+            Some(old_number) => self.bindings.rename(scope, old_number, new_number, symbol),
+            None => Ok(()),
         }
-        self.bindings.rename(scope, old_number, new_number, symbol)?;
-        Ok(())
     }
 
     /// Gives the symbol another name, and renames its binding in the scope.
@@ -85,13 +79,9 @@ impl Scoping {
         ensures err { OnErr result (self.new ≡ self.old) }
     {
         let new_number = self.names.intern(new)?;
-        let old_number = self.symbols[symbol.index()].name();
-        self.names.attest(old_number);
-        if new_number == old_number {
-            return Ok(());
-        }
+        let old_number = own_number(&self.names, &self.symbols, symbol);
         self.bindings.rename(scope, old_number, new_number, symbol)?;
-        self.symbols[symbol.index()].set_name(new_number);
+        set_name(&mut self.symbols, symbol, new_number);
         Ok(())
     }
 }

@@ -11,6 +11,7 @@ ghost use Rattle.scoping.specs.Redeclared.{without_declaration};
 
 use super::Scoping;
 use super::room::{push_symbol, reserve_symbol};
+use super::rows::set_home;
 use crate::symbol_iterators::{Declarations, SymbolIds, SymbolNames};
 use crate::symbol_row::SymbolRow;
 use semantic_syntax::{Ident, NodeId, Redeclaration, ScopeId, Span, SymbolFlags, SymbolId};
@@ -149,7 +150,7 @@ impl Scoping {
         requires { symbol < length self.old.symbols }
         ensures { self.new ≡ with_symbol self.old symbol (record (symbol_of self.old symbol) { scope = scope }) }
     {
-        self.symbols[symbol.index()].set_scope(scope);
+        set_home(&mut self.symbols, symbol, scope);
     }
 
     /// Adds the flags of one more declaration to the symbol's.
@@ -180,8 +181,7 @@ impl Scoping {
             declaration: node,
             flags,
         };
-        self.symbols[symbol.index()].add_redeclaration(self.alloc, added)?;
-        Ok(())
+        self.symbols[symbol.index()].add_redeclaration(self.alloc, added)
     }
 
     /// Forgets the symbol's list of redeclarations.

@@ -12,6 +12,9 @@ use Rattle.scoping.proofs.Pushed.{count_pushed, tables_pushed, sound_pushed}
 use Rattle.scoping.proofs.Shown.{bound_insert, shown_insert, scope_within, err_interned, sound_interned, sound_bindings, bindings_interned}
 use Rattle.scoping.proofs.scoping.Scoping.create_symbol_with_binding.Goals as goal
 
+pub insert-requires : goal.insert-requires
+insert-requires c = scope_within c.self.inside c.self.invariant c.args.bind_in (rw (← c.self.view_is) at c.requires.bind_in)
+
 pub invariant_of-self : goal.invariant_of-self
 invariant_of-self c =
     let room = c.reserve_symbol.ensures in

@@ -2,6 +2,9 @@ use Rattle.std.proofs.Common.{sym, ◌∙◌}
 use Rattle.scoping.proofs.Shown.{shown_lookup_unknown, shown_lookup, scope_within}
 use Rattle.scoping.proofs.scoping.Scoping.get_binding.Goals as goal
 
+pub get-requires : goal.get-requires
+get-requires c = scope_within c.self.inside c.self.invariant c.args.scope (rw (← c.self.view_is) at c.requires)
+
 pub returns-in_err-number : goal.returns-in_err-number
 returns-in_err-number c =
     let within = scope_within c.self.inside c.self.invariant c.args.scope (rw (← c.self.view_is) at c.requires) in

@@ -8,6 +8,9 @@ use Rattle.scoping.proofs.Named.{remove-unknown}
 use Rattle.scoping.proofs.Shown.{tables_eq, bound_remove, known_at, shown_at, shown_remove, scope_within, sound_bindings}
 use Rattle.scoping.proofs.scoping.Scoping.remove_binding.Goals as goal
 
+pub remove-requires : goal.remove-requires
+remove-requires c = scope_within c.self.inside c.self.invariant c.args.scope (rw (← c.self.view_is) at c.requires)
+
 pub invariant_of-self : goal.invariant_of-self
 invariant_of-self c =
     rw c.remove.ensures

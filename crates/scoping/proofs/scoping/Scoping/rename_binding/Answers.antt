@@ -1,10 +1,34 @@
 use Rattle.std.proofs.Common.{◌≡◌, None, sym, ap, ◌∙◌, map, get_or, []}
 use Rattle.std.specs.Map.{lookup}
 use Rattle.std.specs.Str.{bytes_eq}
+use Rattle.semantic_syntax.proofs.Results.{on_ok_then, on_err_then}
 use Rattle.scoping.specs.Names.{named, name_of}
-use Rattle.scoping.proofs.Renamed.{sound_renamed, same_renamed, other_renamed}
-use Rattle.scoping.proofs.Shown.{scope_within, sound_interned, err_interned, shown_lookup_unknown, bindings_interned}
+use Rattle.scoping.proofs.Cases.{either}
+use Rattle.scoping.proofs.Renamed.{sound_renamed, is_renamed}
+use Rattle.scoping.proofs.Shown.{scope_within, sound_interned, tables_interned, shown_lookup_unknown, bindings_interned}
 use Rattle.scoping.proofs.scoping.Scoping.rename_binding.Goals as goal
+
+pub rename-requires : goal.rename-requires
+rename-requires c = record { scope = scope_within c.self.inside c.self.invariant c.args.scope (rw (← c.self.view_is) at c.requires.scope) }
+
+pub invariant_of-self-in-Some : goal.invariant_of-self-in-Some
+invariant_of-self-in-Some c =
+    let interned = c.in_ok-new_number.ensures.ok in
+    either c.rename.result
+    (λ is. rw is (sound_renamed c.self.inside c.self.invariant _ _ _ interned c.args.scope c.args.symbol _ (rw (← c.self.view_is) at c.requires.symbol)))
+    (λ is. rw is (sound_interned c.self.inside c.self.invariant _ _ _ interned))
+    c.rename.ensures.ok c.rename.ensures.err
+
+pub returns-in-Some-clause-ok : goal.returns-in-Some-clause-ok
+returns-in-Some-clause-ok c =
+    rw (← c.self.view_is)
+    (on_ok_then c.rename.result
+    (λ is. rw is (is_renamed c.self.inside c.self.invariant _ _ _ c.in_ok-new_number.ensures.ok c.args.scope c.args.symbol (rw (← c.self.view_is) at c.requires.scope) _ _ c.in-Some.ensures))
+    c.rename.ensures.ok)
+
+pub returns-in-Some-clause-err : goal.returns-in-Some-clause-err
+returns-in-Some-clause-err c =
+    on_err_then c.rename.result (λ is. rw is (tables_interned c.self.inside c.self.invariant _ _ _ c.in_ok-new_number.ensures.ok ∙ c.self.view_is)) c.rename.ensures.err
 
 pub returns-in-None-clause-ok : goal.returns-in-None-clause-ok
 returns-in-None-clause-ok c =
@@ -18,27 +42,3 @@ returns-in-None-clause-ok c =
     ap (λ bs. lookup (bytes_eq (name_of c.args.old)) (get_or bs c.args.scope [])) (sym (bindings_interned a c.self.invariant _ _ _ interned)) ∙ found in
     let bound = rw (← c.self.view_is) at c.requires.bound in
     absurd (cc)
-
-pub invariant_of-self-then-new_number-old_number : goal.invariant_of-self-then-new_number-old_number
-invariant_of-self-then-new_number-old_number c = sound_interned c.self.inside c.self.invariant _ _ _ c.in_ok-new_number.ensures.ok
-
-pub returns-then-new_number-old_number-clause-ok : goal.returns-then-new_number-old_number-clause-ok
-returns-then-new_number-old_number-clause-ok c =
-    rw (← c.self.view_is)
-    (same_renamed c.self.inside c.self.invariant _ _ _ c.in_ok-new_number.ensures.ok c.args.scope c.args.symbol (rw (← c.self.view_is) at c.requires.scope) _ _ c.in-Some.ensures c.if-new_number-old_number.true)
-
-pub invariant_of-self-in_err-rename : goal.invariant_of-self-in_err-rename
-invariant_of-self-in_err-rename c = rw c.in_err-rename.ensures.err (sound_interned c.self.inside c.self.invariant _ _ _ c.in_ok-new_number.ensures.ok)
-
-pub returns-in_err-rename-clause-err : goal.returns-in_err-rename-clause-err
-returns-in_err-rename-clause-err c = rw c.in_err-rename.ensures.err (err_interned c.self.inside c.self.invariant _ _ _ c.in_ok-new_number.ensures.ok c.from_residual-in_err-rename.result _ c.self.view_is)
-
-pub invariant_of-self-2 : goal.invariant_of-self-2
-invariant_of-self-2 c =
-    rw c.in_ok-rename.ensures.ok
-    (sound_renamed c.self.inside c.self.invariant _ _ _ c.in_ok-new_number.ensures.ok c.args.scope c.args.symbol _ (rw (← c.self.view_is) at c.requires.symbol))
-
-pub returns-clause-ok : goal.returns-clause-ok
-returns-clause-ok c =
-    rw (← c.self.view_is, c.in_ok-rename.ensures.ok)
-    (other_renamed c.self.inside c.self.invariant _ _ _ c.in_ok-new_number.ensures.ok c.args.scope c.args.symbol (rw (← c.self.view_is) at c.requires.scope) _ _ c.in-Some.ensures c.if-new_number-old_number.false)

@@ -1,17 +1,18 @@
-use Rattle.std.proofs.Common.{ap, ◌∙◌}
-use Rattle.std.proofs.lemmas.List.{length-set}
+use Rattle.std.proofs.Common.{ap, ◌∙◌, [], ◌∷◌, length}
 use Rattle.scoping.specs.Names.{name_of}
-use Rattle.scoping.specs.Row.{symbol_of_row}
-use Rattle.scoping.proofs.Renamed.{sound_renamed, own_number, same_symbol_renamed, other_symbol_renamed}
-use Rattle.scoping.proofs.Shown.{symbol_within, sound_rows, sound_interned, err_interned, named_set, symbol_changed}
+use Rattle.scoping.proofs.Folds.{length_named, named_named, shown_named}
+use Rattle.scoping.proofs.Renamed.{sound_renamed, symbol_renamed}
+use Rattle.scoping.proofs.Shown.{scope_within, symbol_within, sound_rows, sound_interned, err_interned}
 use Rattle.scoping.proofs.scoping.Scoping.rename_symbol.Goals as goal
 
-pub returns-then-new_number-old_number-clause-ok : goal.returns-then-new_number-old_number-clause-ok
-returns-then-new_number-old_number-clause-ok c =
-    let interned = c.in_ok-new_number.ensures.ok in
-    let number = own_number c.self.inside c.self.invariant _ _ _ interned c.args.scope c.args.symbol c.index.result _ c.index-2.result.now c.index.ensures (rw (← c.self.view_is) at c.requires.symbol) c.index-2.ensures c.name-old_number.ensures c.attest.ensures in
-    rw (← c.self.view_is)
-    (same_symbol_renamed c.self.inside c.self.invariant _ _ _ interned c.args.scope c.args.symbol (rw (← c.self.view_is) at c.requires.scope) _ number c.if-new_number-old_number.true)
+pub own_number-old_number-requires-clause-named : goal.own_number-old_number-requires-clause-named
+own_number-old_number-requires-clause-named c = (sound_interned c.self.inside c.self.invariant _ _ _ c.in_ok-new_number.ensures.ok).named
+
+pub own_number-old_number-requires-clause-id : goal.own_number-old_number-requires-clause-id
+own_number-old_number-requires-clause-id c = symbol_within c.self.inside c.self.invariant c.args.symbol (rw (← c.self.view_is) at c.requires.symbol)
+
+pub rename-requires : goal.rename-requires
+rename-requires c = record { scope = scope_within c.self.inside c.self.invariant c.args.scope (rw (← c.self.view_is) at c.requires.scope) }
 
 pub invariant_of-self-in_err-rename : goal.invariant_of-self-in_err-rename
 invariant_of-self-in_err-rename c = rw c.in_err-rename.ensures.err (sound_interned c.self.inside c.self.invariant _ _ _ c.in_ok-new_number.ensures.ok)
@@ -22,18 +23,20 @@ returns-in_err-rename-clause-err c = rw c.in_err-rename.ensures.err (err_interne
 pub invariant_of-self-2 : goal.invariant_of-self-2
 invariant_of-self-2 c =
     let interned = c.in_ok-new_number.ensures.ok in
-    let sound = sound_renamed c.self.inside c.self.invariant _ _ _ interned c.args.scope c.args.symbol c.name-old_number.result (rw (← c.self.view_is) at c.requires.symbol) in
+    let names = c.intern.new.self in
+    let ids = c.args.symbol ∷ [] in
+    let rows = c.self.inside.symbols.items in
+    let sound = sound_renamed c.self.inside c.self.invariant _ _ _ interned c.args.scope c.args.symbol c.own_number-old_number.result (rw (← c.self.view_is) at c.requires.symbol) in
     rw c.in_ok-rename.ensures.ok
-    (sound_rows _ sound _ (length-set c.self.inside.symbols.items _ c.set_name.new.self)
-    (named_set _ _ c.set_name.new.self c.self.inside.symbols.items sound.named (rw c.set_name.ensures interned.number.within)))
+    (sound_rows _ sound c.set_name.new.rows
+    (ap length c.set_name.ensures ∙ length_named names c.in_ok-new_number.new_number ids rows)
+    (rw c.set_name.ensures (named_named names _ c.in_ok-new_number.new_number interned.number.within ids rows sound.named)))
 
 pub returns-clause-ok : goal.returns-clause-ok
 returns-clause-ok c =
     let interned = c.in_ok-new_number.ensures.ok in
-    let row = symbol_within c.self.inside c.self.invariant c.args.symbol (rw (← c.self.view_is) at c.requires.symbol) in
-    let number = own_number c.self.inside c.self.invariant _ _ _ interned c.args.scope c.args.symbol c.index.result _ c.index-2.result.now c.index.ensures (rw (← c.self.view_is) at c.requires.symbol) c.index-2.ensures c.name-old_number.ensures c.attest.ensures in
-    rw (← c.self.view_is, c.in_ok-rename.ensures.ok)
-    (other_symbol_renamed c.self.inside c.self.invariant _ _ _ interned c.args.scope c.args.symbol (rw (← c.self.view_is) at c.requires.scope) _ number c.if-new_number-old_number.false _
-    (symbol_changed c.intern.new.self c.self.inside.symbols.items c.args.symbol c.index-3.result c.index_mut.result.now c.set_name.new.self c.index-3.ensures row c.index_mut.ensures.value
-    (λ y. record y { name = name_of c.args.new })
-    (ap (symbol_of_row c.intern.new.self) c.set_name.ensures ∙ (λ j. record (symbol_of_row c.intern.new.self c.index_mut.result.now) { name = interned.number.named j }))))
+    let symbol = rw (← c.self.view_is) at c.requires.symbol in
+    let row = symbol_within c.self.inside c.self.invariant c.args.symbol symbol in
+    rw (← c.self.view_is, c.in_ok-rename.ensures.ok, c.set_name.ensures)
+    (symbol_renamed c.self.inside c.self.invariant _ _ _ interned c.args.scope c.args.symbol (rw (← c.self.view_is) at c.requires.scope) _ symbol c.own_number-old_number.ensures _
+    (shown_named c.intern.new.self c.in_ok-new_number.new_number (name_of c.args.new) interned.number.named (c.args.symbol ∷ []) c.self.inside.symbols.items (row, tt)))

@@ -13,6 +13,12 @@ use Rattle.scoping.proofs.Folds.{length_homes, named_homes, shown_homes, rows_bo
 use Rattle.scoping.proofs.Shown.{tables_eq, bound_at, shown_at, scope_within, sound_bindings, sound_rows}
 use Rattle.scoping.proofs.scoping.Scoping.take_over_bindings.Goals as goal
 
+pub take_over-requires-clause-from : goal.take_over-requires-clause-from
+take_over-requires-clause-from c = scope_within c.self.inside c.self.invariant c.args.from (rw (← c.self.view_is) at c.requires.from)
+
+pub take_over-requires-clause-to : goal.take_over-requires-clause-to
+take_over-requires-clause-to c = scope_within c.self.inside c.self.invariant c.args.to (rw (← c.self.view_is) at c.requires.to)
+
 pub take_over-requires-clause-empty : goal.take_over-requires-clause-empty
 take_over-requires-clause-empty c =
     let target = scope_within c.self.inside c.self.invariant c.args.to (rw (← c.self.view_is) at c.requires.to) in

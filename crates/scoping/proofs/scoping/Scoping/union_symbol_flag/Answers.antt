@@ -1,9 +1,18 @@
 use Rattle.std.proofs.Common.{refl, ap, ◌∙◌}
 use Rattle.std.specs.Int.RustNames.{bit_or}
 use Rattle.semantic_syntax.specs.declared.symbol_flags.SymbolFlags.{SymbolFlags}
+use Rattle.std.proofs.lemmas.List.{length-set}
 use Rattle.scoping.specs.Row.{symbol_of_row}
-use Rattle.scoping.proofs.Shown.{tables_eq, symbol_changed, symbol_within}
+use Rattle.scoping.proofs.Shown.{tables_eq, symbol_changed, symbol_within, sound_rows, named_set, read_named}
 use Rattle.scoping.proofs.scoping.Scoping.union_symbol_flag.Goals as goal
+
+pub invariant_of-self : goal.invariant_of-self
+invariant_of-self c =
+    let rows = c.self.inside.symbols.items in
+    let within = symbol_within c.self.inside c.self.invariant c.args.symbol (rw (← c.self.view_is) at c.requires) in
+    let known = read_named _ c.index.result c.args.symbol c.index_mut-row.result.now rows c.self.invariant.named c.index.ensures within c.index_mut-row.ensures.value in
+    sound_rows c.self.inside c.self.invariant _ (length-set rows c.index.result c.set_flags.new.self)
+    (named_set _ c.index.result c.set_flags.new.self rows c.self.invariant.named (rw c.set_flags.ensures known))
 
 pub returns : goal.returns
 returns c =
