@@ -1,10 +1,10 @@
 -- What is told by one check after another.
 use Rattle.std.proofs.Common.{◌≡◌, List, [], ◌∷◌, ◌++◌, Result, Ok, Err, refl, sym, ap, subst, ◌∙◌}
-use Rattle.std.specs.Prelude.{flat_map, OnOk, OnErr}
+use Rattle.std.specs.Prelude.{flat_map, IfOk}
 use Rattle.std.specs.Result.{IsErrAnd}
 use Rattle.std.proofs.lemmas.List.{append-nil, append_assoc}
 use Rattle.semantic_diagnostics.specs.declared.diagnostic.Diagnostic.{Diagnostic}
-use Rattle.check_context.specs.Tells.{IsBegun, IsTelling, Tells}
+use Rattle.check_context.specs.Tells.{IsBegun, IsTelling, Tells, TellsMade}
 
 -- nothing is told yet
 pub none_told : (rows before now : List Diagnostic) → now ≡ before → IsBegun rows before now
@@ -26,6 +26,13 @@ then_begun rows more before mid now h k =
     }
 
 pub ruleset telling = (none_told, first_begun, then_begun)
+
+-- what was made is told, as the row that it is
+pub told_made : {A E : Type 0} (made : Result Diagnostic E) (r : Result A E) (row : Diagnostic) (before now : List Diagnostic) → TellsMade made r before now → IfOk made (λ d. d ≡ row) → Tells r (row ∷ []) before now
+told_made (Ok d) r row before now h is = subst (λ x. Tells r (x ∷ []) before now) is h
+told_made (Err want) r row before now h is = h (row ∷ [])
+
+pub ruleset made = (told_made)
 
 -- a loop that tells the rows of one element after another: it begins, goes on, stops for want of memory, and ends
 pub begins : (rows before : List Diagnostic) → IsTelling rows rows before before
@@ -67,10 +74,5 @@ pub loop_stops : {A E X : Type 0} (P : E → Type 0) (f : X → List Diagnostic)
 loop_stops P f rows before mid now xs x rest (Ok done) h is t k = absurd h
 loop_stops P f rows before mid now xs x rest (Err want) h is t k =
     stops rows (f x) (flat_map f rest) before mid now (subst (λ l. IsTelling rows (flat_map f l) before mid) is t) k
-
--- one row is told, or for want of memory none
-pub pushed : {A E : Type 0} (r : Result A E) (made row : Diagnostic) (before now : List Diagnostic) → OnOk r (now ≡ before ++ made ∷ []) → OnErr r (now ≡ before) → made ≡ row → Tells r (row ∷ []) before now
-pushed (Ok done) made row before now h k is = h ∙ ap (λ d. before ++ d ∷ []) is
-pushed (Err want) made row before now h k is = none_told (row ∷ []) before now k
 
 pub ruleset loop_telling = (none_told, first_begun, then_begun, begins, goes_on, stops, ends)

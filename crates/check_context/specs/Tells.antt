@@ -1,5 +1,5 @@
 -- How a check adds what it tells to what was told before.
-use Rattle.std.specs.Prelude.{◌≡◌, List, ◌++◌, Result, Ok, Err}
+use Rattle.std.specs.Prelude.{◌≡◌, List, [], ◌∷◌, ◌++◌, Result, Ok, Err}
 use Rattle.semantic_diagnostics.specs.declared.diagnostic.Diagnostic.{Diagnostic}
 
 -- the first of the rows are told, behind all that was told before
@@ -13,6 +13,11 @@ pub record IsBegun (rows before now : List Diagnostic) : Type 0 where
 abbrev pub Tells : {A E : Type 0} → Result A E → List Diagnostic → List Diagnostic → List Diagnostic → Type 0
 Tells (Ok done) rows before now = now ≡ before ++ rows
 Tells (Err want) rows before now = IsBegun rows before now
+
+-- the row that was made is told; for want of memory of none any number, which are none
+abbrev pub TellsMade : {A E : Type 0} → Result Diagnostic E → Result A E → List Diagnostic → List Diagnostic → Type 0
+TellsMade (Ok made) result before now = Tells result (made ∷ []) before now
+TellsMade (Err want) result before now = (rows : List Diagnostic) → Tells result rows before now
 
 -- all but these of the rows are told, behind all that was told before
 pub record IsTelling (rows left before now : List Diagnostic) : Type 0 where

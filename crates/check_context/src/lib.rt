@@ -10,6 +10,7 @@ mod links;
 mod nodes;
 mod outer_class;
 mod source_text;
+mod told;
 
 pub use context::CheckContext;
 pub use declared_function::{is_declared_function, is_function_decl_part_of_if_statement};
@@ -17,3 +18,4 @@ pub use entries::one_before_last;
 pub use grandchildren::Grandchildren;
 pub use links::Links;
 pub use nodes::{first_bytes, has_child, is_child_in, is_same, node_of};
+pub use told::tell;

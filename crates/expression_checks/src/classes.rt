@@ -16,7 +16,7 @@ ghost use Rattle.check_context.specs.Tells.{Tells};
 
 use crate::constructors::tell_constructors;
 use crate::private_names::tell_private_uses;
-use check_context::{CheckContext, first_bytes, has_child, one_before_last};
+use check_context::{CheckContext, first_bytes, has_child, one_before_last, tell};
 use node_rules::questions::reads;
 use semantic_diagnostics::Diagnostics;
 use semantic_diagnostics::makers::{redeclaration, require_class_name};
@@ -36,7 +36,7 @@ fn lacks_name(kind: AstKind<'_>, ctx: &CheckContext<'_, '_>) -> bool
 }
 
 /// Tells of a class that is declared without a name.
-#[tactic(auto, using(check_context::proofs::Telling::telling))]
+#[tactic(auto, using(check_context::proofs::Telling::made))]
 fn tell_class_name(
     alloc: Global,
     kind: AstKind<'_>,
@@ -47,7 +47,7 @@ fn tell_class_name(
     ensures { Tells result (rows.class_name_rows (sight kind.entry.node.now ctx.now)) out.old out.new }
 {
     if lacks_name(kind, ctx) {
-        out.push(require_class_name(alloc, first_bytes(5, kind.span()))?)
+        tell(require_class_name(alloc, first_bytes(5, kind.span())), out)
     } else {
         Ok(())
     }
@@ -86,7 +86,7 @@ pub fn check_class<'a>(
 }
 
 /// Tells of the name of a class whose last declaration but one is a function.
-#[tactic(auto, using(check_context::proofs::Telling::telling))]
+#[tactic(auto, using(check_context::proofs::Telling::made))]
 fn tell_redeclaration(
     alloc: Global,
     ident: AstKind<'_>,
@@ -103,7 +103,10 @@ fn tell_redeclaration(
         return Ok(());
     }
     let text = ident.text();
-    out.push(redeclaration(alloc, text.as_str(), before.span, ident.span())?)
+    tell(
+        redeclaration(alloc, text.as_str(), before.span, ident.span()),
+        out,
+    )
 }
 
 /// A class doesn't declare a function's name again, in JavaScript (ECMAScript 14.2.1, 16.1.1,

@@ -6,7 +6,7 @@ ghost use Rattle.check_model.specs.Classes as rows;
 ghost use Rattle.check_context.specs.Grandchildren.{grandchildren_left};
 ghost use Rattle.check_context.specs.Tells.{Tells};
 
-use check_context::{Grandchildren, has_child};
+use check_context::{Grandchildren, has_child, tell};
 use node_rules::questions::reads;
 use semantic_diagnostics::Diagnostics;
 use semantic_diagnostics::makers::duplicate_constructor;
@@ -54,7 +54,7 @@ fn member_span(member: AstKind<'_>) -> Span
 }
 
 /// Tells of the second constructor with a body (ECMAScript 15.7.1, PrototypePropertyNameList).
-#[tactic(auto, using(check_context::proofs::Telling::telling))]
+#[tactic(auto, using(check_context::proofs::Telling::made))]
 pub(crate) fn tell_constructors(
     alloc: Global,
     class: AstKind<'_>,
@@ -69,5 +69,8 @@ pub(crate) fn tell_constructors(
     let Some(two) = next_constructor(&mut members) else {
         return Ok(());
     };
-    out.push(duplicate_constructor(alloc, member_span(one), member_span(two))?)
+    tell(
+        duplicate_constructor(alloc, member_span(one), member_span(two)),
+        out,
+    )
 }

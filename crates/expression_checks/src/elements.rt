@@ -12,7 +12,7 @@ ghost use Rattle.expression_checks.specs.Predecessors.{earlier_of, predecessor_i
 ghost use Rattle.expression_checks.specs.SoundElements.{AreSound};
 
 use crate::earlier_elements::EarlierElements;
-use check_context::CheckContext;
+use check_context::{CheckContext, tell};
 use class_table::{ClassTable, Element};
 use semantic_diagnostics::Diagnostics;
 use semantic_diagnostics::makers::{redeclaration, static_and_instance_private_identifier};
@@ -55,7 +55,7 @@ fn are_mixed(in_typescript: bool, before: &Element<'_>, own: &Element<'_>) -> bo
 }
 
 /// Tells of an element that clashes with its predecessor.
-#[tactic(auto, using(check_context::proofs::Telling::telling))]
+#[tactic(auto, using(check_context::proofs::Telling::made))]
 fn tell_clash(
     alloc: Global,
     before: &Element<'_>,
@@ -69,10 +69,13 @@ fn tell_clash(
     if are_mixed(ctx.source_type.is_typescript(), before, own) {
         let name = own.name.as_str();
         let (first, second) = (before.span, own.span);
-        return out.push(static_and_instance_private_identifier(alloc, name, first, second)?);
+        return tell(
+            static_and_instance_private_identifier(alloc, name, first, second),
+            out,
+        );
     }
     let name = ctx.text_at(before.span);
-    out.push(redeclaration(alloc, name, before.span, own.span)?)
+    tell(redeclaration(alloc, name, before.span, own.span), out)
 }
 
 /// Tells of an element if it clashes with its predecessor.

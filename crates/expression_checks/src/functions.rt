@@ -15,6 +15,7 @@ ghost use Rattle.check_context.specs.Tells.{Tells};
 
 use check_context::{
     CheckContext, is_declared_function, is_function_decl_part_of_if_statement, one_before_last,
+    tell,
 };
 use scoping::Redeclaration;
 use semantic_diagnostics::Diagnostics;
@@ -93,7 +94,7 @@ fn earlier_async_or_generator(entries: &[Redeclaration]) -> Option<Redeclaration
 }
 
 /// Tells of a name that is declared at the span and again by the identifier.
-#[tactic(auto, using(check_context::proofs::Telling::telling))]
+#[tactic(auto, using(check_context::proofs::Telling::made))]
 fn tell_again(
     alloc: Global,
     ident: AstKind<'_>,
@@ -103,7 +104,10 @@ fn tell_again(
     ensures { let node = ident.entry.node.now in Tells result (tell.redeclaration node.text first node.span ∷ []) out.old out.new }
 {
     let name = ident.text();
-    out.push(redeclaration(alloc, name.as_str(), first, ident.span())?)
+    tell(
+        redeclaration(alloc, name.as_str(), first, ident.span()),
+        out,
+    )
 }
 
 /// Tells of a plain function in sloppy code that repeats one: it may repeat plain functions alone (ECMAScript, Annex

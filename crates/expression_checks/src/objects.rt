@@ -10,7 +10,7 @@ ghost use Rattle.check_context.specs.Handed.{sight, IsContext};
 ghost use Rattle.check_context.specs.Tells.{Tells};
 ghost use Rattle.expression_checks.specs.ProtoKeys.{keys_left};
 
-use check_context::CheckContext;
+use check_context::{CheckContext, tell};
 use node_rules::questions::reads;
 use semantic_diagnostics::Diagnostics;
 use semantic_diagnostics::makers::redeclaration;
@@ -82,7 +82,7 @@ impl<'a> ProtoKeys<'a> {
 }
 
 /// Tells of two keys that set the prototype.
-#[tactic(auto, using(check_context::proofs::Telling::telling, semantic_diagnostics::proofs::AsciiTexts::ascii_texts))]
+#[tactic(auto, using(check_context::proofs::Telling::made, semantic_diagnostics::proofs::AsciiTexts::ascii_texts))]
 fn tell_proto(
     alloc: Global,
     earlier: AstKind<'_>,
@@ -91,7 +91,10 @@ fn tell_proto(
 ) -> Result<(), AllocError>
     ensures { let pair : Node × Node = (earlier.entry.node.now, key.entry.node.now) in Tells result (rows.proto_rows pair) out.old out.new }
 {
-    out.push(redeclaration(alloc, "__proto__", earlier.span(), key.span())?)
+    tell(
+        redeclaration(alloc, "__proto__", earlier.span(), key.span()),
+        out,
+    )
 }
 
 /// An object sets its prototype once (ECMAScript 13.2.5.1). Each further key that sets it is told with the one before.

@@ -9,7 +9,7 @@ ghost use Rattle.check_model.specs.Surroundings.{is_strict};
 ghost use Rattle.check_context.specs.Handed.{around, sight, IsContext};
 ghost use Rattle.check_context.specs.Tells.{Tells};
 
-use check_context::CheckContext;
+use check_context::{CheckContext, tell};
 use node_rules::questions::reads;
 use semantic_diagnostics::Diagnostics;
 use semantic_diagnostics::makers::{delete_of_unqualified, delete_private_field};
@@ -17,7 +17,7 @@ use semantic_tree::{AstKind, AstType, Role};
 use std::alloc::{AllocError, Global};
 
 /// Tells of a name that strict code deletes.
-#[tactic(auto, using(check_context::proofs::Telling::telling))]
+#[tactic(auto, using(check_context::proofs::Telling::made))]
 fn tell_name(
     alloc: Global,
     name: AstKind<'_>,
@@ -28,18 +28,18 @@ fn tell_name(
     ensures { Tells result (row_if (is_strict (around ctx.now)) (tell.delete_of_unqualified name.entry.node.now.span)) out.old out.new }
 {
     if ctx.is_strict() {
-        out.push(delete_of_unqualified(alloc, name.span())?)
+        tell(delete_of_unqualified(alloc, name.span()), out)
     } else {
         Ok(())
     }
 }
 
 /// Tells of a private member, or of its name.
-#[tactic(auto, using(check_context::proofs::Telling::telling))]
+#[tactic(auto, using(check_context::proofs::Telling::made))]
 fn tell_private(alloc: Global, member: AstKind<'_>, out: &mut Diagnostics) -> Result<(), AllocError>
     ensures { Tells result (tell.delete_private_field member.entry.node.now.span ∷ []) out.old out.new }
 {
-    out.push(delete_private_field(alloc, member.span())?)
+    tell(delete_private_field(alloc, member.span()), out)
 }
 
 /// Tells of the name of a private member.

@@ -10,7 +10,7 @@ ghost use Rattle.check_model.specs.Context.{classes_from};
 ghost use Rattle.check_context.specs.Handed.{around, IsContext};
 ghost use Rattle.check_context.specs.Tells.{Tells};
 
-use check_context::CheckContext;
+use check_context::{CheckContext, tell};
 use class_table::{ClassTable, PrivateIdentifierReference};
 use semantic_diagnostics::Diagnostics;
 use semantic_diagnostics::makers::private_field_undeclared;
@@ -42,7 +42,7 @@ fn is_defined(name: Ident<'_>, class: ClassId, classes: &ClassTable<'_>) -> bool
 }
 
 /// Tells of the use of a private name that no class around it defines.
-#[tactic(auto, using(check_context::proofs::Telling::telling))]
+#[tactic(auto, using(check_context::proofs::Telling::made))]
 fn tell_use(
     alloc: Global,
     used: &PrivateIdentifierReference<'_>,
@@ -56,7 +56,10 @@ fn tell_use(
     if is_defined(used.name, class, classes) {
         return Ok(());
     }
-    out.push(private_field_undeclared(alloc, used.name.as_str(), used.span)?)
+    tell(
+        private_field_undeclared(alloc, used.name.as_str(), used.span),
+        out,
+    )
 }
 
 /// Tells of the uses of private names in a class that neither it nor a class around it defines.

@@ -14,7 +14,7 @@ ghost use Rattle.expression_checks.specs.Searches.{classes_kept, found_shown, Is
 
 use crate::super_search::{Found, first_verdict};
 use crate::verdict::{Verdict, call_around, is_call};
-use check_context::{CheckContext, has_child, node_of};
+use check_context::{CheckContext, has_child, node_of, tell};
 use semantic_diagnostics::Diagnostics;
 use semantic_diagnostics::makers::{
     super_without_derived_class, unexpected_super_call, unexpected_super_reference,
@@ -24,7 +24,7 @@ use semantic_tree::{AstKind, Role};
 use std::alloc::{AllocError, Global};
 
 /// Tells of a `super` that stands wrong, or of its call.
-#[tactic(auto, using(check_context::proofs::Telling::telling))]
+#[tactic(auto, using(check_context::proofs::Telling::made))]
 fn tell_refused<'a>(
     alloc: Global,
     kind: AstKind<'a>,
@@ -35,8 +35,8 @@ fn tell_refused<'a>(
     ensures { let s = sight kind.entry.node.now ctx.now in Tells result (rows.refused_row s (rows.call_around s) ∷ []) out.old out.new }
 {
     match call_around(ctx) {
-        Some(call) => out.push(unexpected_super_call(alloc, call.span())?),
-        None => out.push(unexpected_super_reference(alloc, kind.span())?),
+        Some(call) => tell(unexpected_super_call(alloc, call.span()), out),
+        None => tell(unexpected_super_reference(alloc, kind.span()), out),
     }
 }
 
@@ -75,7 +75,7 @@ fn node_of_kept<'a>(
 }
 
 /// Tells of a `super` that is called in a class without heritage (ECMAScript 15.7.1, HasDirectSuper).
-#[tactic(auto, using(check_context::proofs::Telling::telling))]
+#[tactic(auto, using(check_context::proofs::Telling::made))]
 fn tell_underived(
     alloc: Global,
     kind: AstKind<'_>,
@@ -87,7 +87,10 @@ fn tell_underived(
     if has_child(class, Role::Heritage) {
         Ok(())
     } else {
-        out.push(super_without_derived_class(alloc, kind.span(), class.span())?)
+        tell(
+            super_without_derived_class(alloc, kind.span(), class.span()),
+            out,
+        )
     }
 }
 

@@ -7,12 +7,12 @@ ghost use Rattle.semantic_diagnostics.specs.Names as tell_of;
 ghost use Rattle.check_model.specs.Expressions as rows;
 ghost use Rattle.check_model.specs.Groups.{is_function};
 ghost use Rattle.check_model.specs.Search.{row_if};
-ghost use Rattle.check_model.specs.Surroundings.{first_bytes, is_in_static_block};
+ghost use Rattle.check_model.specs.Surroundings.{first_bytes, is_in_static_block, links};
 ghost use Rattle.check_context.specs.Handed.{sight, IsContext, IsHanded};
-ghost use Rattle.check_context.specs.Shown.{link_shown, links_left};
+ghost use Rattle.check_context.specs.Shown.{link_shown};
 ghost use Rattle.check_context.specs.Tells.{Tells};
 
-use check_context::{CheckContext, Links, first_bytes};
+use check_context::{CheckContext, Links, first_bytes, tell};
 use semantic_diagnostics::Diagnostics;
 use semantic_diagnostics::makers::{await_or_yield_in_parameter, class_static_block_await};
 use semantic_syntax::Span;
@@ -35,11 +35,15 @@ fn enters_parameter(child: AstKind<'_>, parent: AstKind<'_>) -> bool
             && parent.ty() == AstType::FormalParameterRest)
 }
 
-/// The first link of a way outward that enters a parameter or a function, which is its end.
-fn parameter_or_function<'a>(links: Links<'_, 'a>) -> Option<(AstKind<'a>, AstKind<'a>)>
-    ensures { option_map link_shown result ≡ find (λ link. rows.enters_parameter link || is_function link.1.kind) (links_left links.entry) }
+/// The first link of the way outward that enters a parameter or a function, which is its end.
+fn parameter_or_function<'a>(
+    kind: AstKind<'a>,
+    ctx: &CheckContext<'a, '_>,
+) -> Option<(AstKind<'a>, AstKind<'a>)>
+    requires { IsContext ctx.now }
+    ensures { option_map link_shown result ≡ find (λ link. rows.enters_parameter link || is_function link.1.kind) (links (sight kind.entry.node.now ctx.now)) }
 {
-    let mut left = links;
+    let mut left = Links::new(kind, ctx.above());
     while let Some((child, parent)) = left.next() {
         if enters_parameter(child, parent) || is_function(parent.ty()) {
             return Some((child, parent));
@@ -53,14 +57,14 @@ fn is_in_parameter<'a>(kind: AstKind<'a>, ctx: &CheckContext<'a, '_>) -> bool
     requires { IsContext ctx.now }
     ensures { result ≡ rows.is_in_parameter (sight kind.entry.node.now ctx.now) }
 {
-    match parameter_or_function(Links::new(kind, ctx.above())) {
+    match parameter_or_function(kind, ctx) {
         Some((child, parent)) => enters_parameter(child, parent),
         None => false,
     }
 }
 
 /// Tells of an expression of the keyword, if it stands in a parameter.
-#[tactic(auto, using(check_context::proofs::Telling::telling, semantic_diagnostics::proofs::AsciiTexts::ascii_texts))]
+#[tactic(auto, using(check_context::proofs::Telling::made, semantic_diagnostics::proofs::AsciiTexts::ascii_texts))]
 fn tell_keyword_if(
     alloc: Global,
     is_there: bool,
@@ -72,7 +76,7 @@ fn tell_keyword_if(
     ensures { Tells result (row_if is_there (tell.await_or_yield_in_parameter keyword.now span)) out.old out.new }
 {
     if is_there {
-        out.push(await_or_yield_in_parameter(alloc, keyword, span)?)
+        tell(await_or_yield_in_parameter(alloc, keyword, span), out)
     } else {
         Ok(())
     }
@@ -96,7 +100,7 @@ fn tell_in_parameter<'a>(
 }
 
 /// Tells of `await` in a static block (ECMAScript 15.7.1, Contains `await`).
-#[tactic(auto, using(check_context::proofs::Telling::telling))]
+#[tactic(auto, using(check_context::proofs::Telling::made))]
 fn tell_in_block<'a>(
     alloc: Global,
     kind: AstKind<'a>,
@@ -107,7 +111,10 @@ fn tell_in_block<'a>(
     ensures { let s = sight kind.entry.node.now ctx.now in Tells result (row_if (is_in_static_block s) (tell_of.class_static_block_await (first_bytes 5 s.node.span))) out.old out.new }
 {
     if ctx.is_in_static_block() {
-        out.push(class_static_block_await(alloc, first_bytes(5, kind.span()))?)
+        tell(
+            class_static_block_await(alloc, first_bytes(5, kind.span())),
+            out,
+        )
     } else {
         Ok(())
     }

@@ -9,7 +9,7 @@ ghost use Rattle.check_model.specs.Context.{seen_row};
 ghost use Rattle.check_model.specs.Super as rows;
 ghost use Rattle.check_model.specs.Surroundings.{links};
 ghost use Rattle.check_context.specs.Handed.{around, sight, IsContext};
-ghost use Rattle.check_context.specs.Shown.{link_shown, links_left};
+ghost use Rattle.check_context.specs.Shown.{link_shown};
 ghost use Rattle.expression_checks.specs.Verdicts.{verdict_shown};
 
 use check_context::{CheckContext, Links, is_child_in};
@@ -98,11 +98,16 @@ fn function_verdict(
     }
 }
 
-/// The node with the id, among those of a way outward, with its parent.
-fn link_of<'a>(id: NodeId, links: Links<'_, 'a>) -> Option<(AstKind<'a>, AstKind<'a>)>
-    ensures { option_map link_shown result ≡ find (λ link. link.0.node_id == id) (links_left links.entry) }
+/// The node with the id, among those of the way outward, with its parent.
+fn link_of<'a>(
+    id: NodeId,
+    kind: AstKind<'a>,
+    ctx: &CheckContext<'a, '_>,
+) -> Option<(AstKind<'a>, AstKind<'a>)>
+    requires { IsContext ctx.now }
+    ensures { option_map link_shown result ≡ find (λ link. link.0.node_id == id) (links (sight kind.entry.node.now ctx.now)) }
 {
-    let mut left = links;
+    let mut left = Links::new(kind, ctx.above());
     while let Some((child, parent)) = left.next() {
         if child.node_id() == id {
             return Some((child, parent));
@@ -121,10 +126,7 @@ fn opener_of<'a>(
     requires scope { scope < length ctx.now.scoping.now.scopes }
     ensures { option_map link_shown result ≡ find (λ link. link.0.node_id == (seen_row ctx.now.scoping.now scope).opener) (links (sight kind.entry.node.now ctx.now)) }
 {
-    link_of(
-        ctx.scoping.get_node_id(scope),
-        Links::new(kind, ctx.above()),
-    )
+    link_of(ctx.scoping.get_node_id(scope), kind, ctx)
 }
 
 /// What the function of a scope decides.

@@ -4,3 +4,5 @@ pub mod FirstBad
 pub mod Skipped
 pub mod Ends
 pub mod Counts
+pub mod JumpEnds
+pub mod Turns

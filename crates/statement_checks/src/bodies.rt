@@ -3,13 +3,11 @@ ghost use Rattle.std.specs.Prelude.{◌≡◌, not, option_map, find};
 ghost use Rattle.semantic_kinds.specs.declared.kind.AstType.TheVariants as kinds;
 ghost use Rattle.semantic_tree.specs.ChildIter.{shown};
 ghost use Rattle.semantic_tree.specs.Views.{is};
-ghost use Rattle.node_store.specs.PathLeft.{path_left};
 ghost use Rattle.check_model.specs.Bodies as rows;
 ghost use Rattle.check_context.specs.Handed.{around, sight, IsContext, IsHanded};
 ghost use Rattle.check_context.specs.Tells.{Tells};
 
-use check_context::{CheckContext, first_bytes, is_declared_function};
-use node_store::AncestorKinds;
+use check_context::{CheckContext, first_bytes, is_declared_function, tell};
 use semantic_diagnostics::Diagnostics;
 use semantic_diagnostics::makers::{
     function_declaration_non_strict, function_declaration_strict, with_statement,
@@ -19,7 +17,7 @@ use std::alloc::{AllocError, Global};
 
 /// A declared function is no body of a statement, except under `if` in sloppy code (ECMAScript 14.6, 14.7, Annex
 /// B.3.3). The node is the body, and the context that of its statement.
-#[tactic(auto, using(check_context::proofs::Telling::telling))]
+#[tactic(auto, using(check_context::proofs::Telling::made))]
 pub fn check_function_declaration<'a>(
     alloc: Global,
     kind: AstKind<'a>,
@@ -34,12 +32,12 @@ pub fn check_function_declaration<'a>(
         return Ok(());
     }
     if ctx.is_strict() {
-        return out.push(function_declaration_strict(alloc, kind.span())?);
+        return tell(function_declaration_strict(alloc, kind.span()), out);
     }
     if under_if {
         return Ok(());
     }
-    out.push(function_declaration_non_strict(alloc, kind.span())?)
+    tell(function_declaration_non_strict(alloc, kind.span()), out)
 }
 
 /// Whether nodes of the kind are statements with a body that is no block of its own.
@@ -50,11 +48,12 @@ fn has_single_body(kind: AstKind<'_>) -> bool
         || kind.is_iteration_statement()
 }
 
-/// The first node of a path that is no label.
-fn first_unlabelled<'a>(above: AncestorKinds<'_, 'a>) -> Option<AstKind<'a>>
-    ensures { option_map shown result ≡ find (λ node. not (is kinds.LabeledStatement node)) (path_left above.entry) }
+/// The first node around that is no label.
+fn first_unlabelled<'a>(ctx: &CheckContext<'a, '_>) -> Option<AstKind<'a>>
+    requires { IsContext ctx.now }
+    ensures { option_map shown result ≡ find (λ node. not (is kinds.LabeledStatement node)) (around ctx.now).path }
 {
-    let mut left = above;
+    let mut left = ctx.above();
     while let Some(kind) = left.next() {
         if kind.ty() != AstType::LabeledStatement {
             return Some(kind);
@@ -68,7 +67,7 @@ fn is_single_body(ctx: &CheckContext<'_, '_>) -> bool
     requires { IsContext ctx.now }
     ensures { result ≡ rows.is_single_body (around ctx.now) }
 {
-    match first_unlabelled(ctx.above()) {
+    match first_unlabelled(ctx) {
         Some(outer) => has_single_body(outer),
         None => false,
     }
@@ -76,7 +75,7 @@ fn is_single_body(ctx: &CheckContext<'_, '_>) -> bool
 
 /// A declared function has a label only in sloppy code, and not as a body of a statement (ECMAScript 14.13.1, Annex
 /// B.3.1). The node is the body, and the context that of its label.
-#[tactic(auto, using(check_context::proofs::Telling::telling))]
+#[tactic(auto, using(check_context::proofs::Telling::made))]
 pub fn check_function_declaration_in_labeled_statement<'a>(
     alloc: Global,
     kind: AstKind<'a>,
@@ -90,16 +89,16 @@ pub fn check_function_declaration_in_labeled_statement<'a>(
         return Ok(());
     }
     if ctx.is_strict() {
-        return out.push(function_declaration_strict(alloc, kind.span())?);
+        return tell(function_declaration_strict(alloc, kind.span()), out);
     }
     if is_single_body(ctx) {
-        return out.push(function_declaration_non_strict(alloc, kind.span())?);
+        return tell(function_declaration_non_strict(alloc, kind.span()), out);
     }
     Ok(())
 }
 
 /// Neither strict code nor TypeScript has `with` (ECMAScript 14.11.1; TypeScript 2410).
-#[tactic(auto, using(check_context::proofs::Telling::telling))]
+#[tactic(auto, using(check_context::proofs::Telling::made))]
 pub fn check_with_statement<'a>(
     alloc: Global,
     kind: AstKind<'a>,
@@ -110,7 +109,7 @@ pub fn check_with_statement<'a>(
     ensures { Tells result (rows.check_with_statement (sight kind.entry.node.now ctx.now)) out.old out.new }
 {
     if ctx.is_strict() || ctx.source_type.is_typescript() {
-        out.push(with_statement(alloc, first_bytes(4, kind.span()))?)
+        tell(with_statement(alloc, first_bytes(4, kind.span())), out)
     } else {
         Ok(())
     }

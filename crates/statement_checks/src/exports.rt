@@ -10,7 +10,7 @@ ghost use Rattle.check_model.specs.Search.{rows_of_some};
 ghost use Rattle.check_context.specs.Handed.{around, sight, IsContext};
 ghost use Rattle.check_context.specs.Tells.{Tells};
 
-use check_context::CheckContext;
+use check_context::{CheckContext, tell};
 use semantic_diagnostics::Diagnostics;
 use semantic_diagnostics::makers::undefined_export;
 use semantic_tree::{AstKind, AstType, Role};
@@ -25,7 +25,7 @@ fn is_undefined(local: AstKind<'_>, ctx: &CheckContext<'_, '_>) -> bool
 }
 
 /// Tells of an exported name that is declared nowhere.
-#[tactic(auto, using(check_context::proofs::Telling::telling))]
+#[tactic(auto, using(check_context::proofs::Telling::made))]
 fn tell_local(
     alloc: Global,
     local: AstKind<'_>,
@@ -39,7 +39,7 @@ fn tell_local(
         return Ok(());
     }
     let name = local.text();
-    out.push(undefined_export(alloc, name.as_str(), local.span())?)
+    tell(undefined_export(alloc, name.as_str(), local.span()), out)
 }
 
 /// Tells of the name that a specifier exports, if it is declared nowhere.

@@ -7,7 +7,7 @@ ghost use Rattle.check_context.specs.Handed.{around, IsContext};
 ghost use Rattle.check_context.specs.Tells.{Tells};
 ghost use Rattle.statement_checks.specs.Bound.{bound_in, repeated, AreCounts};
 
-use check_context::CheckContext;
+use check_context::{CheckContext, tell};
 use scoping::{Redeclaration, Scoping};
 use semantic_diagnostics::Diagnostics;
 use semantic_diagnostics::makers::redeclaration;
@@ -25,7 +25,7 @@ fn is_import_value(flags: SymbolFlags) -> bool
 }
 
 /// Tells of the first declaration and the last one, if there are two or more.
-#[tactic(auto, using(check_context::proofs::Telling::telling, crate::proofs::Ends::ends))]
+#[tactic(auto, using(check_context::proofs::Telling::made, crate::proofs::Ends::ends))]
 fn tell_declarations(
     alloc: Global,
     name: &str,
@@ -39,7 +39,7 @@ fn tell_declarations(
     }
     let first = entries[0].span;
     let last = entries[entries.len() - 1].span;
-    out.push(redeclaration(alloc, name, first, last)?)
+    tell(redeclaration(alloc, name, first, last), out)
 }
 
 /// Tells of a symbol that is an import and a value too, if it is declared again.

@@ -2,15 +2,13 @@
 ghost use Rattle.std.specs.Prelude.{◌≡◌, ◌||◌, [], option_map, find};
 ghost use Rattle.semantic_tree.specs.ChildIter.{shown};
 ghost use Rattle.semantic_diagnostics.specs.Statements as tell;
-ghost use Rattle.node_store.specs.PathLeft.{path_left};
 ghost use Rattle.check_model.specs.Groups.{under_labels};
 ghost use Rattle.check_model.specs.Jumps as rows;
-ghost use Rattle.check_context.specs.Handed.{sight, IsContext};
+ghost use Rattle.check_context.specs.Handed.{around, sight, IsContext};
 ghost use Rattle.check_context.specs.Tells.{Tells};
 
 use crate::labels::{is_boundary, is_labelled_by};
-use check_context::CheckContext;
-use node_store::AncestorKinds;
+use check_context::{CheckContext, tell};
 use semantic_diagnostics::Diagnostics;
 use semantic_diagnostics::makers::{
     invalid_break, invalid_continue, invalid_label_jump_target, invalid_label_non_iteration,
@@ -35,11 +33,12 @@ fn is_loop_or_switch(kind: AstKind<'_>) -> bool
     kind.is_iteration_statement() || kind.ty() == AstType::SwitchStatement
 }
 
-/// The first node of a path that a `break` without label meets: its target, or where the search ends.
-fn met_by_break<'a>(above: AncestorKinds<'_, 'a>) -> Option<AstKind<'a>>
-    ensures { option_map shown result ≡ find (λ node. rows.is_end node || rows.is_loop_or_switch node) (path_left above.entry) }
+/// The first node outward that a `break` without label meets: its target, or where the search ends.
+fn met_by_break<'a>(ctx: &CheckContext<'a, '_>) -> Option<AstKind<'a>>
+    requires { IsContext ctx.now }
+    ensures { option_map shown result ≡ find (λ node. rows.is_end node || rows.is_loop_or_switch node) (around ctx.now).path }
 {
-    let mut left = above;
+    let mut left = ctx.above();
     while let Some(kind) = left.next() {
         if is_end(kind) || is_loop_or_switch(kind) {
             return Some(kind);
@@ -48,11 +47,12 @@ fn met_by_break<'a>(above: AncestorKinds<'_, 'a>) -> Option<AstKind<'a>>
     None
 }
 
-/// The first node of a path that a `continue` without label meets: its target, or where the search ends.
-fn met_by_continue<'a>(above: AncestorKinds<'_, 'a>) -> Option<AstKind<'a>>
-    ensures { option_map shown result ≡ find (λ node. rows.is_end node || rows.is_loop_node node) (path_left above.entry) }
+/// The first node outward that a `continue` without label meets: its target, or where the search ends.
+fn met_by_continue<'a>(ctx: &CheckContext<'a, '_>) -> Option<AstKind<'a>>
+    requires { IsContext ctx.now }
+    ensures { option_map shown result ≡ find (λ node. rows.is_end node || rows.is_loop_node node) (around ctx.now).path }
 {
-    let mut left = above;
+    let mut left = ctx.above();
     while let Some(kind) = left.next() {
         if is_end(kind) || kind.is_iteration_statement() {
             return Some(kind);
@@ -61,11 +61,12 @@ fn met_by_continue<'a>(above: AncestorKinds<'_, 'a>) -> Option<AstKind<'a>>
     None
 }
 
-/// The first node of a path that a jump to a label meets: its target, or where the search ends.
-fn met_by_label<'a>(label: AstKind<'_>, above: AncestorKinds<'_, 'a>) -> Option<AstKind<'a>>
-    ensures { option_map shown result ≡ find (λ node. rows.is_end node || rows.is_labelled_by label.entry.node.now node) (path_left above.entry) }
+/// The first node outward that a jump to a label meets: its target, or where the search ends.
+fn met_by_label<'a>(label: AstKind<'_>, ctx: &CheckContext<'a, '_>) -> Option<AstKind<'a>>
+    requires { IsContext ctx.now }
+    ensures { option_map shown result ≡ find (λ node. rows.is_end node || rows.is_labelled_by label.entry.node.now node) (around ctx.now).path }
 {
-    let mut left = above;
+    let mut left = ctx.above();
     while let Some(kind) = left.next() {
         if is_end(kind) || is_labelled_by(label, kind) {
             return Some(kind);
@@ -75,45 +76,47 @@ fn met_by_label<'a>(label: AstKind<'_>, above: AncestorKinds<'_, 'a>) -> Option<
 }
 
 /// Tells of a `break` without label that has no target.
-#[tactic(auto, using(check_context::proofs::Telling::telling))]
+#[tactic(auto, using(check_context::proofs::Telling::made))]
 fn tell_plain_break(
     alloc: Global,
     span: Span,
-    above: AncestorKinds<'_, '_>,
+    ctx: &CheckContext<'_, '_>,
     out: &mut Diagnostics,
 ) -> Result<(), AllocError>
-    ensures { Tells result (rows.unlabelled_rows rows.is_loop_or_switch (tell.invalid_break span) (path_left above.entry)) out.old out.new }
+    requires { IsContext ctx.now }
+    ensures { Tells result (rows.unlabelled_rows rows.is_loop_or_switch (tell.invalid_break span) (around ctx.now).path) out.old out.new }
 {
-    let Some(met) = met_by_break(above) else {
+    let Some(met) = met_by_break(ctx) else {
         return Ok(());
     };
     if is_loop_or_switch(met) {
         return Ok(());
     }
-    out.push(invalid_break(alloc, span)?)
+    tell(invalid_break(alloc, span), out)
 }
 
 /// Tells of a `continue` without label that has no target.
-#[tactic(auto, using(check_context::proofs::Telling::telling))]
+#[tactic(auto, using(check_context::proofs::Telling::made))]
 fn tell_plain_continue(
     alloc: Global,
     span: Span,
-    above: AncestorKinds<'_, '_>,
+    ctx: &CheckContext<'_, '_>,
     out: &mut Diagnostics,
 ) -> Result<(), AllocError>
-    ensures { Tells result (rows.unlabelled_rows rows.is_loop_node (tell.invalid_continue span) (path_left above.entry)) out.old out.new }
+    requires { IsContext ctx.now }
+    ensures { Tells result (rows.unlabelled_rows rows.is_loop_node (tell.invalid_continue span) (around ctx.now).path) out.old out.new }
 {
-    let Some(met) = met_by_continue(above) else {
+    let Some(met) = met_by_continue(ctx) else {
         return Ok(());
     };
     if met.is_iteration_statement() {
         return Ok(());
     }
-    out.push(invalid_continue(alloc, span)?)
+    tell(invalid_continue(alloc, span), out)
 }
 
 /// Tells of a jump to a label that leaves a function, or whose label no statement around has.
-#[tactic(auto, using(check_context::proofs::Telling::telling))]
+#[tactic(auto, using(check_context::proofs::Telling::made))]
 fn tell_unmet(
     alloc: Global,
     label: AstKind<'_>,
@@ -123,10 +126,10 @@ fn tell_unmet(
     ensures { Tells result (rows.met_rows (λ target. []) label.entry.node.now met.entry.node.now) out.old out.new }
 {
     if is_boundary(met) {
-        return out.push(invalid_label_jump_target(alloc, label.span())?);
+        return tell(invalid_label_jump_target(alloc, label.span()), out);
     }
     if met.ty() == AstType::Program {
-        return out.push(invalid_label_target(alloc, label.span())?);
+        return tell(invalid_label_target(alloc, label.span()), out);
     }
     Ok(())
 }
@@ -136,12 +139,13 @@ fn tell_unmet(
 fn tell_labelled_break(
     alloc: Global,
     label: AstKind<'_>,
-    above: AncestorKinds<'_, '_>,
+    ctx: &CheckContext<'_, '_>,
     out: &mut Diagnostics,
 ) -> Result<(), AllocError>
-    ensures { Tells result (rows.labelled_rows (λ target. []) label.entry.node.now (path_left above.entry)) out.old out.new }
+    requires { IsContext ctx.now }
+    ensures { Tells result (rows.labelled_rows (λ target. []) label.entry.node.now (around ctx.now).path) out.old out.new }
 {
-    match met_by_label(label, above) {
+    match met_by_label(label, ctx) {
         Some(met) => tell_unmet(alloc, label, met, out),
         None => Ok(()),
     }
@@ -159,8 +163,8 @@ pub fn check_break_statement<'a>(
     ensures { Tells result (rows.check_break_statement (sight kind.entry.node.now ctx.now)) out.old out.new }
 {
     match kind.child(Role::Label) {
-        Some(label) => tell_labelled_break(alloc, label, ctx.above(), out),
-        None => tell_plain_break(alloc, kind.span(), ctx.above(), out),
+        Some(label) => tell_labelled_break(alloc, label, ctx, out),
+        None => tell_plain_break(alloc, kind.span(), ctx, out),
     }
 }
 
@@ -180,7 +184,7 @@ fn under_labels(kind: AstKind<'_>) -> AstKind<'_>
 }
 
 /// Tells of a `continue` whose label, on the statement that it goes to, labels no loop.
-#[tactic(auto, using(check_context::proofs::Telling::telling, semantic_diagnostics::proofs::AsciiTexts::ascii_texts))]
+#[tactic(auto, using(check_context::proofs::Telling::made, semantic_diagnostics::proofs::AsciiTexts::ascii_texts))]
 fn tell_no_loop(
     alloc: Global,
     label: AstKind<'_>,
@@ -195,7 +199,10 @@ fn tell_no_loop(
     let Some(own) = target.child(Role::Label) else {
         return Ok(());
     };
-    out.push(invalid_label_non_iteration(alloc, "continue", own.span(), label.span())?)
+    tell(
+        invalid_label_non_iteration(alloc, "continue", own.span(), label.span()),
+        out,
+    )
 }
 
 /// Tells of a `continue` to a label by what it meets.
@@ -220,12 +227,13 @@ fn tell_met_by_continue(
 fn tell_labelled_continue(
     alloc: Global,
     label: AstKind<'_>,
-    above: AncestorKinds<'_, '_>,
+    ctx: &CheckContext<'_, '_>,
     out: &mut Diagnostics,
 ) -> Result<(), AllocError>
-    ensures { Tells result (rows.labelled_rows (rows.continue_rows label.entry.node.now) label.entry.node.now (path_left above.entry)) out.old out.new }
+    requires { IsContext ctx.now }
+    ensures { Tells result (rows.labelled_rows (rows.continue_rows label.entry.node.now) label.entry.node.now (around ctx.now).path) out.old out.new }
 {
-    match met_by_label(label, above) {
+    match met_by_label(label, ctx) {
         Some(met) => tell_met_by_continue(alloc, label, met, out),
         None => Ok(()),
     }
@@ -243,7 +251,7 @@ pub fn check_continue_statement<'a>(
     ensures { Tells result (rows.check_continue_statement (sight kind.entry.node.now ctx.now)) out.old out.new }
 {
     match kind.child(Role::Label) {
-        Some(label) => tell_labelled_continue(alloc, label, ctx.above(), out),
-        None => tell_plain_continue(alloc, kind.span(), ctx.above(), out),
+        Some(label) => tell_labelled_continue(alloc, label, ctx, out),
+        None => tell_plain_continue(alloc, kind.span(), ctx, out),
     }
 }

@@ -3,13 +3,11 @@ ghost use Rattle.std.specs.Prelude.{◌≡◌, option_map};
 ghost use Rattle.semantic_kinds.specs.declared.role.Role.TheVariants as roles;
 ghost use Rattle.semantic_tree.specs.ChildIter.{shown};
 ghost use Rattle.semantic_tree.specs.Views.{has_text, whose};
-ghost use Rattle.node_store.specs.PathLeft.{path_left};
 ghost use Rattle.check_model.specs.Jumps as rows;
-ghost use Rattle.check_context.specs.Handed.{sight, IsContext};
+ghost use Rattle.check_context.specs.Handed.{around, sight, IsContext};
 ghost use Rattle.check_context.specs.Tells.{Tells};
 
-use check_context::{CheckContext, is_same};
-use node_store::AncestorKinds;
+use check_context::{CheckContext, is_same, tell};
 use semantic_diagnostics::Diagnostics;
 use semantic_diagnostics::makers::label_redeclaration;
 use semantic_tree::{AstKind, AstType, Role};
@@ -43,11 +41,12 @@ pub(crate) fn is_labelled_by(label: AstKind<'_>, kind: AstKind<'_>) -> bool
     kind.ty() == AstType::LabeledStatement && has_label(label, kind)
 }
 
-/// The innermost statement of a path, in the same function, that has the label too.
-fn same_label_around<'a>(label: AstKind<'_>, above: AncestorKinds<'_, 'a>) -> Option<AstKind<'a>>
-    ensures { option_map shown result ≡ rows.same_label_around label.entry.node.now (path_left above.entry) }
+/// The innermost statement around, in the same function, that has the label too.
+fn same_label_around<'a>(label: AstKind<'_>, ctx: &CheckContext<'a, '_>) -> Option<AstKind<'a>>
+    requires { IsContext ctx.now }
+    ensures { option_map shown result ≡ rows.same_label_around label.entry.node.now (around ctx.now).path }
 {
-    let mut left = above;
+    let mut left = ctx.above();
     while let Some(kind) = left.next() {
         if is_boundary(kind) {
             return None;
@@ -60,23 +59,27 @@ fn same_label_around<'a>(label: AstKind<'_>, above: AncestorKinds<'_, 'a>) -> Op
 }
 
 /// Tells of a label that a statement around has too.
-#[tactic(auto, using(check_context::proofs::Telling::telling))]
+#[tactic(auto, using(check_context::proofs::Telling::made))]
 fn tell_same_label(
     alloc: Global,
     label: AstKind<'_>,
-    above: AncestorKinds<'_, '_>,
+    ctx: &CheckContext<'_, '_>,
     out: &mut Diagnostics,
 ) -> Result<(), AllocError>
-    ensures { Tells result (rows.own_label_rows (path_left above.entry) label.entry.node.now) out.old out.new }
+    requires { IsContext ctx.now }
+    ensures { Tells result (rows.own_label_rows (around ctx.now).path label.entry.node.now) out.old out.new }
 {
-    let Some(outer) = same_label_around(label, above) else {
+    let Some(outer) = same_label_around(label, ctx) else {
         return Ok(());
     };
     let Some(first) = outer.child(Role::Label) else {
         return Ok(());
     };
     let name = label.text();
-    out.push(label_redeclaration(alloc, name.as_str(), first.span(), label.span())?)
+    tell(
+        label_redeclaration(alloc, name.as_str(), first.span(), label.span()),
+        out,
+    )
 }
 
 /// A label is new in its function, inside the labels around it (ECMAScript 14.13.1, ContainsDuplicateLabels).
@@ -91,7 +94,7 @@ pub fn check_labeled_statement<'a>(
     ensures { Tells result (rows.check_labeled_statement (sight kind.entry.node.now ctx.now)) out.old out.new }
 {
     match kind.child(Role::Label) {
-        Some(label) => tell_same_label(alloc, label, ctx.above(), out),
+        Some(label) => tell_same_label(alloc, label, ctx, out),
         None => Ok(()),
     }
 }

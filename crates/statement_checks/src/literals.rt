@@ -12,7 +12,7 @@ ghost use Rattle.check_context.specs.Handed.{sight, IsContext, IsHanded};
 ghost use Rattle.check_context.specs.Tells.{Tells};
 
 use crate::escapes::{BadEscape, first_bad};
-use check_context::{CheckContext, node_of};
+use check_context::{CheckContext, node_of, tell};
 use node_rules::questions::reads;
 use semantic_diagnostics::Diagnostics;
 use semantic_diagnostics::makers::{
@@ -43,24 +43,24 @@ fn has_leading_zero(spelling: &[u8]) -> bool
 }
 
 /// Tells of a number with a leading zero in the octal base (ECMAScript 12.9.3, LegacyOctalIntegerLiteral).
-#[tactic(auto, using(check_context::proofs::Telling::telling))]
+#[tactic(auto, using(check_context::proofs::Telling::made))]
 fn tell_octal(alloc: Global, kind: AstKind<'_>, out: &mut Diagnostics) -> Result<(), AllocError>
     ensures { Tells result (row_if (has mark.Octal kind.entry.node.now) (tell.legacy_octal kind.entry.node.now.span)) out.old out.new }
 {
     if kind.has_mark(Mark::Octal) {
-        out.push(legacy_octal(alloc, kind.span())?)
+        tell(legacy_octal(alloc, kind.span()), out)
     } else {
         Ok(())
     }
 }
 
 /// Tells of a number with a leading zero in base ten (ECMAScript 12.9.3, NonOctalDecimalIntegerLiteral).
-#[tactic(auto, using(check_context::proofs::Telling::telling))]
+#[tactic(auto, using(check_context::proofs::Telling::made))]
 fn tell_decimal(alloc: Global, kind: AstKind<'_>, out: &mut Diagnostics) -> Result<(), AllocError>
     ensures { Tells result (row_if (has mark.Decimal kind.entry.node.now || has mark.Float kind.entry.node.now) (tell.leading_zero_decimal kind.entry.node.now.span)) out.old out.new }
 {
     if kind.has_mark(Mark::Decimal) || kind.has_mark(Mark::Float) {
-        out.push(leading_zero_decimal(alloc, kind.span())?)
+        tell(leading_zero_decimal(alloc, kind.span()), out)
     } else {
         Ok(())
     }
@@ -105,7 +105,7 @@ fn is_escaped(kind: AstKind<'_>, raw: &[u8]) -> bool
 }
 
 /// Tells of the first bad escape of a string, if there is one.
-#[tactic(auto, using(crate::proofs::FirstBad::rows, check_context::proofs::Telling::telling))]
+#[tactic(auto, using(crate::proofs::FirstBad::rows, check_context::proofs::Telling::made))]
 fn tell_escapes(
     alloc: Global,
     raw: &[u8],
@@ -115,8 +115,8 @@ fn tell_escapes(
     ensures { Tells result (rows_of_some (rows.escape_rows span) (rows.first_bad_escape raw.now)) out.old out.new }
 {
     match first_bad(raw) {
-        Some(BadEscape::Octal) => out.push(legacy_octal(alloc, span)?),
-        Some(BadEscape::EightOrNine) => out.push(non_octal_decimal_escape_sequence(alloc, span)?),
+        Some(BadEscape::Octal) => tell(legacy_octal(alloc, span), out),
+        Some(BadEscape::EightOrNine) => tell(non_octal_decimal_escape_sequence(alloc, span), out),
         None => Ok(()),
     }
 }
@@ -165,7 +165,7 @@ fn has_complex_parameters(kind: AstKind<'_>, ctx: &CheckContext<'_, '_>) -> bool
 }
 
 /// A function makes itself strict only if its parameters are simple (ECMAScript 15.2.1, 15.3.1).
-#[tactic(auto, using(check_context::proofs::Telling::telling))]
+#[tactic(auto, using(check_context::proofs::Telling::made))]
 pub fn check_directive<'a>(
     alloc: Global,
     kind: AstKind<'a>,
@@ -176,7 +176,7 @@ pub fn check_directive<'a>(
     ensures { Tells result (rows.check_directive (sight kind.entry.node.now ctx.now)) out.old out.new }
 {
     if reads(kind, "use strict") && ctx.is_in_function() && has_complex_parameters(kind, ctx) {
-        out.push(illegal_use_strict(alloc, kind.span())?)
+        tell(illegal_use_strict(alloc, kind.span()), out)
     } else {
         Ok(())
     }

@@ -5,15 +5,13 @@ ghost use Rattle.semantic_kinds.specs.declared.kind.AstType.TheVariants as kinds
 ghost use Rattle.semantic_tree.specs.ChildIter.{shown};
 ghost use Rattle.semantic_tree.specs.Views.{is};
 ghost use Rattle.semantic_diagnostics.specs.Names as tell;
-ghost use Rattle.node_store.specs.PathLeft.{path_left};
 ghost use Rattle.check_model.specs.Names as rows;
 ghost use Rattle.check_model.specs.Search.{find_before};
 ghost use Rattle.check_context.specs.Handed.{around, sight, IsContext};
 ghost use Rattle.check_context.specs.Tells.{Tells};
 
-use check_context::CheckContext;
+use check_context::{CheckContext, tell};
 use node_rules::questions::reads;
-use node_store::AncestorKinds;
 use semantic_diagnostics::makers::{
     class_static_block_await, invalid_let_declaration, private_not_in_class, reserved_keyword,
     unexpected_identifier_assign,
@@ -56,7 +54,7 @@ fn reserved_because(ctx: &CheckContext<'_, '_>) -> ReservedKeywordContext
 }
 
 /// Tells of `await` as a name, where it is none: in a module, and directly in a static block (ECMAScript 13.1.1).
-#[tactic(auto, using(check_context::proofs::Telling::telling))]
+#[tactic(auto, using(check_context::proofs::Telling::made))]
 fn tell_await(
     alloc: Global,
     name: Ident<'_>,
@@ -69,17 +67,17 @@ fn tell_await(
 {
     if ctx.source_type.is_module() {
         let context = ReservedKeywordContext::ModuleAwait;
-        return out.push(reserved_keyword(alloc, name.as_str(), span, context)?);
+        return tell(reserved_keyword(alloc, name.as_str(), span, context), out);
     }
     if ctx.is_static_block() {
-        return out.push(class_static_block_await(alloc, span)?);
+        return tell(class_static_block_await(alloc, span), out);
     }
     Ok(())
 }
 
 /// A name is no reserved word, except in ambient code (ECMAScript 13.1.1, 12.7.2). The name is that of a binding
 /// identifier, an identifier reference or a label.
-#[tactic(auto, using(check_context::proofs::Telling::telling))]
+#[tactic(auto, using(check_context::proofs::Telling::made))]
 pub fn check_identifier<'a>(
     alloc: Global,
     name: Ident<'a>,
@@ -98,7 +96,7 @@ pub fn check_identifier<'a>(
     }
     if is_reserved(name.as_str()) && ctx.is_strict() {
         let context = reserved_because(ctx);
-        return out.push(reserved_keyword(alloc, name.as_str(), span, context)?);
+        return tell(reserved_keyword(alloc, name.as_str(), span, context), out);
     }
     Ok(())
 }
@@ -125,7 +123,7 @@ fn not_assigned_because(ctx: &CheckContext<'_, '_>) -> UnexpectedIdentifierAssig
 }
 
 /// Tells of an assignment to a name that strict code protects.
-#[tactic(auto, using(check_context::proofs::Telling::telling))]
+#[tactic(auto, using(check_context::proofs::Telling::made))]
 pub(crate) fn tell_assignment(
     alloc: Global,
     kind: AstKind<'_>,
@@ -137,7 +135,10 @@ pub(crate) fn tell_assignment(
 {
     let context = not_assigned_because(ctx);
     let name = kind.text();
-    out.push(unexpected_identifier_assign(alloc, name.as_str(), kind.span(), context)?)
+    tell(
+        unexpected_identifier_assign(alloc, name.as_str(), kind.span(), context),
+        out,
+    )
 }
 
 /// Whether nodes of the kind are parts of a pattern or a declarator.
@@ -155,10 +156,11 @@ fn is_pattern_part(kind: AstType) -> bool
 }
 
 /// Whether the node above the parent is of the kind.
-fn is_second_under(kind: AstType, above: AncestorKinds<'_, '_>) -> bool
-    ensures { result ≡ rows.is_second_under kind (path_left above.entry) }
+fn is_second_under(kind: AstType, ctx: &CheckContext<'_, '_>) -> bool
+    requires { IsContext ctx.now }
+    ensures { result ≡ rows.is_second_under kind (around ctx.now).path }
 {
-    let mut left = above;
+    let mut left = ctx.above();
     let Some(_) = left.next() else {
         return false;
     };
@@ -177,7 +179,7 @@ fn is_plain_binding(ctx: &CheckContext<'_, '_>) -> bool
         return true;
     };
     let is_rest = parent.ty() == AstType::BindingRestElement
-        && is_second_under(AstType::FormalParameterRest, ctx.above());
+        && is_second_under(AstType::FormalParameterRest, ctx);
     is_rest || !is_pattern_part(parent.ty())
 }
 
@@ -201,11 +203,12 @@ fn tell_eval_binding(
     tell_assignment(alloc, kind, ctx, out)
 }
 
-/// The innermost variable declaration on a path, before any function.
-fn declaration_around<'a>(above: AncestorKinds<'_, 'a>) -> Option<AstKind<'a>>
-    ensures { option_map shown result ≡ find_before (is kinds.Function) (is kinds.VariableDeclaration) (path_left above.entry) }
+/// The innermost variable declaration around, before any function.
+fn declaration_around<'a>(ctx: &CheckContext<'a, '_>) -> Option<AstKind<'a>>
+    requires { IsContext ctx.now }
+    ensures { option_map shown result ≡ find_before (is kinds.Function) (is kinds.VariableDeclaration) (around ctx.now).path }
 {
-    let mut left = above;
+    let mut left = ctx.above();
     while let Some(kind) = left.next() {
         if kind.ty() == AstType::Function {
             return None;
@@ -218,7 +221,7 @@ fn declaration_around<'a>(above: AncestorKinds<'_, 'a>) -> Option<AstKind<'a>>
 }
 
 /// Tells of `let` as a name that a lexical declaration would bind (ECMAScript 14.3.1.1).
-#[tactic(auto, using(check_context::proofs::Telling::telling))]
+#[tactic(auto, using(check_context::proofs::Telling::made))]
 fn tell_let(
     alloc: Global,
     kind: AstKind<'_>,
@@ -231,14 +234,17 @@ fn tell_let(
     if !reads(kind, "let") || ctx.is_strict() {
         return Ok(());
     }
-    let Some(declaration) = declaration_around(ctx.above()) else {
+    let Some(declaration) = declaration_around(ctx) else {
         return Ok(());
     };
     if reads(declaration, "var") {
         return Ok(());
     }
     let keyword = declaration.text();
-    out.push(invalid_let_declaration(alloc, keyword.as_str(), kind.span())?)
+    tell(
+        invalid_let_declaration(alloc, keyword.as_str(), kind.span()),
+        out,
+    )
 }
 
 /// Tells of names that may not be bound, outside of definition files.
@@ -276,7 +282,7 @@ pub fn check_binding_identifier<'a>(
 }
 
 /// Tells of a private name outside of every class.
-#[tactic(auto, using(check_context::proofs::Telling::telling))]
+#[tactic(auto, using(check_context::proofs::Telling::made))]
 fn tell_private_name(
     alloc: Global,
     kind: AstKind<'_>,
@@ -285,7 +291,7 @@ fn tell_private_name(
     ensures { let node = kind.entry.node.now in Tells result (tell.private_not_in_class node.text node.span ∷ []) out.old out.new }
 {
     let name = kind.text();
-    out.push(private_not_in_class(alloc, name.as_str(), kind.span())?)
+    tell(private_not_in_class(alloc, name.as_str(), kind.span()), out)
 }
 
 /// Private names stand in class bodies alone (ECMAScript 16.1.1, AllPrivateIdentifiersValid).

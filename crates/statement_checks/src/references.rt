@@ -9,17 +9,15 @@ ghost use Rattle.semantic_tree.specs.Views.{has_text, is, whose};
 ghost use Rattle.semantic_tree.specs.declared.node.Node.{Node};
 ghost use Rattle.semantic_syntax.specs.Ascii.{is_ascii};
 ghost use Rattle.semantic_diagnostics.specs.Names as tell;
-ghost use Rattle.node_store.specs.PathLeft.{path_left};
 ghost use Rattle.check_model.specs.Names as rows;
 ghost use Rattle.check_model.specs.Search.{row_if, rows_if};
-ghost use Rattle.check_context.specs.Handed.{sight, IsContext};
-ghost use Rattle.check_context.specs.Shown.{link_shown, links_left};
+ghost use Rattle.check_context.specs.Handed.{around, sight, IsContext};
+ghost use Rattle.check_context.specs.Shown.{link_shown};
 ghost use Rattle.check_context.specs.Tells.{Tells};
 
 use crate::names::{is_eval_or_arguments, tell_assignment};
-use check_context::{CheckContext, Links, is_child_in, is_same};
+use check_context::{CheckContext, Links, is_child_in, is_same, tell};
 use node_rules::questions::reads;
-use node_store::AncestorKinds;
 use semantic_diagnostics::Diagnostics;
 use semantic_diagnostics::makers::unexpected_arguments;
 use semantic_syntax::Span;
@@ -63,11 +61,12 @@ fn writes_to(name: AstKind<'_>, node: AstKind<'_>) -> bool
     is_target(node.ty()) || assigns_to(name, node)
 }
 
-/// The first node of a path that is a member expression or writes to the name.
-fn met_by_write<'a>(name: AstKind<'_>, above: AncestorKinds<'_, 'a>) -> Option<AstKind<'a>>
-    ensures { option_map shown result ≡ find (λ node. is_member node.kind || rows.writes_to name.entry.node.now.text node) (path_left above.entry) }
+/// The first node around that is a member expression or writes to the name.
+fn met_by_write<'a>(name: AstKind<'_>, ctx: &CheckContext<'a, '_>) -> Option<AstKind<'a>>
+    requires { IsContext ctx.now }
+    ensures { option_map shown result ≡ find (λ node. is_member node.kind || rows.writes_to name.entry.node.now.text node) (around ctx.now).path }
 {
-    let mut left = above;
+    let mut left = ctx.above();
     while let Some(node) = left.next() {
         if node.is_member_expression_kind() || writes_to(name, node) {
             return Some(node);
@@ -81,7 +80,7 @@ fn is_written(name: AstKind<'_>, ctx: &CheckContext<'_, '_>) -> bool
     requires { IsContext ctx.now }
     ensures { result ≡ rows.is_written (sight name.entry.node.now ctx.now) }
 {
-    match met_by_write(name, ctx.above()) {
+    match met_by_write(name, ctx) {
         Some(met) => !met.is_member_expression_kind(),
         None => false,
     }
@@ -112,19 +111,6 @@ fn owns_arguments(child: AstKind<'_>, parent: AstKind<'_>) -> bool
         || parent.ty() == AstType::StaticBlock
 }
 
-/// The innermost owner of `arguments` on a way outward, with the child that it is reached from.
-fn owner_on<'a>(links: Links<'_, 'a>) -> Option<(AstKind<'a>, AstKind<'a>)>
-    ensures { option_map link_shown result ≡ find (λ link. is kinds.Function link.1 || (rows.is_field_value link || rows.is_static_block link)) (links_left links.entry) }
-{
-    let mut left = links;
-    while let Some((child, parent)) = left.next() {
-        if owns_arguments(child, parent) {
-            return Some((child, parent));
-        }
-    }
-    None
-}
-
 /// The innermost owner of `arguments` around a reference, with the child that it is reached from.
 fn owner_of_arguments<'a>(
     kind: AstKind<'a>,
@@ -133,11 +119,17 @@ fn owner_of_arguments<'a>(
     requires { IsContext ctx.now }
     ensures { option_map link_shown result ≡ rows.owner_of_arguments (sight kind.entry.node.now ctx.now) }
 {
-    owner_on(Links::new(kind, ctx.above()))
+    let mut left = Links::new(kind, ctx.above());
+    while let Some((child, parent)) = left.next() {
+        if owns_arguments(child, parent) {
+            return Some((child, parent));
+        }
+    }
+    None
 }
 
 /// Tells of `arguments` in a place that has none.
-#[tactic(auto, using(check_context::proofs::Telling::telling, semantic_diagnostics::proofs::AsciiTexts::ascii_texts))]
+#[tactic(auto, using(check_context::proofs::Telling::made, semantic_diagnostics::proofs::AsciiTexts::ascii_texts))]
 fn tell_arguments_if(
     alloc: Global,
     is_there: bool,
@@ -149,7 +141,7 @@ fn tell_arguments_if(
     ensures { Tells result (row_if is_there (tell.unexpected_arguments place.now span)) out.old out.new }
 {
     if is_there {
-        out.push(unexpected_arguments(alloc, place, span)?)
+        tell(unexpected_arguments(alloc, place, span), out)
     } else {
         Ok(())
     }

@@ -13,7 +13,7 @@ ghost use Rattle.check_model.specs.Variables as rows;
 ghost use Rattle.check_context.specs.Handed.{around, sight, IsContext, IsHanded};
 ghost use Rattle.check_context.specs.Tells.{Tells};
 
-use check_context::{CheckContext, has_child, one_before_last};
+use check_context::{CheckContext, has_child, one_before_last, tell};
 use node_rules::questions::reads;
 use semantic_diagnostics::Diagnostics;
 use semantic_diagnostics::makers::{
@@ -25,7 +25,7 @@ use semantic_tree::{AstKind, AstType, ChildIter, Mark, Role};
 use std::alloc::{AllocError, Global};
 
 /// A static block doesn't await in a loop (ECMAScript 15.7.1, Contains `await`).
-#[tactic(auto, using(check_context::proofs::Telling::telling))]
+#[tactic(auto, using(check_context::proofs::Telling::made))]
 pub fn check_for_of_statement<'a>(
     alloc: Global,
     kind: AstKind<'a>,
@@ -36,7 +36,7 @@ pub fn check_for_of_statement<'a>(
     ensures { Tells result (rows.check_for_of_statement (sight kind.entry.node.now ctx.now)) out.old out.new }
 {
     if kind.has_mark(Mark::Await) && ctx.is_in_static_block() {
-        out.push(class_static_block_for_await(alloc, kind.span())?)
+        tell(class_static_block_for_await(alloc, kind.span()), out)
     } else {
         Ok(())
     }
@@ -87,7 +87,7 @@ fn loop_name(for_in: bool) -> &'static str
 }
 
 /// Tells of an initializer in the head of a loop.
-#[tactic(auto, using(check_context::proofs::Telling::telling, crate::proofs::LoopNames::names))]
+#[tactic(auto, using(check_context::proofs::Telling::made, crate::proofs::LoopNames::names))]
 fn tell_initializer(
     alloc: Global,
     left: AstKind<'_>,
@@ -97,7 +97,10 @@ fn tell_initializer(
     ensures { Tells result (tell.unexpected_initializer_in_for_loop_head (rows.loop_name for_in) left.entry.node.now.span ∷ []) out.old out.new }
 {
     let name = loop_name(for_in);
-    out.push(unexpected_initializer_in_for_loop_head(alloc, name, left.span())?)
+    tell(
+        unexpected_initializer_in_for_loop_head(alloc, name, left.span()),
+        out,
+    )
 }
 
 /// Tells of the initializer of a declarator in the head of a loop, where it may not stand.
@@ -167,7 +170,7 @@ fn is_using(kind: AstKind<'_>) -> bool
 }
 
 /// Tells of `using` at the top of a script.
-#[tactic(auto, using(check_context::proofs::Telling::telling))]
+#[tactic(auto, using(check_context::proofs::Telling::made))]
 fn tell_using(
     alloc: Global,
     kind: AstKind<'_>,
@@ -178,14 +181,17 @@ fn tell_using(
     ensures { let s = sight kind.entry.node.now ctx.now in Tells result (row_if (rows.is_using s.node && (is_script s && is_at_top s)) (tell.using_declaration_not_allowed_in_script s.node.span)) out.old out.new }
 {
     if is_using(kind) && ctx.source_type.is_script() && ctx.is_at_top() {
-        out.push(using_declaration_not_allowed_in_script(alloc, kind.span())?)
+        tell(
+            using_declaration_not_allowed_in_script(alloc, kind.span()),
+            out,
+        )
     } else {
         Ok(())
     }
 }
 
 /// Tells of `await using` in a static block (ECMAScript 15.7.1, Contains `await`).
-#[tactic(auto, using(check_context::proofs::Telling::telling))]
+#[tactic(auto, using(check_context::proofs::Telling::made))]
 fn tell_await_using(
     alloc: Global,
     kind: AstKind<'_>,
@@ -196,7 +202,7 @@ fn tell_await_using(
     ensures { let s = sight kind.entry.node.now ctx.now in Tells result (row_if (has_text (codes "await using") s.node && is_in_static_block s) (tell_of.class_static_block_await_using s.node.span)) out.old out.new }
 {
     if reads(kind, "await using") && ctx.is_in_static_block() {
-        out.push(class_static_block_await_using(alloc, kind.span())?)
+        tell(class_static_block_await_using(alloc, kind.span()), out)
     } else {
         Ok(())
     }
@@ -237,7 +243,7 @@ fn is_in_var(ctx: &CheckContext<'_, '_>) -> bool
 }
 
 /// Tells of a name of a declarator whose last declaration but one is a function.
-#[tactic(auto, using(check_context::proofs::Telling::telling))]
+#[tactic(auto, using(check_context::proofs::Telling::made))]
 fn tell_name(
     alloc: Global,
     name: AstKind<'_>,
@@ -255,7 +261,10 @@ fn tell_name(
         return Ok(());
     }
     let text = name.text();
-    out.push(redeclaration(alloc, text.as_str(), before.span, kind.span())?)
+    tell(
+        redeclaration(alloc, text.as_str(), before.span, kind.span()),
+        out,
+    )
 }
 
 /// Tells of each name of a declarator whose last declaration but one is a function.

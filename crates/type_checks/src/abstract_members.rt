@@ -4,7 +4,7 @@ ghost use Rattle.check_model.specs.Classes.{members};
 ghost use Rattle.check_model.specs.Members as rows;
 ghost use Rattle.check_context.specs.Tells.{Tells};
 
-use check_context::Grandchildren;
+use check_context::{Grandchildren, tell};
 use semantic_diagnostics::Diagnostics;
 use semantic_diagnostics::makers::abstract_elem_in_concrete_class;
 use semantic_tree::{AstKind, AstType, Mark, Role};
@@ -21,7 +21,7 @@ fn is_property(member: AstKind<'_>) -> bool
 }
 
 /// Tells of a member that is abstract (`TS(1253)` of a property, else `TS(1244)`).
-#[tactic(auto, using(check_context::proofs::Telling::telling))]
+#[tactic(auto, using(check_context::proofs::Telling::made))]
 fn tell_abstract(
     alloc: Global,
     member: AstKind<'_>,
@@ -35,7 +35,10 @@ fn tell_abstract(
     let Some(key) = member.child(Role::Key) else {
         return Ok(());
     };
-    out.push(abstract_elem_in_concrete_class(alloc, is_property(member), key.span())?)
+    tell(
+        abstract_elem_in_concrete_class(alloc, is_property(member), key.span()),
+        out,
+    )
 }
 
 /// Tells of each abstract member of a class.

@@ -10,7 +10,7 @@ ghost use Rattle.check_context.specs.Handed.{around, sight, IsContext};
 ghost use Rattle.check_context.specs.Tells.{Tells};
 ghost use Rattle.type_checks.specs.GoodTypes.{HasGoodSpan, HasGoodType};
 
-use check_context::CheckContext;
+use check_context::{CheckContext, tell};
 use node_rules::questions::reads;
 use node_store::AncestorKinds;
 use semantic_diagnostics::Diagnostics;
@@ -42,7 +42,7 @@ fn nullable_text(alloc: Global, text: &str) -> Result<String, AllocError>
 }
 
 /// Tells of a `?` type of JSDoc (`TS(17020)` with the mark in front, `TS(17019)` behind).
-#[tactic(auto, using(check_context::proofs::Telling::telling))]
+#[tactic(auto, using(check_context::proofs::Telling::made))]
 fn tell_nullable(
     alloc: Global,
     kind: AstKind<'_>,
@@ -55,11 +55,14 @@ fn tell_nullable(
 {
     let text = nullable_text(alloc, unmarked_text(kind, '?', ctx.source_text))?;
     let at_start = !kind.has_mark(Mark::Postfix);
-    out.push(jsdoc_type_in_annotation(alloc, '?', at_start, kind.span(), text.as_str())?)
+    tell(
+        jsdoc_type_in_annotation(alloc, '?', at_start, kind.span(), text.as_str()),
+        out,
+    )
 }
 
 /// Tells of a `!` type of JSDoc, likewise.
-#[tactic(auto, using(check_context::proofs::Telling::telling))]
+#[tactic(auto, using(check_context::proofs::Telling::made))]
 fn tell_non_nullable(
     alloc: Global,
     kind: AstKind<'_>,
@@ -72,7 +75,10 @@ fn tell_non_nullable(
 {
     let text = unmarked_text(kind, '!', ctx.source_text);
     let at_start = !kind.has_mark(Mark::Postfix);
-    out.push(jsdoc_type_in_annotation(alloc, '!', at_start, kind.span(), text)?)
+    tell(
+        jsdoc_type_in_annotation(alloc, '!', at_start, kind.span(), text),
+        out,
+    )
 }
 
 /// Tells of a type that JSDoc has and TypeScript has not.
@@ -137,11 +143,12 @@ fn may_return_predicate(kind: AstKind<'_>, above: AncestorKinds<'_, '_>) -> bool
     }
 }
 
-/// Whether a path is that of a returned type.
-fn is_predicate_path(above: AncestorKinds<'_, '_>) -> bool
-    ensures { result ≡ rows.is_predicate_path (path_left above.entry) }
+/// Whether the path around is that of a returned type.
+fn is_predicate_path(ctx: &CheckContext<'_, '_>) -> bool
+    requires { IsContext ctx.now }
+    ensures { result ≡ rows.is_predicate_path (around ctx.now).path }
 {
-    let mut left = above;
+    let mut left = ctx.above();
     let Some(annotation) = left.next() else {
         return false;
     };
@@ -152,7 +159,7 @@ fn is_predicate_path(above: AncestorKinds<'_, '_>) -> bool
 }
 
 /// A type predicate stands where a function's or a method's type is returned (`TS(1228)`).
-#[tactic(auto, using(check_context::proofs::Telling::telling))]
+#[tactic(auto, using(check_context::proofs::Telling::made))]
 pub fn check_ts_type_predicate<'a>(
     alloc: Global,
     kind: AstKind<'a>,
@@ -162,9 +169,9 @@ pub fn check_ts_type_predicate<'a>(
     requires { IsContext ctx.now }
     ensures { Tells result (rows.check_ts_type_predicate (sight kind.entry.node.now ctx.now)) out.old out.new }
 {
-    if is_predicate_path(ctx.above()) {
+    if is_predicate_path(ctx) {
         Ok(())
     } else {
-        out.push(type_predicate_only_in_return_type(alloc, kind.span())?)
+        tell(type_predicate_only_in_return_type(alloc, kind.span()), out)
     }
 }

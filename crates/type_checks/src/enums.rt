@@ -7,7 +7,7 @@ ghost use Rattle.check_model.specs.Types as rows;
 ghost use Rattle.check_context.specs.Handed.{sight, IsContext};
 ghost use Rattle.check_context.specs.Tells.{Tells};
 
-use check_context::CheckContext;
+use check_context::{CheckContext, tell};
 use semantic_diagnostics::Diagnostics;
 use semantic_diagnostics::makers::enum_member_must_have_initializer;
 use semantic_tree::{AstKind, AstType, Role};
@@ -28,7 +28,7 @@ fn counts_on(initializer: AstKind<'_>) -> bool
 }
 
 /// Tells of a member without initializer, by the last initializer before it.
-#[tactic(auto, using(check_context::proofs::Telling::telling))]
+#[tactic(auto, using(check_context::proofs::Telling::made))]
 fn tell_uncounted(
     alloc: Global,
     before: Option<AstKind<'_>>,
@@ -43,7 +43,7 @@ fn tell_uncounted(
     if counts_on(initializer) {
         return Ok(());
     }
-    out.push(enum_member_must_have_initializer(alloc, member.span())?)
+    tell(enum_member_must_have_initializer(alloc, member.span()), out)
 }
 
 /// Tells of each member without initializer.

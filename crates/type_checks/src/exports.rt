@@ -6,7 +6,7 @@ ghost use Rattle.semantic_tree.specs.Views.{all_in};
 ghost use Rattle.check_model.specs.Assignments as rows;
 ghost use Rattle.check_context.specs.Tells.{Tells};
 
-use check_context::has_child;
+use check_context::{has_child, tell};
 use semantic_diagnostics::Diagnostics;
 use semantic_diagnostics::makers::ts_export_assignment_cannot_be_used_with_other_exports;
 use semantic_tree::{AstKind, AstType, Role};
@@ -40,7 +40,7 @@ fn has_exports(block: AstKind<'_>) -> bool
 }
 
 /// Tells of a statement that is an export assignment.
-#[tactic(auto, using(check_context::proofs::Telling::telling))]
+#[tactic(auto, using(check_context::proofs::Telling::made))]
 fn tell_assignment(
     alloc: Global,
     statement: AstKind<'_>,
@@ -49,7 +49,10 @@ fn tell_assignment(
     ensures { Tells result (rows.assignment_row statement.entry.node.now) out.old out.new }
 {
     if statement.ty() == AstType::TSExportAssignment {
-        out.push(ts_export_assignment_cannot_be_used_with_other_exports(alloc, statement.span())?)
+        tell(
+            ts_export_assignment_cannot_be_used_with_other_exports(alloc, statement.span()),
+            out,
+        )
     } else {
         Ok(())
     }

@@ -6,14 +6,14 @@ ghost use Rattle.check_model.specs.Assignments.{block_rows};
 ghost use Rattle.check_model.specs.Namespaces as rows;
 ghost use Rattle.check_model.specs.Search.{row_if, rows_of_some};
 ghost use Rattle.check_model.specs.Surroundings.{is_script};
-ghost use Rattle.check_context.specs.Handed.{sight, IsContext};
+ghost use Rattle.check_context.specs.Handed.{around, sight, IsContext};
 ghost use Rattle.check_context.specs.Tells.{Tells};
 ghost use Rattle.type_checks.specs.Places.{places_left, is_in_module_of_program};
 
 use crate::exports::tell_block;
 use crate::namespaces::is_module_kind;
 use crate::places::Places;
-use check_context::CheckContext;
+use check_context::{CheckContext, tell};
 use semantic_diagnostics::Diagnostics;
 use semantic_diagnostics::makers::{
     nested_ambient_module_declaration, not_allowed_ambient_module_declaration,
@@ -48,10 +48,11 @@ fn is_module_place(in_script: bool, places: Places<'_, '_>) -> bool
 }
 
 /// Whether the nearest place is a namespace or module, or its block.
-fn is_in_module_kind(places: Places<'_, '_>) -> bool
-    ensures { result ≡ rows.is_in_module_kind (places_left places.entry) }
+fn is_in_module_kind(ctx: &CheckContext<'_, '_>) -> bool
+    requires { IsContext ctx.now }
+    ensures { result ≡ rows.is_in_module_kind (rows.places (around ctx.now)) }
 {
-    let mut left = places;
+    let mut left = Places::around(ctx);
     let Some(place) = left.next() else {
         return false;
     };
@@ -65,7 +66,7 @@ fn is_in_module_kind(places: Places<'_, '_>) -> bool
 }
 
 /// Tells of an external module elsewhere than it may stand.
-#[tactic(auto, using(check_context::proofs::Telling::telling))]
+#[tactic(auto, using(check_context::proofs::Telling::made))]
 fn tell_misplaced(
     alloc: Global,
     kind: AstKind<'_>,
@@ -78,10 +79,13 @@ fn tell_misplaced(
     if is_module_place(ctx.source_type.is_script(), Places::around(ctx)) {
         return Ok(());
     }
-    if is_in_module_kind(Places::around(ctx)) {
-        return out.push(nested_ambient_module_declaration(alloc, kind.span())?);
+    if is_in_module_kind(ctx) {
+        return tell(nested_ambient_module_declaration(alloc, kind.span()), out);
     }
-    out.push(not_allowed_ambient_module_declaration(alloc, kind.span())?)
+    tell(
+        not_allowed_ambient_module_declaration(alloc, kind.span()),
+        out,
+    )
 }
 
 /// Tells of export assignments in the body of an external module (`TS(2309)`).

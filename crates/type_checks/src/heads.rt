@@ -6,14 +6,14 @@ ghost use Rattle.check_model.specs.TypedLoops as rows;
 ghost use Rattle.check_context.specs.Handed.{around, IsContext};
 ghost use Rattle.check_context.specs.Tells.{Tells};
 
-use check_context::{CheckContext, has_child};
+use check_context::{CheckContext, has_child, tell};
 use semantic_diagnostics::Diagnostics;
 use semantic_diagnostics::makers::type_annotation_in_for_left;
 use semantic_tree::{AstKind, AstType, Role};
 use std::alloc::{AllocError, Global};
 
 /// Tells of the type of a declarator (`TS(2404)` under `for-in`, `TS(2483)` under `for-of`).
-#[tactic(auto, using(check_context::proofs::Telling::telling))]
+#[tactic(auto, using(check_context::proofs::Telling::made))]
 fn tell_type(
     alloc: Global,
     for_in: bool,
@@ -28,7 +28,7 @@ fn tell_type(
     let Some(id) = declarator.child(Role::Id) else {
         return Ok(());
     };
-    out.push(type_annotation_in_for_left(alloc, id.span(), for_in)?)
+    tell(type_annotation_in_for_left(alloc, id.span(), for_in), out)
 }
 
 /// Tells of the types of all declarators.

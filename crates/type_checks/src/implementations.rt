@@ -9,7 +9,7 @@ ghost use Rattle.check_model.specs.Members as rows;
 ghost use Rattle.check_model.specs.Search.{each_between, passes};
 ghost use Rattle.check_context.specs.Tells.{Tells};
 
-use check_context::Grandchildren;
+use check_context::{Grandchildren, tell};
 use node_rules::questions::reads;
 use semantic_diagnostics::Diagnostics;
 use semantic_diagnostics::makers::{
@@ -87,7 +87,7 @@ fn has_overload(before: Option<AstKind<'_>>, member: AstKind<'_>) -> bool
 }
 
 /// Tells of a method or a constructor without body (`TS(2391)`, `TS(2390)`).
-#[tactic(auto, using(check_context::proofs::Telling::telling))]
+#[tactic(auto, using(check_context::proofs::Telling::made))]
 fn tell_missing(
     alloc: Global,
     member: AstKind<'_>,
@@ -97,9 +97,9 @@ fn tell_missing(
     ensures { Tells result (rows.missing_implementation member.entry.node.now key.entry.node.now ∷ []) out.old out.new }
 {
     if reads(member, "constructor") {
-        out.push(constructor_implementation_missing(alloc, key.span())?)
+        tell(constructor_implementation_missing(alloc, key.span()), out)
     } else {
-        out.push(function_implementation_missing(alloc, key.span())?)
+        tell(function_implementation_missing(alloc, key.span()), out)
     }
 }
 

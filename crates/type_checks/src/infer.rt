@@ -3,13 +3,11 @@ ghost use Rattle.std.specs.Prelude.{◌≡◌};
 ghost use Rattle.std.specs.List.{list_any};
 ghost use Rattle.semantic_kinds.specs.declared.role.Role.TheVariants as roles;
 ghost use Rattle.semantic_tree.specs.Views.{whose};
-ghost use Rattle.node_store.specs.PathLeft.{path_left};
 ghost use Rattle.check_model.specs.Types as rows;
-ghost use Rattle.check_context.specs.Handed.{sight, IsContext};
+ghost use Rattle.check_context.specs.Handed.{around, sight, IsContext};
 ghost use Rattle.check_context.specs.Tells.{Tells};
 
-use check_context::CheckContext;
-use node_store::AncestorKinds;
+use check_context::{CheckContext, tell};
 use semantic_diagnostics::Diagnostics;
 use semantic_diagnostics::makers::infer_declaration_only_permitted_in_extends_clause;
 use semantic_syntax::Span;
@@ -40,11 +38,12 @@ fn extends_over(span: Span, kind: AstKind<'_>) -> bool
     kind.ty() == AstType::TSConditionalType && has_extended_over(span, kind)
 }
 
-/// Whether a conditional type of a path extends something around the span.
-fn is_extended_over(span: Span, above: AncestorKinds<'_, '_>) -> bool
-    ensures { result ≡ list_any (rows.extends_over span) (path_left above.entry) }
+/// Whether a conditional type around extends something around the span.
+fn is_extended_over(span: Span, ctx: &CheckContext<'_, '_>) -> bool
+    requires { IsContext ctx.now }
+    ensures { result ≡ list_any (rows.extends_over span) (around ctx.now).path }
 {
-    let mut left = above;
+    let mut left = ctx.above();
     while let Some(kind) = left.next() {
         if extends_over(span, kind) {
             return true;
@@ -54,7 +53,7 @@ fn is_extended_over(span: Span, above: AncestorKinds<'_, '_>) -> bool
 }
 
 /// `infer` stands in what a conditional type extends (`TS(1338)`).
-#[tactic(auto, using(check_context::proofs::Telling::telling))]
+#[tactic(auto, using(check_context::proofs::Telling::made))]
 pub fn check_ts_infer_type<'a>(
     alloc: Global,
     kind: AstKind<'a>,
@@ -64,9 +63,12 @@ pub fn check_ts_infer_type<'a>(
     requires { IsContext ctx.now }
     ensures { Tells result (rows.check_ts_infer_type (sight kind.entry.node.now ctx.now)) out.old out.new }
 {
-    if is_extended_over(kind.span(), ctx.above()) {
+    if is_extended_over(kind.span(), ctx) {
         Ok(())
     } else {
-        out.push(infer_declaration_only_permitted_in_extends_clause(alloc, kind.span())?)
+        tell(
+            infer_declaration_only_permitted_in_extends_clause(alloc, kind.span()),
+            out,
+        )
     }
 }

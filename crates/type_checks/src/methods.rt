@@ -9,7 +9,7 @@ ghost use Rattle.check_model.specs.Search.{rows_if, rows_of_some};
 ghost use Rattle.check_context.specs.Handed.{sight, IsContext};
 ghost use Rattle.check_context.specs.Tells.{Tells};
 
-use check_context::{CheckContext, Grandchildren};
+use check_context::{CheckContext, Grandchildren, tell};
 use node_rules::questions::reads;
 use semantic_diagnostics::Diagnostics;
 use semantic_diagnostics::makers::{
@@ -30,12 +30,15 @@ fn is_parameter_property(item: AstKind<'_>) -> bool
 }
 
 /// Tells of a parameter that is a property of the class too (`TS(2369)`).
-#[tactic(auto, using(check_context::proofs::Telling::telling))]
+#[tactic(auto, using(check_context::proofs::Telling::made))]
 fn tell_parameter(alloc: Global, item: AstKind<'_>, out: &mut Diagnostics) -> Result<(), AllocError>
     ensures { Tells result (rows.parameter_rows item.entry.node.now) out.old out.new }
 {
     if is_parameter_property(item) {
-        out.push(parameter_property_only_in_constructor_impl(alloc, item.span())?)
+        tell(
+            parameter_property_only_in_constructor_impl(alloc, item.span()),
+            out,
+        )
     } else {
         Ok(())
     }
@@ -88,7 +91,7 @@ fn is_plain_accessor(kind: AstKind<'_>, ctx: &CheckContext<'_, '_>) -> bool
 }
 
 /// Tells of an accessor that is neither abstract nor ambient.
-#[tactic(auto, using(check_context::proofs::Telling::telling))]
+#[tactic(auto, using(check_context::proofs::Telling::made))]
 fn tell_accessor(
     alloc: Global,
     kind: AstKind<'_>,
@@ -103,7 +106,7 @@ fn tell_accessor(
     let Some(key) = kind.child(Role::Key) else {
         return Ok(());
     };
-    out.push(accessor_without_body(alloc, key.span())?)
+    tell(accessor_without_body(alloc, key.span()), out)
 }
 
 /// Tells of what a method may not have or be without a body.

@@ -12,7 +12,7 @@ ghost use Rattle.check_context.specs.Tells.{Tells};
 use crate::exports::tell_block;
 use crate::global_word::global_span;
 use crate::places::Places;
-use check_context::CheckContext;
+use check_context::{CheckContext, tell};
 use semantic_diagnostics::Diagnostics;
 use semantic_diagnostics::makers::{
     global_scope_augmentation_should_have_declare_modifier, not_allowed_namespace_declaration,
@@ -40,7 +40,7 @@ fn is_top(kind: AstKind<'_>) -> bool
 }
 
 /// Tells of a namespace or `global` elsewhere than at such a top (`TS(1235)`).
-#[tactic(auto, using(check_context::proofs::Telling::telling))]
+#[tactic(auto, using(check_context::proofs::Telling::made))]
 fn tell_place(
     alloc: Global,
     kind: AstKind<'_>,
@@ -57,7 +57,7 @@ fn tell_place(
     if is_top(place) {
         return Ok(());
     }
-    out.push(not_allowed_namespace_declaration(alloc, kind.span())?)
+    tell(not_allowed_namespace_declaration(alloc, kind.span()), out)
 }
 
 /// The body of the innermost of directly nested namespaces.
@@ -92,7 +92,7 @@ pub fn check_ts_namespace_declaration<'a>(
 }
 
 /// Tells of a `global` that is neither declared nor ambient (`TS(2670)`).
-#[tactic(auto, using(check_context::proofs::Telling::telling))]
+#[tactic(auto, using(check_context::proofs::Telling::made))]
 fn tell_undeclared(
     alloc: Global,
     kind: AstKind<'_>,
@@ -106,7 +106,10 @@ fn tell_undeclared(
         return Ok(());
     }
     let word = global_span(kind, ctx);
-    out.push(global_scope_augmentation_should_have_declare_modifier(alloc, word)?)
+    tell(
+        global_scope_augmentation_should_have_declare_modifier(alloc, word),
+        out,
+    )
 }
 
 /// `global` stands at the top of a program, a namespace or a module (`TS(1235)`), and is declared (`TS(2670)`).

@@ -11,7 +11,7 @@ ghost use Rattle.check_context.specs.Handed.{sight, IsHanded};
 ghost use Rattle.check_context.specs.Tells.{Tells};
 ghost use Rattle.type_checks.specs.Repeats.{last_span, rows_after, HasLast};
 
-use check_context::CheckContext;
+use check_context::{CheckContext, tell};
 use indexmap::IndexMap;
 use node_rules::questions::reads;
 use semantic_diagnostics::Diagnostics;
@@ -41,7 +41,7 @@ fn note<'a>(
 }
 
 /// Tells of a name that stood elsewhere before.
-#[tactic(auto, using(check_context::proofs::Telling::telling))]
+#[tactic(auto, using(check_context::proofs::Telling::made))]
 fn tell_repeated(
     alloc: Global,
     before: Option<Span>,
@@ -54,7 +54,10 @@ fn tell_repeated(
         return Ok(());
     };
     let text = name.text();
-    out.push(redeclaration(alloc, text.as_str(), before, name.span())?)
+    tell(
+        redeclaration(alloc, text.as_str(), before, name.span()),
+        out,
+    )
 }
 
 /// Tells of each name that a node binds again, by a map that has none of them yet.
