@@ -32,10 +32,3 @@ fn hints_are_cut_and_change_no_size(rt: HostRuntime) -> Result<(), Fail> {
     assert_eq!(rt; found, [Stats::new(8, 1, 1, 2), Stats::new(8, 1, 1, 2)]);
     Ok(())
 }
-
-#[test]
-fn an_excess_is_rounded_down(rt: HostRuntime) -> Result<(), Fail> {
-    let more = Stats::new(1, 10, 10, 10).increase_by(250);
-    assert_eq!(rt; more, Stats::new(1, 12, 12, 12));
-    Ok(())
-}
