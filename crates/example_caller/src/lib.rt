@@ -5,6 +5,8 @@
 
 ghost use Rattle.std.specs.Prelude.{◌<◌, length, IfSome};
 
+pub mod swapped;
+
 use scoping::Scoping;
 use semantic::{SemanticBuilder, SemanticBuilderReturn};
 use semantic_diagnostics::{Diagnostic, Diagnostics};

@@ -1,19 +1,17 @@
 //! Cases of the libraries, of analyses and of reports, through their public calls.
-//! They show what no clause says: that the calls succeed with ample memory and give the values meant. Analyses are of small
-//! programs, reports run over ends in memory. All stand in one crate, so that their tests are linked and built once.
+//! They show what no clause says, where no stored run of a program does: that calls succeed with ample memory and give the
+//! values meant, that long and deep inputs need no deep stack, and what comes of bad input and of ends that fail. All stand in
+//! one crate, so that their tests are linked and built once.
 #![tactic(auto)]
 
-pub mod analyses;
 #[cfg(test)]
-mod diagnostics;
-#[cfg(test)]
-mod namespaces;
+mod analyses;
 #[cfg(test)]
 mod reach;
 #[cfg(test)]
 mod reports;
 #[cfg(test)]
-mod sets;
+mod swapping;
 #[cfg(test)]
 mod tables;
 #[cfg(test)]

@@ -1,8 +1,8 @@
 //! The values, the tree and its text.
 
+mod comments;
+mod flags;
 mod reading;
 mod script;
-mod syntax;
 mod texts;
-mod tree;
 mod writing;

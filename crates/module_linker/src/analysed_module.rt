@@ -5,8 +5,8 @@ ghost use Rattle.link_model.specs.Leads.{symbol_of_name};
 ghost use Rattle.module_linker.specs.AnalysedIn.{ties_in};
 
 use module_set::Module;
-use semantic::node_symbols::{symbol_at, tied_at};
 use scoping::{NodeTables, Scoping};
+use semantic::node_symbols::{symbol_at, tied_at};
 use semantic_syntax::{NodeId, SymbolId};
 use semantic_tree::AstKind;
 

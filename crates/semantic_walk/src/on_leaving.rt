@@ -5,8 +5,8 @@ ghost use Rattle.check_model.specs.Rows.{rows_of};
 ghost use Rattle.check_context.specs.Handed.{sight};
 ghost use Rattle.semantic_walk.specs.Leavable.{IsLeavable};
 
-use check_context::CheckContext;
 use crate::checker::check;
+use check_context::CheckContext;
 use semantic_diagnostics::Diagnostics;
 use semantic_tree::AstKind;
 use std::alloc::{AllocError, Global};

@@ -42,25 +42,34 @@ fn tool_of(rt: &HostRuntime) -> Option<Tool> {
 
 /// Runs the renamer, and gives its exit status.
 fn rename(rt: &HostRuntime) -> u8 {
-    run_over_standard_ends(rt, NAMES, renamer::USAGE, |alloc, words, source, out, errs| {
-        run_rename(alloc, words, source, out, errs)
-    })
+    run_over_standard_ends(
+        rt,
+        NAMES,
+        renamer::USAGE,
+        |alloc, words, source, out, errs| { run_rename(alloc, words, source, out, errs) },
+    )
     .code()
 }
 
 /// Runs the lint of names, and gives its exit status.
 fn lint(rt: &HostRuntime) -> u8 {
-    run_over_standard_ends(rt, NAMES, name_lint::USAGE, |alloc, words, source, out, errs| {
-        run_names(alloc, words, source, out, errs)
-    })
+    run_over_standard_ends(
+        rt,
+        NAMES,
+        name_lint::USAGE,
+        |alloc, words, source, out, errs| { run_names(alloc, words, source, out, errs) },
+    )
     .code()
 }
 
 /// Runs the linker, and gives its exit status.
 fn link(rt: &HostRuntime) -> u8 {
-    run_over_standard_ends(rt, NAMES, module_linker::USAGE, |alloc, words, source, out, errs| {
-        run_link(alloc, words, source, out, errs)
-    })
+    run_over_standard_ends(
+        rt,
+        NAMES,
+        module_linker::USAGE,
+        |alloc, words, source, out, errs| { run_link(alloc, words, source, out, errs) },
+    )
     .code()
 }
 

@@ -7,6 +7,3 @@ mod open_labels;
 mod walking;
 
 pub use labels::{LabeledScope, UnusedLabels};
-
-#[cfg(test)]
-mod tests;

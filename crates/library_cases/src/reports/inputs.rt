@@ -123,7 +123,7 @@ fn push_bodies(tree: &mut String, count: u16) -> Result<(), AllocError> {
 
 /// The tree of `let v = function (a = function (a = .. x) {}) {}` with so many functions, the innermost at three times their
 /// number.
-pub fn functions(alloc: Global, count: u16) -> Result<String, AllocError> {
+fn functions(alloc: Global, count: u16) -> Result<String, AllocError> {
     let mut tree = begun(alloc, "js")?;
     push_row(&mut tree, 1, "body", "VariableDeclaration", "let")?;
     push_row(&mut tree, 2, "declarators", "VariableDeclarator", "")?;

@@ -1,8 +1,8 @@
 // Runs of the program over ends in memory.
-use super::cases::{CASES, Case, UNREAD, USAGE, Unread};
+use super::cases::{UNREAD, USAGE, Unread};
 use super::runs::words_of;
 use report::{ReportStatus, run};
-use report_ends::{MemorySource, SureSink, SureSource};
+use report_ends::{MemorySource, SureSink};
 use std::alloc::{AllocError, Global};
 use std::process::Abort;
 use std::test::Fail;
@@ -12,27 +12,6 @@ fn failing(alloc: Global, call: u64) -> Result<Vec<u64>, AllocError> {
     let mut calls = Vec::new(alloc);
     calls.push(call)?;
     Ok(calls)
-}
-
-fn check(rt: &impl Abort, alloc: Global, case: &Case) -> Result<(), Fail> {
-    let mut source = SureSource::new(Vec::from_slice(alloc, case.input.as_bytes())?);
-    let mut out = SureSink::new(alloc);
-    let mut errs = SureSink::new(alloc);
-    let words = words_of(alloc, case.words)?;
-    let status = run(alloc, &words, &mut source, &mut out, &mut errs);
-    let name = case.name;
-    assert_eq!(rt; status, case.status, "{name}");
-    assert_eq!(rt; out.held(), case.out.as_bytes(), "{name}");
-    assert_eq!(rt; errs.held(), case.errs.as_bytes(), "{name}");
-    Ok(())
-}
-
-#[test]
-fn each_input_has_its_answer(rt: HostRuntime) -> Result<(), Fail> {
-    for case in CASES {
-        check(&rt, rt.alloc(), case)?;
-    }
-    Ok(())
 }
 
 // The first read would fail, and so tell that there was one.

@@ -5,7 +5,7 @@ use Rattle.semantic_tree.specs.Renamed.{swapped_tree}
 use Rattle.semantic_tree.specs.Tree.{Tree}
 use Rattle.semantic_model.specs.TablesOf.{tables_of}
 use Rattle.semantic_model.specs.Swap.{IsSwappable}
-use Rattle.library_cases.proofs.analyses.swapped.both_tables.Goals as goal
+use Rattle.example_caller.proofs.swapped.both_tables.Goals as goal
 
 undefined_is : IsSwappable (codes "undefined")
 undefined_is = record { not_empty = refl; not_arguments = refl; not_eval = refl }

@@ -1,5 +1,5 @@
 //! `undefined` is a name like any other.
-use super::swapped::both_tables;
+use example_caller::swapped::both_tables;
 use scoping::Scoping;
 use semantic_syntax::Ident;
 use std::test::Fail;

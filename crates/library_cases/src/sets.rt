@@ -1,4 +1,0 @@
-//! Sets of modules.
-
-mod cases;
-mod sets;
