@@ -1,116 +1,267 @@
-//! The parts of declarations.
+//! The parts of declarations and patterns.
 
-ghost use Rattle.std.specs.Prelude.{◌≡◌, map, take, drop};
-ghost use Rattle.semantic_kinds.specs.Kinds.{all_kinds};
-ghost use Rattle.semantic_kinds.specs.Parts.{parts};
+ghost use Rattle.std.specs.Prelude.{◌≡◌};
+ghost use Rattle.semantic_kinds.specs.Parts.{declaration_parts};
 
 use crate::class::Class;
 use crate::kind::AstType;
-use crate::part::{Count, Part, any, maybe, one, some};
+use crate::part::{Count, Part, modules};
 use crate::role::Role;
 
-static PARTS: [&[Part]; 18] = [
-    // VariableDeclaration
-    &[some!(Declarators, Class::Only(AstType::VariableDeclarator))],
-    // VariableDeclarator
-    &[
-        one!(Id, Class::Pattern),
-        maybe!(Annotation, Class::Only(AstType::TSTypeAnnotation)),
-        maybe!(Init, Class::Expression),
-    ],
-    // Function
-    &[
-        maybe!(Id, Class::Only(AstType::BindingIdentifier)),
-        maybe!(
-            TypeParameters,
-            Class::Only(AstType::TSTypeParameterDeclaration)
-        ),
-        maybe!(This, Class::Only(AstType::TSThisParameter)),
-        one!(Params, Class::Only(AstType::FormalParameters)),
-        maybe!(ReturnType, Class::Only(AstType::TSTypeAnnotation)),
-        maybe!(Body, Class::Only(AstType::FunctionBody)),
-    ],
-    // FormalParameters
-    &[
-        any!(Items, Class::Only(AstType::FormalParameter)),
-        maybe!(Rest, Class::Only(AstType::FormalParameterRest)),
-    ],
-    // FormalParameter
-    &[
-        any!(Decorators, Class::Only(AstType::Decorator)),
-        one!(Pattern, Class::Pattern),
-        maybe!(Annotation, Class::Only(AstType::TSTypeAnnotation)),
-        maybe!(Initializer, Class::Expression),
-    ],
-    // FormalParameterRest
-    &[
-        any!(Decorators, Class::Only(AstType::Decorator)),
-        one!(Rest, Class::Only(AstType::BindingRestElement)),
-        maybe!(Annotation, Class::Only(AstType::TSTypeAnnotation)),
-    ],
-    // BindingRestElement
-    &[one!(Argument, Class::Pattern)],
-    // ObjectPattern
-    &[
-        any!(Properties, Class::Only(AstType::BindingProperty)),
-        maybe!(Rest, Class::Only(AstType::BindingRestElement)),
-    ],
-    // BindingProperty
-    &[one!(Key, Class::Key), one!(Value, Class::Pattern)],
-    // ArrayPattern
-    &[
-        any!(Elements, Class::Pattern),
-        maybe!(Rest, Class::Only(AstType::BindingRestElement)),
-    ],
-    // AssignmentPattern
-    &[one!(Left, Class::Pattern), one!(Right, Class::Expression)],
-    // Class
-    &[
-        any!(Decorators, Class::Only(AstType::Decorator)),
-        maybe!(Id, Class::Only(AstType::BindingIdentifier)),
-        maybe!(
-            TypeParameters,
-            Class::Only(AstType::TSTypeParameterDeclaration)
-        ),
-        maybe!(Heritage, Class::Expression),
-        maybe!(
-            TypeArguments,
-            Class::Only(AstType::TSTypeParameterInstantiation)
-        ),
-        any!(Implements, Class::Only(AstType::TSClassImplements)),
-        one!(Body, Class::Only(AstType::ClassBody)),
-    ],
-    // ClassBody
-    &[any!(Body, Class::ClassElement)],
-    // MethodDefinition
-    &[
-        any!(Decorators, Class::Only(AstType::Decorator)),
-        one!(Key, Class::Key),
-        one!(Value, Class::Only(AstType::Function)),
-    ],
-    // PropertyDefinition
-    &[
-        any!(Decorators, Class::Only(AstType::Decorator)),
-        one!(Key, Class::Key),
-        maybe!(Annotation, Class::Only(AstType::TSTypeAnnotation)),
-        maybe!(Value, Class::Expression),
-    ],
-    // AccessorProperty
-    &[
-        any!(Decorators, Class::Only(AstType::Decorator)),
-        one!(Key, Class::Key),
-        maybe!(Annotation, Class::Only(AstType::TSTypeAnnotation)),
-        maybe!(Value, Class::Expression),
-    ],
-    // StaticBlock
-    &[any!(Body, Class::Statement)],
-    // Decorator
-    &[one!(Expression, Class::Expression)],
-];
-
-/// The parts of each of these kinds, in their order.
-pub fn rows() -> &'static [&'static [Part]; 18]
-    ensures { map (λ row. row.now) result.now ≡ take 18 (drop 30 (map parts all_kinds)) }
+/// The parts of a node of the kind, if it is one of declarations and patterns, else as the headings that follow say.
+pub fn parts(kind: AstType) -> &'static [Part]
+    ensures { result.now ≡ declaration_parts kind }
 {
-    &PARTS
+    match kind {
+        AstType::VariableDeclaration => &[Part {
+            role: Role::Declarators,
+            count: Count::AtLeastOne,
+            class: Class::Only(AstType::VariableDeclarator),
+        }],
+        AstType::VariableDeclarator => &[
+            Part {
+                role: Role::Id,
+                count: Count::One,
+                class: Class::Pattern,
+            },
+            Part {
+                role: Role::Annotation,
+                count: Count::AtMostOne,
+                class: Class::Only(AstType::TSTypeAnnotation),
+            },
+            Part {
+                role: Role::Init,
+                count: Count::AtMostOne,
+                class: Class::Expression,
+            },
+        ],
+        AstType::Function => &[
+            Part {
+                role: Role::Id,
+                count: Count::AtMostOne,
+                class: Class::Only(AstType::BindingIdentifier),
+            },
+            Part {
+                role: Role::TypeParameters,
+                count: Count::AtMostOne,
+                class: Class::Only(AstType::TSTypeParameterDeclaration),
+            },
+            Part {
+                role: Role::This,
+                count: Count::AtMostOne,
+                class: Class::Only(AstType::TSThisParameter),
+            },
+            Part {
+                role: Role::Params,
+                count: Count::One,
+                class: Class::Only(AstType::FormalParameters),
+            },
+            Part {
+                role: Role::ReturnType,
+                count: Count::AtMostOne,
+                class: Class::Only(AstType::TSTypeAnnotation),
+            },
+            Part {
+                role: Role::Body,
+                count: Count::AtMostOne,
+                class: Class::Only(AstType::FunctionBody),
+            },
+        ],
+        AstType::FormalParameters => &[
+            Part {
+                role: Role::Items,
+                count: Count::AnyNumber,
+                class: Class::Only(AstType::FormalParameter),
+            },
+            Part {
+                role: Role::Rest,
+                count: Count::AtMostOne,
+                class: Class::Only(AstType::FormalParameterRest),
+            },
+        ],
+        AstType::FormalParameter => &[
+            Part {
+                role: Role::Decorators,
+                count: Count::AnyNumber,
+                class: Class::Only(AstType::Decorator),
+            },
+            Part {
+                role: Role::Pattern,
+                count: Count::One,
+                class: Class::Pattern,
+            },
+            Part {
+                role: Role::Annotation,
+                count: Count::AtMostOne,
+                class: Class::Only(AstType::TSTypeAnnotation),
+            },
+            Part {
+                role: Role::Initializer,
+                count: Count::AtMostOne,
+                class: Class::Expression,
+            },
+        ],
+        AstType::FormalParameterRest => &[
+            Part {
+                role: Role::Decorators,
+                count: Count::AnyNumber,
+                class: Class::Only(AstType::Decorator),
+            },
+            Part {
+                role: Role::Rest,
+                count: Count::One,
+                class: Class::Only(AstType::BindingRestElement),
+            },
+            Part {
+                role: Role::Annotation,
+                count: Count::AtMostOne,
+                class: Class::Only(AstType::TSTypeAnnotation),
+            },
+        ],
+        AstType::BindingRestElement => &[Part {
+            role: Role::Argument,
+            count: Count::One,
+            class: Class::Pattern,
+        }],
+        AstType::ObjectPattern => &[
+            Part {
+                role: Role::Properties,
+                count: Count::AnyNumber,
+                class: Class::Only(AstType::BindingProperty),
+            },
+            Part {
+                role: Role::Rest,
+                count: Count::AtMostOne,
+                class: Class::Only(AstType::BindingRestElement),
+            },
+        ],
+        AstType::BindingProperty => &[
+            Part {
+                role: Role::Key,
+                count: Count::One,
+                class: Class::Key,
+            },
+            Part {
+                role: Role::Value,
+                count: Count::One,
+                class: Class::Pattern,
+            },
+        ],
+        AstType::ArrayPattern => &[
+            Part {
+                role: Role::Elements,
+                count: Count::AnyNumber,
+                class: Class::Pattern,
+            },
+            Part {
+                role: Role::Rest,
+                count: Count::AtMostOne,
+                class: Class::Only(AstType::BindingRestElement),
+            },
+        ],
+        AstType::AssignmentPattern => &[
+            Part {
+                role: Role::Left,
+                count: Count::One,
+                class: Class::Pattern,
+            },
+            Part {
+                role: Role::Right,
+                count: Count::One,
+                class: Class::Expression,
+            },
+        ],
+        AstType::Class => &[
+            Part {
+                role: Role::Decorators,
+                count: Count::AnyNumber,
+                class: Class::Only(AstType::Decorator),
+            },
+            Part {
+                role: Role::Id,
+                count: Count::AtMostOne,
+                class: Class::Only(AstType::BindingIdentifier),
+            },
+            Part {
+                role: Role::TypeParameters,
+                count: Count::AtMostOne,
+                class: Class::Only(AstType::TSTypeParameterDeclaration),
+            },
+            Part {
+                role: Role::Heritage,
+                count: Count::AtMostOne,
+                class: Class::Expression,
+            },
+            Part {
+                role: Role::TypeArguments,
+                count: Count::AtMostOne,
+                class: Class::Only(AstType::TSTypeParameterInstantiation),
+            },
+            Part {
+                role: Role::Implements,
+                count: Count::AnyNumber,
+                class: Class::Only(AstType::TSClassImplements),
+            },
+            Part {
+                role: Role::Body,
+                count: Count::One,
+                class: Class::Only(AstType::ClassBody),
+            },
+        ],
+        AstType::ClassBody => &[Part {
+            role: Role::Body,
+            count: Count::AnyNumber,
+            class: Class::ClassElement,
+        }],
+        AstType::MethodDefinition => &[
+            Part {
+                role: Role::Decorators,
+                count: Count::AnyNumber,
+                class: Class::Only(AstType::Decorator),
+            },
+            Part {
+                role: Role::Key,
+                count: Count::One,
+                class: Class::Key,
+            },
+            Part {
+                role: Role::Value,
+                count: Count::One,
+                class: Class::Only(AstType::Function),
+            },
+        ],
+        AstType::PropertyDefinition | AstType::AccessorProperty => &[
+            Part {
+                role: Role::Decorators,
+                count: Count::AnyNumber,
+                class: Class::Only(AstType::Decorator),
+            },
+            Part {
+                role: Role::Key,
+                count: Count::One,
+                class: Class::Key,
+            },
+            Part {
+                role: Role::Annotation,
+                count: Count::AtMostOne,
+                class: Class::Only(AstType::TSTypeAnnotation),
+            },
+            Part {
+                role: Role::Value,
+                count: Count::AtMostOne,
+                class: Class::Expression,
+            },
+        ],
+        AstType::StaticBlock => &[Part {
+            role: Role::Body,
+            count: Count::AnyNumber,
+            class: Class::Statement,
+        }],
+        AstType::Decorator => &[Part {
+            role: Role::Expression,
+            count: Count::One,
+            class: Class::Expression,
+        }],
+        _ => modules::parts(kind),
+    }
 }

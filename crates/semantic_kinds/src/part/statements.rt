@@ -1,118 +1,253 @@
 //! The parts of names and statements.
 
-ghost use Rattle.std.specs.Prelude.{◌≡◌, map, take, drop};
-ghost use Rattle.semantic_kinds.specs.Kinds.{all_kinds};
-ghost use Rattle.semantic_kinds.specs.Parts.{parts};
+ghost use Rattle.std.specs.Prelude.{◌≡◌};
+ghost use Rattle.semantic_kinds.specs.Parts.{statement_parts};
 
 use crate::class::Class;
 use crate::kind::AstType;
-use crate::part::{Count, Part, any, maybe, one};
+use crate::part::{Count, Part, declarations};
 use crate::role::Role;
 
-static PARTS: [&[Part]; 30] = [
-    // Program
-    &[
-        maybe!(Hashbang, Class::Only(AstType::Hashbang)),
-        any!(Directives, Class::Only(AstType::Directive)),
-        any!(Body, Class::Statement),
-    ],
-    &[], // Hashbang
-    // Directive
-    &[one!(Expression, Class::Only(AstType::StringLiteral))],
-    &[], // BindingIdentifier
-    &[], // IdentifierReference
-    &[], // IdentifierName
-    &[], // LabelIdentifier
-    &[], // PrivateIdentifier
-    // FunctionBody
-    &[
-        any!(Directives, Class::Only(AstType::Directive)),
-        any!(Body, Class::Statement),
-    ],
-    // SwitchCase
-    &[
-        maybe!(Test, Class::Expression),
-        any!(Consequent, Class::Statement),
-    ],
-    // CatchClause
-    &[
-        maybe!(Param, Class::Only(AstType::CatchParameter)),
-        one!(Body, Class::Only(AstType::BlockStatement)),
-    ],
-    // CatchParameter
-    &[
-        one!(Pattern, Class::Pattern),
-        maybe!(Annotation, Class::Only(AstType::TSTypeAnnotation)),
-    ],
-    // BlockStatement
-    &[any!(Body, Class::Statement)],
-    &[], // EmptyStatement
-    &[], // DebuggerStatement
-    // ExpressionStatement
-    &[one!(Expression, Class::Expression)],
-    // IfStatement
-    &[
-        one!(Test, Class::Expression),
-        one!(Consequent, Class::Statement),
-        maybe!(Alternate, Class::Statement),
-    ],
-    // DoWhileStatement
-    &[one!(Body, Class::Statement), one!(Test, Class::Expression)],
-    // WhileStatement
-    &[one!(Test, Class::Expression), one!(Body, Class::Statement)],
-    // ForStatement
-    &[
-        maybe!(Init, Class::ForInit),
-        maybe!(Test, Class::Expression),
-        maybe!(Update, Class::Expression),
-        one!(Body, Class::Statement),
-    ],
-    // ForInStatement
-    &[
-        one!(Left, Class::LoopLeft),
-        one!(Right, Class::Expression),
-        one!(Body, Class::Statement),
-    ],
-    // ForOfStatement
-    &[
-        one!(Left, Class::LoopLeft),
-        one!(Right, Class::Expression),
-        one!(Body, Class::Statement),
-    ],
-    // ContinueStatement
-    &[maybe!(Label, Class::Only(AstType::LabelIdentifier))],
-    // BreakStatement
-    &[maybe!(Label, Class::Only(AstType::LabelIdentifier))],
-    // ReturnStatement
-    &[maybe!(Argument, Class::Expression)],
-    // WithStatement
-    &[
-        one!(Object, Class::Expression),
-        one!(Body, Class::Statement),
-    ],
-    // SwitchStatement
-    &[
-        one!(Discriminant, Class::Expression),
-        any!(Cases, Class::Only(AstType::SwitchCase)),
-    ],
-    // LabeledStatement
-    &[
-        one!(Label, Class::Only(AstType::LabelIdentifier)),
-        one!(Body, Class::Statement),
-    ],
-    // ThrowStatement
-    &[one!(Argument, Class::Expression)],
-    // TryStatement
-    &[
-        one!(Block, Class::Only(AstType::BlockStatement)),
-        maybe!(Handler, Class::Only(AstType::CatchClause)),
-        maybe!(Finalizer, Class::Only(AstType::BlockStatement)),
-    ],
-];
-
-/// The parts of each of these kinds, in their order.
-pub fn rows() -> &'static [&'static [Part]; 30]
-    ensures { map (λ row. row.now) result.now ≡ take 30 (drop 0 (map parts all_kinds)) }
+/// The parts of a node of the kind, if it is one of names and statements, else as the headings that follow say.
+pub fn parts(kind: AstType) -> &'static [Part]
+    ensures { result.now ≡ statement_parts kind }
 {
-    &PARTS
+    match kind {
+        AstType::Program => &[
+            Part {
+                role: Role::Hashbang,
+                count: Count::AtMostOne,
+                class: Class::Only(AstType::Hashbang),
+            },
+            Part {
+                role: Role::Directives,
+                count: Count::AnyNumber,
+                class: Class::Only(AstType::Directive),
+            },
+            Part {
+                role: Role::Body,
+                count: Count::AnyNumber,
+                class: Class::Statement,
+            },
+        ],
+        AstType::Hashbang => &[],
+        AstType::Directive => &[Part {
+            role: Role::Expression,
+            count: Count::One,
+            class: Class::Only(AstType::StringLiteral),
+        }],
+        AstType::BindingIdentifier
+        | AstType::IdentifierReference
+        | AstType::IdentifierName
+        | AstType::LabelIdentifier
+        | AstType::PrivateIdentifier => &[],
+        AstType::FunctionBody => &[
+            Part {
+                role: Role::Directives,
+                count: Count::AnyNumber,
+                class: Class::Only(AstType::Directive),
+            },
+            Part {
+                role: Role::Body,
+                count: Count::AnyNumber,
+                class: Class::Statement,
+            },
+        ],
+        AstType::SwitchCase => &[
+            Part {
+                role: Role::Test,
+                count: Count::AtMostOne,
+                class: Class::Expression,
+            },
+            Part {
+                role: Role::Consequent,
+                count: Count::AnyNumber,
+                class: Class::Statement,
+            },
+        ],
+        AstType::CatchClause => &[
+            Part {
+                role: Role::Param,
+                count: Count::AtMostOne,
+                class: Class::Only(AstType::CatchParameter),
+            },
+            Part {
+                role: Role::Body,
+                count: Count::One,
+                class: Class::Only(AstType::BlockStatement),
+            },
+        ],
+        AstType::CatchParameter => &[
+            Part {
+                role: Role::Pattern,
+                count: Count::One,
+                class: Class::Pattern,
+            },
+            Part {
+                role: Role::Annotation,
+                count: Count::AtMostOne,
+                class: Class::Only(AstType::TSTypeAnnotation),
+            },
+        ],
+        AstType::BlockStatement => &[Part {
+            role: Role::Body,
+            count: Count::AnyNumber,
+            class: Class::Statement,
+        }],
+        AstType::EmptyStatement | AstType::DebuggerStatement => &[],
+        AstType::ExpressionStatement => &[Part {
+            role: Role::Expression,
+            count: Count::One,
+            class: Class::Expression,
+        }],
+        AstType::IfStatement => &[
+            Part {
+                role: Role::Test,
+                count: Count::One,
+                class: Class::Expression,
+            },
+            Part {
+                role: Role::Consequent,
+                count: Count::One,
+                class: Class::Statement,
+            },
+            Part {
+                role: Role::Alternate,
+                count: Count::AtMostOne,
+                class: Class::Statement,
+            },
+        ],
+        AstType::DoWhileStatement => &[
+            Part {
+                role: Role::Body,
+                count: Count::One,
+                class: Class::Statement,
+            },
+            Part {
+                role: Role::Test,
+                count: Count::One,
+                class: Class::Expression,
+            },
+        ],
+        AstType::WhileStatement => &[
+            Part {
+                role: Role::Test,
+                count: Count::One,
+                class: Class::Expression,
+            },
+            Part {
+                role: Role::Body,
+                count: Count::One,
+                class: Class::Statement,
+            },
+        ],
+        AstType::ForStatement => &[
+            Part {
+                role: Role::Init,
+                count: Count::AtMostOne,
+                class: Class::ForInit,
+            },
+            Part {
+                role: Role::Test,
+                count: Count::AtMostOne,
+                class: Class::Expression,
+            },
+            Part {
+                role: Role::Update,
+                count: Count::AtMostOne,
+                class: Class::Expression,
+            },
+            Part {
+                role: Role::Body,
+                count: Count::One,
+                class: Class::Statement,
+            },
+        ],
+        AstType::ForInStatement | AstType::ForOfStatement => &[
+            Part {
+                role: Role::Left,
+                count: Count::One,
+                class: Class::LoopLeft,
+            },
+            Part {
+                role: Role::Right,
+                count: Count::One,
+                class: Class::Expression,
+            },
+            Part {
+                role: Role::Body,
+                count: Count::One,
+                class: Class::Statement,
+            },
+        ],
+        AstType::ContinueStatement | AstType::BreakStatement => &[Part {
+            role: Role::Label,
+            count: Count::AtMostOne,
+            class: Class::Only(AstType::LabelIdentifier),
+        }],
+        AstType::ReturnStatement => &[Part {
+            role: Role::Argument,
+            count: Count::AtMostOne,
+            class: Class::Expression,
+        }],
+        AstType::WithStatement => &[
+            Part {
+                role: Role::Object,
+                count: Count::One,
+                class: Class::Expression,
+            },
+            Part {
+                role: Role::Body,
+                count: Count::One,
+                class: Class::Statement,
+            },
+        ],
+        AstType::SwitchStatement => &[
+            Part {
+                role: Role::Discriminant,
+                count: Count::One,
+                class: Class::Expression,
+            },
+            Part {
+                role: Role::Cases,
+                count: Count::AnyNumber,
+                class: Class::Only(AstType::SwitchCase),
+            },
+        ],
+        AstType::LabeledStatement => &[
+            Part {
+                role: Role::Label,
+                count: Count::One,
+                class: Class::Only(AstType::LabelIdentifier),
+            },
+            Part {
+                role: Role::Body,
+                count: Count::One,
+                class: Class::Statement,
+            },
+        ],
+        AstType::ThrowStatement => &[Part {
+            role: Role::Argument,
+            count: Count::One,
+            class: Class::Expression,
+        }],
+        AstType::TryStatement => &[
+            Part {
+                role: Role::Block,
+                count: Count::One,
+                class: Class::Only(AstType::BlockStatement),
+            },
+            Part {
+                role: Role::Handler,
+                count: Count::AtMostOne,
+                class: Class::Only(AstType::CatchClause),
+            },
+            Part {
+                role: Role::Finalizer,
+                count: Count::AtMostOne,
+                class: Class::Only(AstType::BlockStatement),
+            },
+        ],
+        _ => declarations::parts(kind),
+    }
 }

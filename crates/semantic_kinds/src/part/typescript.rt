@@ -1,97 +1,171 @@
 //! The parts of TypeScript's declarations.
 
-ghost use Rattle.std.specs.Prelude.{◌≡◌, map, take, drop};
-ghost use Rattle.semantic_kinds.specs.Kinds.{all_kinds};
-ghost use Rattle.semantic_kinds.specs.Parts.{parts};
+ghost use Rattle.std.specs.Prelude.{◌≡◌};
+ghost use Rattle.semantic_kinds.specs.Parts.{typescript_parts};
 
 use crate::class::Class;
 use crate::kind::AstType;
-use crate::part::{Count, Part, any, maybe, one};
+use crate::part::{Count, Part};
 use crate::role::Role;
 
-static PARTS: [&[Part]; 16] = [
-    // TSTypeAliasDeclaration
-    &[
-        one!(Id, Class::Only(AstType::BindingIdentifier)),
-        maybe!(
-            TypeParameters,
-            Class::Only(AstType::TSTypeParameterDeclaration)
-        ),
-        one!(ValueType, Class::Type),
-    ],
-    // TSInterfaceDeclaration
-    &[
-        one!(Id, Class::Only(AstType::BindingIdentifier)),
-        maybe!(
-            TypeParameters,
-            Class::Only(AstType::TSTypeParameterDeclaration)
-        ),
-        any!(Extends, Class::Only(AstType::TSInterfaceHeritage)),
-        one!(Body, Class::Only(AstType::TSInterfaceBody)),
-    ],
-    // TSInterfaceBody
-    &[any!(Body, Class::Signature)],
-    // TSInterfaceHeritage
-    &[
-        one!(Name, Class::TypeName),
-        maybe!(
-            TypeArguments,
-            Class::Only(AstType::TSTypeParameterInstantiation)
-        ),
-    ],
-    // TSClassImplements
-    &[
-        one!(Name, Class::TypeName),
-        maybe!(
-            TypeArguments,
-            Class::Only(AstType::TSTypeParameterInstantiation)
-        ),
-    ],
-    // TSEnumDeclaration
-    &[
-        one!(Id, Class::Only(AstType::BindingIdentifier)),
-        one!(Body, Class::Only(AstType::TSEnumBody)),
-    ],
-    // TSEnumBody
-    &[any!(Members, Class::Only(AstType::TSEnumMember))],
-    // TSEnumMember
-    &[
-        one!(Id, Class::EnumMemberName),
-        maybe!(Initializer, Class::Expression),
-    ],
-    // TSExternalModuleDeclaration
-    &[
-        one!(Id, Class::Only(AstType::StringLiteral)),
-        maybe!(Body, Class::Only(AstType::TSModuleBlock)),
-    ],
-    // TSNamespaceDeclaration
-    &[
-        one!(Id, Class::Only(AstType::BindingIdentifier)),
-        one!(Body, Class::NamespaceBody),
-    ],
-    // TSGlobalDeclaration
-    &[one!(Body, Class::Only(AstType::TSModuleBlock))],
-    // TSModuleBlock
-    &[
-        any!(Directives, Class::Only(AstType::Directive)),
-        any!(Body, Class::Statement),
-    ],
-    // TSImportEqualsDeclaration
-    &[
-        one!(Id, Class::Only(AstType::BindingIdentifier)),
-        one!(Reference, Class::ImportEqualsTarget),
-    ],
-    // TSExternalModuleReference
-    &[one!(Expression, Class::Only(AstType::StringLiteral))],
-    // TSExportAssignment
-    &[one!(Expression, Class::Expression)],
-    // TSNamespaceExportDeclaration
-    &[one!(Id, Class::Only(AstType::IdentifierName))],
-];
-
-/// The parts of each of these kinds, in their order.
-pub fn rows() -> &'static [&'static [Part]; 16]
-    ensures { map (λ row. row.now) result.now ≡ take 16 (drop 174 (map parts all_kinds)) }
+/// The parts of a node of the kind, if it is one of TypeScript's declarations, else none.
+pub fn parts(kind: AstType) -> &'static [Part]
+    ensures { result.now ≡ typescript_parts kind }
 {
-    &PARTS
+    match kind {
+        AstType::TSTypeAliasDeclaration => &[
+            Part {
+                role: Role::Id,
+                count: Count::One,
+                class: Class::Only(AstType::BindingIdentifier),
+            },
+            Part {
+                role: Role::TypeParameters,
+                count: Count::AtMostOne,
+                class: Class::Only(AstType::TSTypeParameterDeclaration),
+            },
+            Part {
+                role: Role::ValueType,
+                count: Count::One,
+                class: Class::Type,
+            },
+        ],
+        AstType::TSInterfaceDeclaration => &[
+            Part {
+                role: Role::Id,
+                count: Count::One,
+                class: Class::Only(AstType::BindingIdentifier),
+            },
+            Part {
+                role: Role::TypeParameters,
+                count: Count::AtMostOne,
+                class: Class::Only(AstType::TSTypeParameterDeclaration),
+            },
+            Part {
+                role: Role::Extends,
+                count: Count::AnyNumber,
+                class: Class::Only(AstType::TSInterfaceHeritage),
+            },
+            Part {
+                role: Role::Body,
+                count: Count::One,
+                class: Class::Only(AstType::TSInterfaceBody),
+            },
+        ],
+        AstType::TSInterfaceBody => &[Part {
+            role: Role::Body,
+            count: Count::AnyNumber,
+            class: Class::Signature,
+        }],
+        AstType::TSInterfaceHeritage | AstType::TSClassImplements => &[
+            Part {
+                role: Role::Name,
+                count: Count::One,
+                class: Class::TypeName,
+            },
+            Part {
+                role: Role::TypeArguments,
+                count: Count::AtMostOne,
+                class: Class::Only(AstType::TSTypeParameterInstantiation),
+            },
+        ],
+        AstType::TSEnumDeclaration => &[
+            Part {
+                role: Role::Id,
+                count: Count::One,
+                class: Class::Only(AstType::BindingIdentifier),
+            },
+            Part {
+                role: Role::Body,
+                count: Count::One,
+                class: Class::Only(AstType::TSEnumBody),
+            },
+        ],
+        AstType::TSEnumBody => &[Part {
+            role: Role::Members,
+            count: Count::AnyNumber,
+            class: Class::Only(AstType::TSEnumMember),
+        }],
+        AstType::TSEnumMember => &[
+            Part {
+                role: Role::Id,
+                count: Count::One,
+                class: Class::EnumMemberName,
+            },
+            Part {
+                role: Role::Initializer,
+                count: Count::AtMostOne,
+                class: Class::Expression,
+            },
+        ],
+        AstType::TSExternalModuleDeclaration => &[
+            Part {
+                role: Role::Id,
+                count: Count::One,
+                class: Class::Only(AstType::StringLiteral),
+            },
+            Part {
+                role: Role::Body,
+                count: Count::AtMostOne,
+                class: Class::Only(AstType::TSModuleBlock),
+            },
+        ],
+        AstType::TSNamespaceDeclaration => &[
+            Part {
+                role: Role::Id,
+                count: Count::One,
+                class: Class::Only(AstType::BindingIdentifier),
+            },
+            Part {
+                role: Role::Body,
+                count: Count::One,
+                class: Class::NamespaceBody,
+            },
+        ],
+        AstType::TSGlobalDeclaration => &[Part {
+            role: Role::Body,
+            count: Count::One,
+            class: Class::Only(AstType::TSModuleBlock),
+        }],
+        AstType::TSModuleBlock => &[
+            Part {
+                role: Role::Directives,
+                count: Count::AnyNumber,
+                class: Class::Only(AstType::Directive),
+            },
+            Part {
+                role: Role::Body,
+                count: Count::AnyNumber,
+                class: Class::Statement,
+            },
+        ],
+        AstType::TSImportEqualsDeclaration => &[
+            Part {
+                role: Role::Id,
+                count: Count::One,
+                class: Class::Only(AstType::BindingIdentifier),
+            },
+            Part {
+                role: Role::Reference,
+                count: Count::One,
+                class: Class::ImportEqualsTarget,
+            },
+        ],
+        AstType::TSExternalModuleReference => &[Part {
+            role: Role::Expression,
+            count: Count::One,
+            class: Class::Only(AstType::StringLiteral),
+        }],
+        AstType::TSExportAssignment => &[Part {
+            role: Role::Expression,
+            count: Count::One,
+            class: Class::Expression,
+        }],
+        AstType::TSNamespaceExportDeclaration => &[Part {
+            role: Role::Id,
+            count: Count::One,
+            class: Class::Only(AstType::IdentifierName),
+        }],
+        _ => &[],
+    }
 }
