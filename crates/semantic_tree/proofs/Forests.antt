@@ -5,6 +5,7 @@ use Rattle.std.proofs.lemmas.List.{take_more_set, drop-set-lt, take_all}
 use Rattle.semantic_tree.specs.Forest.{Forest, nothing, tree, count, join, numbered}
 use Rattle.semantic_tree.specs.Children.{forest_of, single, node_count, numbered_node}
 use Rattle.semantic_tree.specs.Nodes.{trees}
+use Rattle.semantic_tree.specs.Falls.{child_is_smaller}
 use Rattle.semantic_syntax.specs.declared.spans.Span.{Span}
 use Rattle.semantic_syntax.proofs.Truth.{drop_here}
 use Rattle.semantic_kinds.specs.declared.kind.AstType.{AstType}
@@ -79,8 +80,6 @@ numbered_twice n m nothing = refl
 numbered_twice n m (tree role kind span text marks below id after) =
     rw (count-numbered (m + 1) below, numbered_twice (n + 1) (m + 1) below, numbered_twice (n + 1 + count below) (m + 1 + count below) after) refl
 
-pub ruleset numbers = (numbered_twice, count-numbered)
-
 -- a child that is pushed stands before those that are left
 pub join_turn : (done : Forest) (items : List (Role × Node)) (i : ℕ) (child : Role × Node) → i < length items → child ≡ get_or items i child → join (join done (single child.0 child.1)) (forest_of (drop (i + 1) items)) ≡ join done (forest_of (drop i items))
 join_turn done items i child h e =
@@ -90,4 +89,8 @@ join_turn done items i child h e =
 pub join_end : (done : Forest) (items : List (Role × Node)) (i : ℕ) → length items ≤ i → join done (forest_of (drop i items)) ≡ done
 join_end done items i h = rw (drop_of_length-le items h) (join_nothing done)
 
-pub ruleset copies = (join_turn, join_end)
+-- a child has fewer nodes below it than its parent
+pub smaller_child : (items : List (Role × Node)) (i : ℕ) (child : Role × Node) (below : Forest) → i < length items → child ≡ get_or items i child → forest_of items ≡ below → count child.1.children < count below
+smaller_child items i child below h e all =
+    let smaller = child_is_smaller items i child h in
+    omega (arith, smaller, ap (λ x. count x.1.children) e, ap count all)

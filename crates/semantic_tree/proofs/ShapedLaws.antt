@@ -99,7 +99,7 @@ pub map_none : {A : Type 0} (f : A → TreeError) (o : Option A) → option_map 
 map_none f None h = refl
 map_none f (Some x) h = absurd (some_is_not_none (f x) h)
 
-small : (source : List ℕ) (comments : List Comment) (root : Node) → is_too_large source comments root ≡ false → (node_count root ≤ node_limit) × (length comments ≤ comment_limit) × (length source ≤ source_limit)
+pub small : (source : List ℕ) (comments : List Comment) (root : Node) → is_too_large source comments root ≡ false → (node_count root ≤ node_limit) × (length comments ≤ comment_limit) × (length source ≤ source_limit)
 small source comments root h = (grind (arith, nat_tests), grind (arith, nat_tests), grind (arith, nat_tests))
 
 large : (source : List ℕ) (comments : List Comment) (root : Node) → node_count root ≤ node_limit → length comments ≤ comment_limit → length source ≤ source_limit → is_too_large source comments root ≡ false

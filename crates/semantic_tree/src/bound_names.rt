@@ -33,7 +33,6 @@ pub fn binds_by(parent: AstType, role: Role) -> bool
 }
 
 /// The first name that the node binds, in preorder, whose id is at least the number.
-#[tactic(auto, using(crate::specs::Falls::below))]
 fn first_name<'a>(node: &'a Node, from: usize) -> Option<AstKind<'a>>
     ensures { option_map shown result ≡ first_of (rising from (bound_names node.now)) }
 {

@@ -45,7 +45,6 @@ pub fn breaks(check: Check<'_>, place: Place, node: &Node) -> bool
 }
 
 /// The first node that does not pass a check, from one at a place down.
-#[tactic(auto, using(crate::specs::Falls::below))]
 pub fn first_breaking(check: Check<'_>, place: Place, node: &Node) -> Option<NodeId>
     requires { place.depth + node_count node.now < 2 ^ 32 - 1 }
     ensures { result ≡ first_where (breaks check.entry) (placed_from place node.now) }

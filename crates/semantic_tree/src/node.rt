@@ -142,7 +142,6 @@ impl Node {
     }
 
     /// A copy of the node and of all below it.
-    #[tactic(auto, using(crate::specs::Falls::below, crate::proofs::Forests::copies))]
     pub fn copied(&self, alloc: Global) -> Result<Node, AllocError>
         ensures { IfOk result (λ made. made ≡ self.now) }
     {

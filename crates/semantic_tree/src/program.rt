@@ -133,7 +133,6 @@ impl Program {
     /// Numbers the nodes in preorder, and refuses what has a fault: too many nodes, comments or bytes
     /// first, then a node that stands too deep, then a node without its shape, then a bad span, each at
     /// its least place. A tree that is refused is dropped.
-    #[tactic(auto, using(crate::proofs::Forests::numbers))]
     pub fn new(
         _alloc: Global,
         source: Text,

@@ -94,7 +94,6 @@ impl Node {
     }
 
     /// A copy of the node in a role and a setting, and of all below it, with the two names swapped.
-    #[tactic(auto, using(crate::specs::Falls::below))]
     pub fn swapped(
         &self,
         alloc: Global,
