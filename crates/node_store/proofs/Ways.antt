@@ -1,5 +1,6 @@
 -- The way from a node to the root.
-use Rattle.std.proofs.Common.{◌≡◌, ℕ, zero, suc, ◌<◌, ◌==◌, List, [], ◌∷◌, length, drop, slice_index, if◌then◌else◌, All, Some, None, refl, sym, ap, subst, arith}
+use Rattle.std.proofs.Common.{◌≡◌, ℕ, zero, suc, ◌<◌, ◌==◌, List, [], ◌∷◌, length, drop, slice_index, if◌then◌else◌, All, Option, Some, None, refl, sym, ap, subst, arith}
+use Rattle.std.specs.Option.{IfSome}
 use Rattle.std.proofs.lemmas.List.Elements.{All-cons}
 use Rattle.std.proofs.lemmas.Option.{slice_get-get_or, slice_get-map}
 use Rattle.std.proofs.Common.{get_or, map}
@@ -45,6 +46,11 @@ above_is_below_from parents (suc n) before h =
 
 pub above_is_below : (parents : List ℕ) (n : ℕ) → StandBefore parents → n < length parents → All (λ k. k < length parents) (above parents n)
 above_is_below parents n before h = subst (All (λ k. k < length parents)) (above_is parents n before h) (above_is_below_from parents n before h)
+
+-- the parent of a node is within the list, if it has one
+pub parent_within : (parents : List ℕ) (n : ℕ) (up : Option ℕ) → StandBefore parents → n < length parents → up ≡ parent_above parents n → IfSome up (λ k. k < length parents)
+parent_within parents zero up before h e = rw e tt
+parent_within parents (suc n) up before h e = let b = before (suc n) h in rw e (omega arith)
 
 pub parent_is : (parents : List ℕ) (n : ℕ) → (if n == 0 then None else Some (slice_index parents n)) ≡ parent_above parents n
 parent_is parents zero = refl
