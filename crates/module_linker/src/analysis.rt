@@ -12,11 +12,8 @@ use crate::module_names::ModuleNames;
 use crate::module_targets::{ModuleTargets, targets_of};
 use crate::texts::Texts;
 use module_set::Module;
-use semantic::{SemanticBuilder, SemanticBuilderReturn};
+use semantic::SemanticBuilder;
 use std::alloc::{AllocError, Global};
-
-/// Lets go of an analysis.
-fn let_go(_analysis: SemanticBuilderReturn<'_>) {}
 
 /// Where the imports and exports of a module lead that has this number. Its program is analysed for it, and the
 /// analysis is let go of.
@@ -41,6 +38,6 @@ pub(crate) fn module_targets<'a>(
         tables: semantic.tables(),
     };
     let made = targets_of(alloc, names, texts, &analysed);
-    let_go(analysis);
+    drop(analysis);
     made
 }

@@ -1,5 +1,6 @@
 //! What a set of modules imports and exports, in numbers.
-ghost use Rattle.std.specs.Prelude.{◌≤◌, length, IfOk};
+ghost use Rattle.std.specs.Prelude.{◌≡◌, ◌≤◌, length, IfOk};
+ghost use Rattle.module_linker.specs.Names.{names_of};
 ghost use Rattle.module_linker.specs.SetTold.{IsDescribed};
 
 use crate::entry_texts::default_name;
@@ -20,15 +21,19 @@ pub(crate) struct Described {
     pub targets: Vec<Target>,
 }
 
-/// What these modules export, and where their imports lead.
-pub(crate) fn describe(alloc: Global, modules: &[Module]) -> Result<Described, AllocError>
-    requires { length modules.now ≤ 4294967294 }
+/// What these modules export, and where their imports lead. These are their names; texts that have no numbers get them.
+fn describe_by<'a>(
+    alloc: Global,
+    names: &ModuleNames<'_>,
+    texts: &mut Texts<'a>,
+    modules: &'a [Module],
+) -> Result<Described, AllocError>
+    requires few { length modules.now ≤ 4294967294 }
+    requires named { names.now ≡ names_of modules.now }
     ensures { IfOk result (λ made. IsDescribed modules.now made) }
 {
-    let names = ModuleNames::of(alloc, modules)?;
-    let mut texts = Texts::new(alloc);
     let default_name = texts.number_of(default_name())?;
-    let made = set_targets(alloc, &names, &mut texts, modules)?;
+    let made = set_targets(alloc, names, texts, modules)?;
     texts.are_apart();
     let exports = SetExports {
         modules: made.exports,
@@ -40,4 +45,17 @@ pub(crate) fn describe(alloc: Global, modules: &[Module]) -> Result<Described, A
         places: made.places,
         targets: made.targets,
     })
+}
+
+/// What these modules export, and where their imports lead.
+pub(crate) fn describe(alloc: Global, modules: &[Module]) -> Result<Described, AllocError>
+    requires { length modules.now ≤ 4294967294 }
+    ensures { IfOk result (λ made. IsDescribed modules.now made) }
+{
+    let names = ModuleNames::of(alloc, modules)?;
+    let mut texts = Texts::new(alloc);
+    let made = describe_by(alloc, &names, &mut texts, modules);
+    drop(texts);
+    drop(names);
+    made
 }

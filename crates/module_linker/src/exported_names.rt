@@ -4,6 +4,8 @@ ghost use Rattle.link_model.specs.Refusal.{repeated, first_repeated};
 ghost use Rattle.module_linker.specs.Views.{shown_export};
 ghost use Rattle.module_linker.specs.Checks.{Checks};
 ghost use Rattle.module_linker.specs.Seen.{exports_seen};
+ghost use Rattle.tree_json.specs.Views.{characters, IsSpelled};
+ghost use Rattle.tree_json.specs.Written.{Each};
 
 use crate::entries::ModuleEntries;
 use crate::export::ExportEntry;
@@ -13,18 +15,31 @@ use module_set::LinkError;
 use semantic_syntax::NodeId;
 use std::alloc::{AllocError, Global};
 
-/// The first node that exports a name which an earlier one exports.
+/// The first node that exports a name which is there, or which an earlier one exports. The names of all before it go there.
 #[tactic(auto, using(crate::proofs::Turns::export_turn, crate::proofs::Turns::export_found, crate::proofs::Turns::exports_end))]
-fn first_repeated(alloc: Global, exports: &[ExportEntry<'_>]) -> Result<Option<NodeId>, AllocError>
-    ensures { IfOk result (λ found. found ≡ repeated [] (map shown_export exports.now)) }
+fn first_known<'a>(
+    names: &mut IndexSet<&'a str>,
+    exports: &[ExportEntry<'a>],
+) -> Result<Option<NodeId>, AllocError>
+    requires { Each IsSpelled names.old.keys }
+    ensures { IfOk result (λ found. found ≡ repeated (map characters names.old.keys) (map shown_export exports.now)) }
 {
-    let mut names = IndexSet::new(alloc);
     for export in exports {
-        if !add_name(&mut names, export.name())? {
+        if !add_name(names, export.name())? {
             return Ok(Some(export.node()));
         }
     }
     Ok(None)
+}
+
+/// The first node that exports a name which an earlier one exports.
+fn first_repeated(alloc: Global, exports: &[ExportEntry<'_>]) -> Result<Option<NodeId>, AllocError>
+    ensures { IfOk result (λ found. found ≡ repeated [] (map shown_export exports.now)) }
+{
+    let mut names = IndexSet::new(alloc);
+    let found = first_known(&mut names, exports);
+    drop(names);
+    found
 }
 
 /// Refuses the first node that exports a name which an earlier one of its module exports.

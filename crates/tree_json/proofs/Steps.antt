@@ -1,5 +1,5 @@
 -- What a loop over a list knows with one more of its elements.
-use Rattle.std.proofs.Common.{◌≡◌, ℕ, suc, ◌+◌, ◌<◌, ◌≤◌, List, [], ◌∷◌, ◌++◌, append_assoc, append-nil, length, get_or, drop, drop-cons, map, Option, Some, None, option_and_then, Ok, ok_or, refl, sym, ap, ◌∙◌, arith}
+use Rattle.std.proofs.Common.{◌≡◌, ℕ, suc, ◌+◌, ◌<◌, ◌≤◌, List, [], ◌∷◌, ◌++◌, append_assoc, append-nil, length, get_or, drop, drop-cons, map, Option, Some, None, option_and_then, Result, Ok, Err, IsErrAnd, ok_or, refl, sym, ap, ◌∙◌, arith}
 use Rattle.std.proofs.lemmas.Grind.{common_steps}
 use Rattle.std.proofs.lemmas.List.{map-append}
 use Rattle.std.specs.Option.{option_map}
@@ -8,10 +8,12 @@ use Rattle.serde_json.specs.View.{view as data_of, items_view}
 use Rattle.serde_json.specs.declared.value.Value.{Value}
 use Rattle.semantic_kinds.specs.declared.role.Role.{Role}
 use Rattle.semantic_tree.specs.Children.{forest_of}
+use Rattle.semantic_tree.specs.declared.error.TreeError.{TreeError}
 use Rattle.semantic_tree.specs.declared.node.Node.{Node}
 use Rattle.tree_json.specs.Comments.{all_items}
 use Rattle.tree_json.specs.Lines.{Line, line_of, lines_of, node_lines}
 use Rattle.tree_json.specs.Listing.{line}
+use Rattle.tree_json.specs.Outcome.{Gives}
 use Rattle.tree_json.specs.declared.row.Row.{Row}
 
 split : {A : Type 0} (xs : List A) (i : ℕ) (x : A) → i < length xs → x ≡ get_or xs i x → drop i xs ≡ x ∷ drop (i + 1) xs
@@ -33,6 +35,27 @@ pub item_more : {A : Type 0} (form : Data → Option A) (before after : List A) 
     → after ≡ before ++ x ∷ [] → option_map (λ rest. before ++ rest) (all_items form (items_view (drop i values))) ≡ whole → option_map (λ rest. after ++ rest) (all_items form (items_view (drop (i + 1) values))) ≡ whole
 item_more form before after whole values i v x within is formed pushed so_far =
     rw pushed (moved before x (all_items form (items_view (drop (i + 1) values)))) ∙ (rw (split values i v within is, formed) at so_far)
+
+-- a value has not the form
+item_none : {A E : Type 0} (form : Data → Option A) (front : List A) (values : List Value) (i : ℕ) (v : Value) (e : E) → i < length values → v ≡ get_or values i v → form (data_of v) ≡ None
+    → option_map (λ rest. front ++ rest) (all_items form (items_view (drop i values))) ≡ all_items form (items_view values) → ok_or (all_items form (items_view values)) e ≡ Err e
+item_none form front values i v e within is formless so_far =
+    let none : None ≡ all_items form (items_view values) = rw (split values i v within is, formless) at so_far in
+    rw (← none) refl
+
+one_error : {B : Type 0} (o : Option B) (e f : TreeError) → Err f ≡ ok_or o e → o ≡ None → f ≡ e
+one_error (Some x) e f is none = absurd (cc)
+one_error None e f is none = cc
+
+-- the first value that has not the form is refused
+pub refuses_item : {X A B : Type 0} (view : X → List A) (result : Result X TreeError) (form : Data → Option A) (front : List A) (values : List Value) (i : ℕ) (v : Value) (o : Option B) (e f : TreeError)
+    → IsErrAnd result (λ g. g ≡ f) → Err f ≡ ok_or o e → o ≡ None → i < length values → v ≡ get_or values i v → form (data_of v) ≡ None
+    → option_map (λ rest. front ++ rest) (all_items form (items_view (drop i values))) ≡ all_items form (items_view values) → Gives view result (ok_or (all_items form (items_view values)) e)
+refuses_item view (Ok x) form front values i v o e f told is none within at formless so_far = absurd told
+refuses_item view (Err g) form front values i v o e f told is none within at formless so_far =
+    let one : f ≡ e = one_error o e f is none in
+    let refused : ok_or (all_items form (items_view values)) e ≡ Err e = item_none form front values i v e within at formless so_far in
+    λ no. cc
 
 -- all values have the form
 pub item_last : {A E : Type 0} (form : Data → Option A) (front : List A) (values : List Value) (i : ℕ) (e : E) → length values ≤ i

@@ -5,6 +5,7 @@ pub mod Comments
 pub mod Top
 pub mod Outcome
 pub mod Reading
+pub mod ShallowLines
 pub mod Written
 pub mod Views
 pub mod WrittenForm

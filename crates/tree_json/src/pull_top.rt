@@ -60,6 +60,14 @@ fn open_member(reader: &mut Reader<'_>) -> Option<()>
     take_key(reader, "comments")
 }
 
+/// The string that is the member of this key.
+fn take_word<'a>(reader: &mut Reader<'a>, name: &str) -> Option<&'a str>
+    ensures { IfSome result (λ s. reader.old ≡ token.key name.now ∷ token.string s.now ∷ reader.new) }
+{
+    take_key(reader, name)?;
+    take_string(reader)
+}
+
 /// The members behind the comments: the format, which is 1, the goal and the language, and the key of the rows.
 fn take_type(reader: &mut Reader<'_>) -> Option<SourceType>
     ensures { IfSome result (λ t. IsType reader.old t reader.new) }
@@ -68,10 +76,8 @@ fn take_type(reader: &mut Reader<'_>) -> Option<SourceType>
     if take_number(reader)? != 1 {
         return None;
     }
-    take_key(reader, "goal")?;
-    let goal = goal_named(take_string(reader)?)?;
-    take_key(reader, "lang")?;
-    let lang = lang_named(take_string(reader)?)?;
+    let goal = goal_named(take_word(reader, "goal")?)?;
+    let lang = lang_named(take_word(reader, "lang")?)?;
     take_key(reader, "rows")?;
     Some(SourceType { goal, lang })
 }
@@ -80,8 +86,7 @@ fn take_type(reader: &mut Reader<'_>) -> Option<SourceType>
 fn take_source<'a>(reader: &mut Reader<'a>) -> Option<&'a str>
     ensures { IfSome result (λ s. reader.old ≡ token.key (codes "source") ∷ token.string s.now ∷ token.end_object ∷ []) }
 {
-    take_key(reader, "source")?;
-    let source = take_string(reader)?;
+    let source = take_word(reader, "source")?;
     close_text(reader)?;
     Some(source)
 }

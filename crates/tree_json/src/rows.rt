@@ -5,6 +5,7 @@ ghost use Rattle.tree_json.specs.Lines.{listing};
 ghost use Rattle.tree_json.specs.Listing.{line, IsListing};
 ghost use Rattle.tree_json.specs.Views.{texts_view};
 ghost use Rattle.tree_json.specs.Outcome.{Gives};
+ghost use Rattle.tree_json.specs.ShallowLines.{shallow_lines};
 ghost use Rattle.tree_json.specs.Reading.{follows, line_at, lines_from, shallow_from, listing_of, result_map};
 
 use crate::build::tree_of;
@@ -29,8 +30,17 @@ pub(crate) fn tree_of_values(
     ensures { Gives listing result (listing_of (texts_view texts.entry) (items_view values.now)) }
 {
     let rows = rows_of(alloc, texts, values)?;
-    check_depths(&rows)?;
-    Ok(tree_of(alloc, &rows)?)
+    tree_of_rows(alloc, &rows)
+}
+
+/// The tree that the rows list, or the least row that is too deep.
+fn tree_of_rows(alloc: Global, rows: &[Row<'_>]) -> Result<Node, TreeError>
+    requires listed { IsListing (map line rows.now) }
+    requires few { length rows.now < 2 ^ 32 - 1 }
+    ensures { Gives listing result (shallow_lines (map line rows.now)) }
+{
+    check_depths(rows)?;
+    Ok(tree_of(alloc, rows)?)
 }
 
 /// The rows, or the least value that is no row in its place.
