@@ -16,7 +16,7 @@ use Rattle.link_model.specs.Module.{all_analysed}
 use Rattle.link_model.specs.Outcome.{AreLinks, all_imports}
 use Rattle.link_model.specs.Refusal.{refusal_of}
 use Rattle.link_model.specs.declared.outcome.Link.{Link}
-use Rattle.module_linker.specs.LinkLines.{link_lines}
+use Rattle.module_entries.specs.LinkLines.{link_lines}
 use Rattle.program_ends.specs.FindingEnds.{end_of}
 use Rattle.module_linker.specs.Codes.{status_for}
 use Rattle.module_linker.specs.Failing.{NotFound, IsNotRefused}

@@ -14,12 +14,12 @@ use Rattle.link_search.specs.declared.target.Target.{Target}
 use Rattle.link_targets.specs.Denoted.{AreDenoted, Grows}
 use Rattle.link_targets.specs.Described.{IsExport, AreExports, IsModuleExports}
 use Rattle.link_targets.proofs.Growth.{all_stay, grows_on, grows_same}
-use Rattle.module_linker.specs.Views.{shown_export}
-use Rattle.module_linker.specs.declared.export.ExportEntry.{ExportEntry}
+use Rattle.module_entries.specs.Views.{shown_export}
+use Rattle.module_entries.specs.declared.export.ExportEntry.{ExportEntry}
 use Rattle.module_linker.specs.AnalysedIn.{analysed_in, ties_in, AreEntriesOf}
 use Rattle.module_linker.specs.ScopeOf.{imported_in, ScopeLeads}
 use Rattle.module_linker.specs.declared.module_scope.ModuleScope.{ModuleScope}
-use Rattle.module_linker.proofs.Continuing.{Continues, continues_with, continues_all, nothing_left}
+use Rattle.module_entries.proofs.Continuing.{Continues, continues_with, continues_all, nothing_left}
 use Rattle.module_linker.proofs.ImportSteps.{leads_stay}
 
 pub scope_stays : (names old new : List Name) (scope : ModuleScope) → Grows old new → ScopeLeads names old scope → ScopeLeads names new scope

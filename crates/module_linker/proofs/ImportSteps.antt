@@ -10,10 +10,10 @@ use Rattle.link_model.specs.Leads.{End, Ties, import_end, import_of, symbol_of_n
 use Rattle.link_search.specs.declared.target.Target.{Target}
 use Rattle.link_targets.specs.Denoted.{denoted, AreDenoted, Grows}
 use Rattle.link_targets.proofs.Growth.{denoted_stays, grows_on, grows_same}
-use Rattle.module_linker.specs.Views.{shown_import}
-use Rattle.module_linker.specs.declared.import.ImportEntry.{ImportEntry}
+use Rattle.module_entries.specs.Views.{shown_import}
+use Rattle.module_entries.specs.declared.import.ImportEntry.{ImportEntry}
 use Rattle.module_linker.specs.ImportsLead.{ImportStands, ImportsLead, with_bound}
-use Rattle.module_linker.proofs.Continuing.{Continues, continues_with, continues_all, nothing_left}
+use Rattle.module_entries.proofs.Continuing.{Continues, continues_with, continues_all, nothing_left}
 
 same_either_way : (a b : ℕ) → nat_eq a b ≡ (b == a)
 same_either_way a b = same_from_decides {P = a ≡ b} (a == b) (b == a) (Decides-eqb a b) ((λ e. sym ((Decides-eqb b a).0 e)), (λ e. (Decides-eqb b a).1 (sym e)))

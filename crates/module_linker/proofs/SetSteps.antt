@@ -15,7 +15,7 @@ use Rattle.link_targets.specs.Denoted.{AreDenoted, Grows}
 use Rattle.link_targets.specs.Described.{IsExport, AreExports, IsModuleExports, AreModuleExports}
 use Rattle.link_targets.proofs.Growth.{all_stay, grows_on, grows_same}
 use Rattle.module_linker.specs.AnalysedIn.{nodes_of}
-use Rattle.module_linker.proofs.Continuing.{Continues, continues_with, continues_all, nothing_left}
+use Rattle.module_entries.proofs.Continuing.{Continues, continues_with, continues_all, nothing_left}
 use Rattle.module_linker.specs.SetTold.{places_in, place_of, end_of}
 use Rattle.module_linker.specs.declared.set_targets.ImportPlace.{ImportPlace}
 

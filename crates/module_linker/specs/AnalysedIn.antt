@@ -6,8 +6,8 @@ use Rattle.link_model.specs.Exports.{exports, stars}
 use Rattle.link_model.specs.Imports.{Import, imports}
 use Rattle.link_model.specs.Leads.{Ties, ties_of}
 use Rattle.link_model.specs.Module.{Analysed}
-use Rattle.module_linker.specs.Views.{shown_import, shown_export}
-use Rattle.module_linker.specs.declared.entries.ModuleEntries.{ModuleEntries}
+use Rattle.module_entries.specs.Views.{shown_import, shown_export}
+use Rattle.module_entries.specs.declared.entries.ModuleEntries.{ModuleEntries}
 use Rattle.module_linker.specs.declared.analysed_module.AnalysedModule.{AnalysedModule}
 
 abbrev pub analysed_in : AnalysedModule → Analysed

@@ -3,16 +3,9 @@ pub mod Lines
 pub mod Telling
 pub mod Failing
 pub mod Meaning
-pub mod Seen
-pub mod Checks
-pub mod LinkLines
-pub mod Interned
-pub mod Names
 pub mod AnalysedIn
 pub mod ImportsLead
 pub mod LocalTargets
 pub mod ScopeOf
-pub mod Views
-pub mod Entries
 pub mod SetTold
 pub mod LinksBy

@@ -8,7 +8,7 @@ use Rattle.link_model.specs.Outcome.{ImportIn, all_imports}
 use Rattle.link_search.specs.Ends.{AreApart}
 use Rattle.link_targets.specs.Denoted.{AreDenoted}
 use Rattle.link_targets.specs.Described.{AreModuleExports, AreSetExports}
-use Rattle.module_linker.specs.Names.{names_of}
+use Rattle.module_entries.specs.Names.{names_of}
 use Rattle.module_linker.specs.declared.described.Described.{Described}
 use Rattle.module_linker.specs.declared.set_targets.ImportPlace.{ImportPlace}
 use Rattle.module_linker.specs.declared.set_targets.SetTargets.{SetTargets}

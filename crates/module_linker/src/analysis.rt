@@ -8,9 +8,9 @@ ghost use Rattle.link_targets.specs.Described.{IsModuleExports};
 ghost use Rattle.module_linker.specs.AnalysedIn.{nodes_of};
 
 use crate::analysed_module::AnalysedModule;
-use crate::module_names::ModuleNames;
 use crate::module_targets::{ModuleTargets, targets_of};
-use crate::texts::Texts;
+use module_entries::module_names::ModuleNames;
+use module_entries::texts::Texts;
 use module_set::Module;
 use semantic::SemanticBuilder;
 use std::alloc::{AllocError, Global};

@@ -1,13 +1,13 @@
 //! What a set of modules imports and exports, in numbers.
 ghost use Rattle.std.specs.Prelude.{◌≡◌, ◌≤◌, length, IfOk};
-ghost use Rattle.module_linker.specs.Names.{names_of};
+ghost use Rattle.module_entries.specs.Names.{names_of};
 ghost use Rattle.module_linker.specs.SetTold.{IsDescribed};
 
-use crate::entry_texts::default_name;
-use crate::module_names::ModuleNames;
 use crate::set_targets::{ImportPlace, SetTargets, set_targets};
-use crate::texts::Texts;
 use link_search::{SetExports, Target};
+use module_entries::entry_texts::default_name;
+use module_entries::module_names::ModuleNames;
+use module_entries::texts::Texts;
 use module_set::Module;
 use std::alloc::{AllocError, Global};
 

@@ -10,19 +10,19 @@ ghost use Rattle.link_model.specs.Leads.{exported_ends, starred, wanted_end};
 ghost use Rattle.link_search.specs.Exports.{if_any};
 ghost use Rattle.link_targets.specs.Denoted.{AreDenoted, Grows};
 ghost use Rattle.link_targets.specs.Described.{IsExport, AreExports};
-ghost use Rattle.module_linker.specs.Views.{shown_way, shown_export, shown_wanted};
+ghost use Rattle.module_entries.specs.Views.{shown_way, shown_export, shown_wanted};
 ghost use Rattle.module_linker.specs.AnalysedIn.{analysed_in, ties_in};
 ghost use Rattle.module_linker.specs.ScopeOf.{imported_in, ScopeLeads};
 ghost use Rattle.module_linker.specs.LocalTargets.{local_target, default_target};
 
-use crate::entry_texts::source_text;
-use crate::export::{ExportEntry, ExportWay, default_id, listed_local};
-use crate::import::Wanted;
-use crate::module_names::ModuleNames;
 use crate::module_scope::ModuleScope;
-use crate::texts::Texts;
-use crate::wanted_target::wanted_target;
 use link_search::Target;
+use module_entries::entry_texts::source_text;
+use module_entries::export::{ExportEntry, ExportWay, default_id, listed_local};
+use module_entries::import::Wanted;
+use module_entries::module_names::ModuleNames;
+use module_entries::texts::Texts;
+use module_entries::wanted_target::wanted_target;
 use semantic_tree::{AstKind, Node};
 use std::alloc::{AllocError, Global};
 

@@ -3,16 +3,16 @@ ghost use Rattle.std.specs.Prelude.{◌≡◌, [], ◌∷◌, ◌++◌, map, nat
 ghost use Rattle.std.specs.Map.{lookup};
 ghost use Rattle.link_model.specs.Leads.{import_end};
 ghost use Rattle.link_targets.specs.Denoted.{AreDenoted, Grows};
-ghost use Rattle.module_linker.specs.Views.{shown_import};
+ghost use Rattle.module_entries.specs.Views.{shown_import};
 ghost use Rattle.module_linker.specs.ImportsLead.{with_bound, AddsImport, ImportsLead};
 ghost use Rattle.module_linker.specs.AnalysedIn.{ties_in};
 
 use crate::analysed_module::AnalysedModule;
-use crate::import::ImportEntry;
-use crate::module_names::ModuleNames;
-use crate::texts::Texts;
-use crate::wanted_target::wanted_target;
 use link_search::{Target, Terminal};
+use module_entries::import::ImportEntry;
+use module_entries::module_names::ModuleNames;
+use module_entries::texts::Texts;
+use module_entries::wanted_target::wanted_target;
 use semantic_syntax::SymbolId;
 use std::alloc::{AllocError, Global};
 

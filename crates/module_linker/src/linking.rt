@@ -4,9 +4,9 @@ ghost use Rattle.module_set.specs.Outcome.{IsWantOfMemory};
 ghost use Rattle.link_model.specs.Outcome.{AreLinks};
 ghost use Rattle.link_model.specs.Refusal.{refusal_of};
 
-use crate::check::check_modules;
-use crate::link_list::Links;
 use crate::links::links_of;
+use module_entries::check::check_modules;
+use module_entries::link_list::Links;
 use module_set::{LinkError, Modules};
 use std::alloc::Global;
 

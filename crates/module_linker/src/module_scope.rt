@@ -6,9 +6,9 @@ ghost use Rattle.module_linker.specs.AnalysedIn.{ties_in};
 ghost use Rattle.module_linker.specs.ScopeOf.{imported_in};
 
 use crate::analysed_module::AnalysedModule;
-use crate::entries::ModuleEntries;
 use indexmap::IndexMap;
 use link_search::{Target, Terminal};
+use module_entries::entries::ModuleEntries;
 use semantic_syntax::{NodeId, SymbolId};
 use semantic_tree::{AstKind, AstType};
 

@@ -4,19 +4,19 @@ ghost use Rattle.link_model.specs.Imports.{imports};
 ghost use Rattle.link_model.specs.Leads.{import_end};
 ghost use Rattle.link_targets.specs.Denoted.{AreDenoted, Grows};
 ghost use Rattle.link_targets.specs.Described.{IsModuleExports};
-ghost use Rattle.module_linker.specs.Views.{shown_import};
+ghost use Rattle.module_entries.specs.Views.{shown_import};
 ghost use Rattle.module_linker.specs.AnalysedIn.{analysed_in, AreEntriesOf, nodes_of};
 ghost use Rattle.module_linker.specs.ScopeOf.{ScopeLeads};
 
 use crate::analysed_module::AnalysedModule;
-use crate::entries::{ModuleEntries, entries_of};
 use crate::export_targets::{export_targets, starred};
-use crate::import::ImportEntry;
 use crate::import_targets::{ImportTargets, import_targets};
-use crate::module_names::ModuleNames;
 use crate::module_scope::ModuleScope;
-use crate::texts::Texts;
 use link_search::{ModuleExports, Target, firsts};
+use module_entries::entries::{ModuleEntries, entries_of};
+use module_entries::import::ImportEntry;
+use module_entries::module_names::ModuleNames;
+use module_entries::texts::Texts;
 use semantic_syntax::NodeId;
 use std::alloc::{AllocError, Global};
 

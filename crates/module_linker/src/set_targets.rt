@@ -4,10 +4,10 @@ ghost use Rattle.link_targets.specs.Denoted.{Grows};
 ghost use Rattle.module_linker.specs.SetTold.{places_in, AreSetTargets};
 
 use crate::analysis::module_targets;
-use crate::module_names::ModuleNames;
 use crate::module_targets::ModuleTargets;
-use crate::texts::Texts;
 use link_search::{ModuleExports, Target};
+use module_entries::module_names::ModuleNames;
+use module_entries::texts::Texts;
 use module_set::Module;
 use semantic_syntax::NodeId;
 use std::alloc::{AllocError, Global};

@@ -1,7 +1,7 @@
 use Rattle.std.proofs.Common.{◌≡◌, List, ap, subst, ◌∙◌, Some}
 use Rattle.std.specs.Prelude.{codes}
 use Rattle.link_model.specs.Module.{all_analysed}
-use Rattle.module_linker.specs.Names.{names_of}
+use Rattle.module_entries.specs.Names.{names_of}
 use Rattle.module_linker.specs.SetTold.{AreSetTargets}
 use Rattle.module_linker.proofs.described.describe_by.Goals as goal
 

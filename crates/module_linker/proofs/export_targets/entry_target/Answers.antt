@@ -5,7 +5,7 @@ use Rattle.link_model.specs.Leads.{exported_ends}
 use Rattle.link_search.specs.Exports.{if_any}
 use Rattle.link_targets.specs.Denoted.{AreDenoted}
 use Rattle.link_targets.proofs.Growth.{all_stay}
-use Rattle.module_linker.specs.Views.{shown_export}
+use Rattle.module_entries.specs.Views.{shown_export}
 use Rattle.module_linker.specs.AnalysedIn.{analysed_in, ties_in}
 use Rattle.module_linker.proofs.export_targets.entry_target.Goals as goal
 

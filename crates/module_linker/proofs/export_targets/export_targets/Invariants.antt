@@ -4,7 +4,7 @@ use Rattle.link_model.specs.Imports.{imports}
 use Rattle.link_targets.specs.Denoted.{Grows}
 use Rattle.module_linker.specs.AnalysedIn.{analysed_in, ties_in}
 use Rattle.module_linker.specs.ScopeOf.{ScopeLeads}
-use Rattle.module_linker.proofs.Continuing.{Continues}
+use Rattle.module_entries.proofs.Continuing.{Continues}
 use Rattle.module_linker.proofs.ExportSteps.{ExportsStand}
 use Rattle.module_linker.proofs.export_targets.export_targets.Given as goal
 

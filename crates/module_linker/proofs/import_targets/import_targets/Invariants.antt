@@ -2,7 +2,7 @@ use Rattle.std.proofs.Common.{List, drop}
 use Rattle.semantic_syntax.specs.Tables.{Name}
 use Rattle.link_targets.specs.Denoted.{Grows}
 use Rattle.module_linker.specs.AnalysedIn.{ties_in}
-use Rattle.module_linker.proofs.Continuing.{Continues}
+use Rattle.module_entries.proofs.Continuing.{Continues}
 use Rattle.module_linker.proofs.ImportSteps.{TargetsStand, BoundStand}
 use Rattle.module_linker.proofs.import_targets.import_targets.Given as goal
 

@@ -5,7 +5,7 @@ use Rattle.link_model.specs.Imports.{Import, imports}
 use Rattle.link_model.specs.Leads.{import_end}
 use Rattle.link_targets.specs.Denoted.{AreDenoted}
 use Rattle.link_targets.proofs.Growth.{all_stay}
-use Rattle.module_linker.specs.Views.{shown_import}
+use Rattle.module_entries.specs.Views.{shown_import}
 use Rattle.module_linker.specs.AnalysedIn.{analysed_in, ties_in}
 use Rattle.module_linker.specs.ImportsLead.{ImportsLead}
 use Rattle.module_linker.proofs.ImportSteps.{leads_by}

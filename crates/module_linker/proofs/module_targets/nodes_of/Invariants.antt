@@ -1,5 +1,5 @@
 use Rattle.std.proofs.Common.{◌≡◌, ◌++◌, map, drop}
-use Rattle.module_linker.specs.Views.{shown_import}
+use Rattle.module_entries.specs.Views.{shown_import}
 use Rattle.module_linker.specs.AnalysedIn.{nodes_of}
 use Rattle.module_linker.proofs.module_targets.nodes_of.Given as goal
 

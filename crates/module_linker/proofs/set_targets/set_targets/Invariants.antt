@@ -1,7 +1,7 @@
 use Rattle.std.proofs.Common.{◌≡◌, ◌++◌, List, drop}
 use Rattle.semantic_syntax.specs.Tables.{Name}
 use Rattle.link_targets.specs.Denoted.{Grows}
-use Rattle.module_linker.proofs.Continuing.{Continues}
+use Rattle.module_entries.proofs.Continuing.{Continues}
 use Rattle.module_linker.proofs.SetSteps.{ExportsLeft, TargetsLeft, places_left}
 use Rattle.module_linker.proofs.set_targets.set_targets.Given as goal
 

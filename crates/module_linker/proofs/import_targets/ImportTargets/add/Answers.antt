@@ -3,7 +3,7 @@ use Rattle.std.specs.Str.{chars}
 use Rattle.link_model.specs.Imports.{Wanted}
 use Rattle.link_model.specs.Leads.{symbol_of_name, wanted_end}
 use Rattle.link_targets.specs.Denoted.{denoted}
-use Rattle.module_linker.specs.Views.{shown_import}
+use Rattle.module_entries.specs.Views.{shown_import}
 use Rattle.module_linker.specs.AnalysedIn.{ties_in}
 use Rattle.module_linker.specs.ImportsLead.{with_bound}
 use Rattle.module_linker.proofs.import_targets.ImportTargets.add.Goals as goal

@@ -1,0 +1,11 @@
+pub mod Keys
+pub mod Turns
+pub mod Causes
+pub mod LineTurns
+pub mod Pairs
+pub mod Continuing
+pub mod Interning
+pub mod NamesFound
+pub mod AsciiTexts
+pub mod Passed
+pub mod Specifiers

@@ -1,0 +1,5 @@
+use Rattle.report_ends.proofs.Stages.{lacks_memory_at_once}
+use Rattle.module_entries.proofs.write.write_link.Goals as goal
+
+pub returns-in_err-make_link_line : goal.returns-in_err-make_link_line
+returns-in_err-make_link_line g c = lacks_memory_at_once g.K.Sink.held g.K.Sink.faults c.args.out.now _ c.from_residual.result c.from_residual.ensures.1

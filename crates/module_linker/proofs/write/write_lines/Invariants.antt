@@ -1,9 +1,0 @@
-use Rattle.std.proofs.Common.{length, map}
-use Rattle.report_ends.specs.Streams.{PartWritten}
-use Rattle.tree_json.specs.Views.{characters}
-use Rattle.module_linker.specs.LinkLines.{lines_for}
-use Rattle.module_linker.proofs.Pairs.{left}
-use Rattle.module_linker.proofs.write.write_lines.Given as goal
-
-abbrev pub invariant-loop-local : goal.invariant-loop-local
-invariant-loop-local g l = PartWritten g.K.Sink.held g.K.Sink.faults l.fn.out l.out (left l.locals l.links (length l.yielded)) (lines_for (map characters l.locals) l.links)

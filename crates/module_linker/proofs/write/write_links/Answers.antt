@@ -1,5 +1,0 @@
-use Rattle.report_ends.proofs.Stages.{lacks_memory_at_once}
-use Rattle.module_linker.proofs.write.write_links.Goals as goal
-
-pub returns-in_err-locals : goal.returns-in_err-locals
-returns-in_err-locals g c = lacks_memory_at_once g.K.Sink.held g.K.Sink.faults c.args.out.now _ c.from_residual.result c.from_residual.ensures.1
