@@ -15,12 +15,12 @@ use Rattle.semantic_walk.proofs.walk.Walk.bind_node.Goals as goal
 pub returns-in-Class-clause-entering : goal.returns-in-Class-clause-entering
 returns-in-Class-clause-entering c = λ ds p e outside within shown.
     let k : p.node.kind ≡ kind.Class = ap (λ (n : Node). n.kind) e ∙ sym c.ty.ensures ∙ c.in-Class.is in
-    on_ok_same c.bind_all.result c.bind_all.new.self _ _ (class_entered ds c.args.self.now p c.args.kind.node.now c.class_row.result e k outside c.class_row.ensures within) c.bind_all.ensures.made
+    on_ok_same c.bind_names.result c.bind_names.new.self _ _ (class_entered ds c.args.self.now p c.args.kind.node.now c.class_row.result e k outside c.class_row.ensures within) c.bind_names.ensures.made
 
 pub returns-in-Class-clause-opening : goal.returns-in-Class-clause-opening
 returns-in-Class-clause-opening c = λ ds p own e inside within.
     let k : p.node.kind ≡ kind.Class = ap (λ (n : Node). n.kind) e ∙ sym c.ty.ensures ∙ c.in-Class.is in
-    on_ok_same c.bind_all.result c.bind_all.new.self _ _ (class_opened ds c.args.self.now p c.args.kind.node.now c.class_row.result e own k inside c.class_row.ensures within) c.bind_all.ensures.made
+    on_ok_same c.bind_names.result c.bind_names.new.self _ _ (class_opened ds c.args.self.now p c.args.kind.node.now c.class_row.result e own k inside c.class_row.ensures within) c.bind_names.ensures.made
 
 pub returns-in-Function-clause-entering : goal.returns-in-Function-clause-entering
 returns-in-Function-clause-entering c = λ ds p e outside within shown.
@@ -49,27 +49,27 @@ returns-in-ImportSpecifier-clause-entering c = λ ds p e outside within shown.
 
 pub returns-in-TSImportEqualsDeclaration-clause-entering : goal.returns-in-TSImportEqualsDeclaration-clause-entering
 returns-in-TSImportEqualsDeclaration-clause-entering c = λ ds p e outside within shown.
-    on_ok_same c.bind_all-in-TSImportEqualsDeclaration.result c.bind_all-in-TSImportEqualsDeclaration.new.self _ _
+    on_ok_same c.bind_names-in-TSImportEqualsDeclaration.result c.bind_names-in-TSImportEqualsDeclaration.new.self _ _
     (ids_declared ds c.args.self.now p c.args.kind.node.now c.import_equals_row.result e kind.TSImportEqualsDeclaration (λ n. symbol.Import.bits) symbol.ImportBindingExcludes.bits
-    (ap (λ (n : Node). n.kind) e ∙ sym c.ty.ensures ∙ c.in-TSImportEqualsDeclaration.is) c.import_equals_row.ensures within refl refl refl) c.bind_all-in-TSImportEqualsDeclaration.ensures.made
+    (ap (λ (n : Node). n.kind) e ∙ sym c.ty.ensures ∙ c.in-TSImportEqualsDeclaration.is) c.import_equals_row.ensures within refl refl refl) c.bind_names-in-TSImportEqualsDeclaration.ensures.made
 
 pub returns-in-TSTypeAliasDeclaration-clause-entering : goal.returns-in-TSTypeAliasDeclaration-clause-entering
 returns-in-TSTypeAliasDeclaration-clause-entering c = λ ds p e outside within shown.
-    on_ok_same c.bind_all-in-TSTypeAliasDeclaration.result c.bind_all-in-TSTypeAliasDeclaration.new.self _ _
+    on_ok_same c.bind_names-in-TSTypeAliasDeclaration.result c.bind_names-in-TSTypeAliasDeclaration.new.self _ _
     (ids_declared ds c.args.self.now p c.args.kind.node.now c.type_alias_row.result e kind.TSTypeAliasDeclaration (λ n. union symbol.TypeAlias.bits (marked_ambient n)) symbol.TypeAliasExcludes.bits
-    (ap (λ (n : Node). n.kind) e ∙ sym c.ty.ensures ∙ c.in-TSTypeAliasDeclaration.is) c.type_alias_row.ensures within refl refl refl) c.bind_all-in-TSTypeAliasDeclaration.ensures.made
+    (ap (λ (n : Node). n.kind) e ∙ sym c.ty.ensures ∙ c.in-TSTypeAliasDeclaration.is) c.type_alias_row.ensures within refl refl refl) c.bind_names-in-TSTypeAliasDeclaration.ensures.made
 
 pub returns-in-TSInterfaceDeclaration-clause-entering : goal.returns-in-TSInterfaceDeclaration-clause-entering
 returns-in-TSInterfaceDeclaration-clause-entering c = λ ds p e outside within shown.
-    on_ok_same c.bind_all-in-TSInterfaceDeclaration.result c.bind_all-in-TSInterfaceDeclaration.new.self _ _
+    on_ok_same c.bind_names-in-TSInterfaceDeclaration.result c.bind_names-in-TSInterfaceDeclaration.new.self _ _
     (ids_declared ds c.args.self.now p c.args.kind.node.now c.interface_row.result e kind.TSInterfaceDeclaration (λ n. union symbol.Interface.bits (marked_ambient n)) symbol.InterfaceExcludes.bits
-    (ap (λ (n : Node). n.kind) e ∙ sym c.ty.ensures ∙ c.in-TSInterfaceDeclaration.is) c.interface_row.ensures within refl refl refl) c.bind_all-in-TSInterfaceDeclaration.ensures.made
+    (ap (λ (n : Node). n.kind) e ∙ sym c.ty.ensures ∙ c.in-TSInterfaceDeclaration.is) c.interface_row.ensures within refl refl refl) c.bind_names-in-TSInterfaceDeclaration.ensures.made
 
 pub returns-in-TSEnumDeclaration-clause-entering : goal.returns-in-TSEnumDeclaration-clause-entering
 returns-in-TSEnumDeclaration-clause-entering c = λ ds p e outside within shown.
-    on_ok_same c.bind_all-in-TSEnumDeclaration.result c.bind_all-in-TSEnumDeclaration.new.self _ _
+    on_ok_same c.bind_names-in-TSEnumDeclaration.result c.bind_names-in-TSEnumDeclaration.new.self _ _
     (ids_declared ds c.args.self.now p c.args.kind.node.now c.enum_row.result e kind.TSEnumDeclaration (λ n. c.enum_row.result.flags.bits) c.enum_row.result.excluded.bits
-    (ap (λ (n : Node). n.kind) e ∙ sym c.ty.ensures ∙ c.in-TSEnumDeclaration.is) (record { flags = refl; excluded = refl }) within refl refl (c.enum_row.ensures p e)) c.bind_all-in-TSEnumDeclaration.ensures.made
+    (ap (λ (n : Node). n.kind) e ∙ sym c.ty.ensures ∙ c.in-TSEnumDeclaration.is) (record { flags = refl; excluded = refl }) within refl refl (c.enum_row.ensures p e)) c.bind_names-in-TSEnumDeclaration.ensures.made
 
 pub returns-in-TSEnumMember-clause-entering : goal.returns-in-TSEnumMember-clause-entering
 returns-in-TSEnumMember-clause-entering c = λ ds p e outside within shown.
