@@ -1,5 +1,5 @@
 -- Where a walk stands between two children, in tables that grow.
-use Rattle.std.proofs.Common.{ℕ, ◌<◌, ◌≤◌, Option, Some, None, IfSome, arith}
+use Rattle.std.proofs.Common.{ℕ, ◌<◌, ◌≤◌, length, Option, Some, None, IfSome, arith}
 use Rattle.walk_model.specs.WalkState.{WalkState}
 use Rattle.table_building.specs.Growth.{Goes}
 use Rattle.table_building.proofs.Growing.{grows-refl, grows-trans, goes-refl, goes-trans, waiting_grows}
@@ -18,3 +18,7 @@ turn-goes w v turn g h = record {
 }
 
 pub ruleset going = (goes-refl, goes-trans, waiting_grows, turn-goes, grows-refl, grows-trans)
+
+-- a scope that stands in what is made still stands once the walk has gone on
+pub stands_on : (w v : WalkState) (s : ℕ) → Goes w v → s < length w.tables.scopes → s < length v.tables.scopes
+stands_on w v s g h = omega (arith, g.tables.scopes, h)
