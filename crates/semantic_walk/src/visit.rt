@@ -253,7 +253,7 @@ impl<'a> Walk<'a> {
         ensures given_up { OnErr result (steps.new ≤ raised steps.old (cond (is_in_header parent role && not (has_role (header_roles parent) (forest_of rest.now))) (probes_from self.old.made start own) 0)) }
     {
         if is_in_header(parent, role) && !any_in_header(parent, rest) {
-            self.declared.end_header(own, start, steps)
+            self.end_header(own, start, steps)
         } else {
             Ok(())
         }

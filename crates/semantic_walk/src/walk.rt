@@ -428,6 +428,25 @@ impl<'a> Walk<'a> {
         }
     }
 
+    /// At the end of a header the references that wait since its start are looked up as far as its scope.
+    pub(crate) fn end_header<L>(
+        &mut self,
+        scope: ScopeId,
+        start: usize,
+        steps: &mut Steps<L>,
+    ) -> Result<(), AllocError>
+        requires scope { scope < length self.old.made.tables.scopes }
+        requires start { start ≤ length self.old.made.waiting }
+        ensures made { OnOk result (self.new ≡ record self.old { made = settled_from self.old.made start (map (header_outcome (source_of self.old.made.tables) scope) (drop start self.old.made.waiting)) }) }
+        ensures grows { OnOk result (Grows self.old.made.tables self.new.made.tables) }
+        ensures waiting { OnOk result (start ≤ length self.new.made.waiting) }
+        ensures cost { OnOk result (steps.new ≡ raised steps.old (probes_from self.old.made start scope)) }
+        ensures risen { steps.old ≤ steps.new }
+        ensures given_up { OnErr result (steps.new ≤ raised steps.old (probes_from self.old.made start scope)) }
+    {
+        self.declared.end_header(scope, start, steps)
+    }
+
     /// After the walk every reference that waits is settled.
     pub(crate) fn end<L>(&mut self, steps: &mut Steps<L>) -> Result<(), AllocError>
         ensures made { OnOk result (self.new ≡ record self.old { made = settle_rest self.old.made }) }
