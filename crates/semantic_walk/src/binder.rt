@@ -15,8 +15,6 @@ ghost use Rattle.semantic_model.specs.Declaration.{Declaration};
 ghost use Rattle.semantic_model.specs.Event.{declares_all};
 ghost use Rattle.semantic_model.specs.Fold.{State};
 ghost use Rattle.semantic_model.specs.Hoist.{run};
-ghost use Rattle.namespace_states.specs.InstanceStates.{state_of};
-ghost use Rattle.namespace_states.specs.StatesByMarks.{state_in};
 ghost use Rattle.semantic_model.specs.Step.{entering};
 ghost use Rattle.semantic_model.specs.Binder.{declare, is_statement, variables_under, function_row, own_function_row, parameters_under, imports, member_names, declared_on_entering, declared_on_opening};
 ghost use Rattle.walk_model.specs.Shown.{ShowsChain, HasVar};
@@ -30,10 +28,10 @@ ghost use Rattle.semantic_walk.specs.Ids.{under, HasIds};
 ghost use Rattle.semantic_walk.specs.Binds.{is_bound_inside, declaring, declaring_past, hoisting, moving_one, moving, acting};
 ghost use Rattle.table_building.specs.Growth.{Goes};
 
+use crate::block_target::target_of_function;
 use crate::walk::Walk;
-use namespace_states::ModuleInstanceState;
 use namespace_states::namespace_row::namespace_row;
-use node_rules::bound_identifiers::bound_identifiers;
+use node_rules::bound_identifiers::{BoundIdentifiers, bound_identifiers};
 use node_rules::rows::{self, Row};
 use semantic_syntax::ScopeFlags;
 use semantic_tree::{AstKind, AstType, Mark, Role};
@@ -90,7 +88,7 @@ impl<'a> Walk<'a> {
     {
         match kind.ty() {
             AstType::VariableDeclarator => self.bind_variables(kind),
-            AstType::Class => self.bind_all(kind, rows::class_row(kind)),
+            AstType::Class => self.bind_names(kind, rows::class_row(kind), false),
             AstType::Function => self.bind_function(kind),
             AstType::FormalParameter | AstType::FormalParameterRest => self.bind_parameter(kind),
             AstType::BindingRestElement => self.bind_rest(kind),
@@ -98,10 +96,22 @@ impl<'a> Walk<'a> {
             AstType::ImportSpecifier
             | AstType::ImportDefaultSpecifier
             | AstType::ImportNamespaceSpecifier => self.bind_import(kind),
-            AstType::TSImportEqualsDeclaration => self.bind_all(kind, rows::import_equals_row()),
-            AstType::TSTypeAliasDeclaration => self.bind_all(kind, rows::type_alias_row(kind)),
-            AstType::TSInterfaceDeclaration => self.bind_all(kind, rows::interface_row(kind)),
-            AstType::TSEnumDeclaration => self.bind_all(kind, rows::enum_row(kind)),
+            AstType::TSImportEqualsDeclaration => self.bind_names(
+                kind,
+                rows::import_equals_row(),
+                false,
+            ),
+            AstType::TSTypeAliasDeclaration => self.bind_names(
+                kind,
+                rows::type_alias_row(kind),
+                false,
+            ),
+            AstType::TSInterfaceDeclaration => self.bind_names(
+                kind,
+                rows::interface_row(kind),
+                false,
+            ),
+            AstType::TSEnumDeclaration => self.bind_names(kind, rows::enum_row(kind), false),
             AstType::TSEnumMember => self.bind_member(kind),
             AstType::TSNamespaceDeclaration => self.bind_namespace(kind),
             AstType::TSTypeParameter => self.bind_type_parameter(kind),
@@ -120,15 +130,6 @@ impl<'a> Walk<'a> {
             .declare_names(node, node, self.current_scope, row, is_pure)
     }
 
-    /// Declares all that the node binds, in the current scope.
-    fn bind_all(&mut self, node: AstKind<'a>, row: Row) -> Result<(), AllocError>
-        requires { length self.old.made.tables.symbols + length (bound_names node.node.now) ≤ u32.MAX }
-        ensures made { OnOk result (self.new ≡ declaring self.old (map (named_by node.entry.node.now row false) (bound_names node.entry.node.now))) }
-        ensures goes { OnOk result (Goes self.old.made self.new.made) }
-    {
-        self.bind_names(node, row, false)
-    }
-
     /// Declares the names under one role of the node, in the current scope.
     fn bind_at(&mut self, node: AstKind<'a>, role: Role, row: Row) -> Result<(), AllocError>
         requires { length self.old.made.tables.symbols + length (names_at role node.node.now) ≤ u32.MAX }
@@ -140,7 +141,7 @@ impl<'a> Walk<'a> {
     }
 
     /// Whether the node that is visited stands directly under one of the kind.
-    fn stands_under(&self, kind: AstType) -> bool
+    pub(crate) fn stands_under(&self, kind: AstType) -> bool
         ensures { result ≡ parent_holds (is kind) (parent_in self.now.path) }
     {
         match self.parent() {
@@ -237,6 +238,21 @@ impl<'a> Walk<'a> {
         ensures goes { OnOk result (Goes self.old.made self.new.made) }
     {
         let names = bound_identifiers(self.alloc, function)?;
+        self.bind_block_names(function, &names, row, is_pure)
+    }
+
+    /// The names of such a function.
+    fn bind_block_names(
+        &mut self,
+        function: AstKind<'a>,
+        names: &BoundIdentifiers<'a>,
+        row: Row,
+        is_pure: bool,
+    ) -> Result<(), AllocError>
+        requires { length self.old.made.tables.symbols + length names.now ≤ u32.MAX }
+        ensures made { OnOk result (self.new ≡ moving self.old (map (named_by function.entry.node.now row is_pure) names.now)) }
+        ensures goes { OnOk result (Goes self.old.made self.new.made) }
+    {
         for name in names.iter() {
             self.bind_block_name(function, name, row, is_pure)?;
         }
@@ -255,7 +271,13 @@ impl<'a> Walk<'a> {
         ensures made { OnOk result (self.new ≡ moving_one self.old (named_by function.entry.node.now row is_pure name.entry.node.now)) }
         ensures goes { OnOk result (Goes self.old.made self.new.made) }
     {
-        let target = self.target_of_block_function(name.text())?;
+        let target = target_of_function(
+            self.alloc,
+            &mut self.namesakes,
+            self.declared.scoping(),
+            self.current_scope,
+            name.text(),
+        )?;
         self.declared
             .declare_block_function(function, name, self.current_scope, target, row, is_pure)
     }
@@ -286,7 +308,7 @@ impl<'a> Walk<'a> {
     {
         let is_simple = self.path.is_in_simple(list);
         let row = rows::parameter_row(list, is_simple, self.scope_flags());
-        self.bind_all(parameter, row)
+        self.bind_names(parameter, row, false)
     }
 
     /// A rest element, which declares only directly in a list of parameters: one in a pattern is declared with it.
@@ -297,7 +319,7 @@ impl<'a> Walk<'a> {
         ensures goes { OnOk result (Goes self.old.made self.new.made) }
     {
         if self.stands_under(AstType::FormalParameters) {
-            self.bind_all(rest, rows::rest_row())
+            self.bind_names(rest, rows::rest_row(), false)
         } else {
             Ok(())
         }
@@ -333,13 +355,6 @@ impl<'a> Walk<'a> {
         self.declared.declare_member(member, self.current_scope)
     }
 
-    /// The state of the namespace that is visited (TypeScript's `getModuleInstanceState`).
-    fn state_of_namespace(&self, namespace: AstKind<'a>) -> ModuleInstanceState
-        ensures { state_of result ≡ state_in self.now.states namespace.entry.node.now.node_id }
-    {
-        self.states.state(namespace.node_id())
-    }
-
     /// A namespace: one that is nothing but types is no value (TypeScript's `getModuleInstanceState`).
     fn bind_namespace(&mut self, namespace: AstKind<'a>) -> Result<(), AllocError>
         requires { length self.old.made.tables.symbols + length (bound_names namespace.node.now) ≤ u32.MAX }
@@ -347,8 +362,8 @@ impl<'a> Walk<'a> {
             OnOk result (self.new ≡ acting ds self.old (declared_on_entering p)) }
         ensures goes { OnOk result (Goes self.old.made self.new.made) }
     {
-        let state = self.state_of_namespace(namespace);
-        self.bind_all(namespace, namespace_row(namespace, state))
+        let state = self.states.state(namespace.node_id());
+        self.bind_names(namespace, namespace_row(namespace, state), false)
     }
 
     /// A type parameter, of a list or of `infer` (TypeScript's `bindTypeParameter`).

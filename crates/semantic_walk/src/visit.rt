@@ -99,7 +99,7 @@ impl<'a> Walk<'a> {
             } else {
                 None
             },
-            header_start: self.waiting(),
+            header_start: self.declared.waiting(),
             acts: acts_between(kind),
         }
     }
@@ -135,7 +135,7 @@ impl<'a> Walk<'a> {
         ensures stands { OnOk result (IsTurn self.new.made turn.new) }
         ensures start { OnOk result (turn.old.header_start ≤ turn.new.header_start) }
     {
-        turn.header_start = self.waiting();
+        turn.header_start = self.declared.waiting();
         turn.own = Some(self.open(parent, parent_role)?);
         Ok(())
     }
@@ -318,26 +318,6 @@ impl<'a> Walk<'a> {
         Ok(())
     }
 
-    /// The scope of the node opens behind all children, if it has one and it isn't open.
-    fn open_unopened(
-        &mut self,
-        kind: AstKind<'a>,
-        role: Role,
-        turn: &Turn,
-    ) -> Result<(), AllocError>
-        requires turn { IsTurn self.old.made turn.now }
-        requires ids { turn.now.own ≡ None → opens kind.node.now.kind ≡ true → MayOpen self.old kind.node.now }
-        ensures ends { (ds : List Declaration) (p : Place) (own : Option OpenScope) (n cursor start : ℕ) → p.node ≡ kind.entry.node.now → p.role ≡ role → IsBetweenAt ds self.old turn.now p own n cursor start nothing →
-            OnOk result (self.new ≡ record self.old { made = after_all ds self.old.made (opening_last p own n) }) }
-        ensures goes { OnOk result (Goes self.old.made self.new.made) }
-    {
-        if turn.own.is_none() && opens(kind.ty()) {
-            self.open_empty(kind, role, turn)
-        } else {
-            Ok(())
-        }
-    }
-
     /// A scope without any child inside opens, and closes at once, behind all children.
     fn open_last(&mut self, kind: AstKind<'a>, role: Role, turn: &Turn) -> Result<(), AllocError>
         requires turn { IsTurn self.old.made turn.now }
@@ -346,8 +326,11 @@ impl<'a> Walk<'a> {
             OnOk result (self.new ≡ record self.old { made = after_all ds self.old.made (opening_last p own n) }) }
         ensures goes { OnOk result (Goes self.old.made self.new.made) }
     {
-        if turn.acts {
-            self.open_unopened(kind, role, turn)
+        if !turn.acts {
+            return Ok(());
+        }
+        if turn.own.is_none() && opens(kind.ty()) {
+            self.open_empty(kind, role, turn)
         } else {
             Ok(())
         }
@@ -439,9 +422,10 @@ impl<'a> Walk<'a> {
         ensures made { OnOk result (self.new ≡ past_leaf self.old child.entry.node.now) }
         ensures goes { OnOk result (Goes self.old.made self.new.made) }
     {
-        match child.ty() {
-            AstType::IdentifierReference => self.refer_in_passing(child),
-            _ => Ok(()),
+        if child.ty() == AstType::IdentifierReference {
+            self.refer_in_passing(child)
+        } else {
+            Ok(())
         }
     }
 

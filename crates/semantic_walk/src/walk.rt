@@ -41,7 +41,6 @@ ghost use Rattle.semantic_walk.specs.Binds.{block_target, is_bound_inside, actin
 ghost use Rattle.semantic_walk.specs.AtPlace.{ComesTo, IsWithin, IsShown, entered, kept_at, left_at};
 
 use crate::analysis::Analysis;
-use crate::block_target::stand_on;
 use crate::on_leaving::tell_leaving;
 use crate::path::Path;
 use crate::settings::{Room, Settings};
@@ -54,12 +53,11 @@ use node_rules::even::acts_on_entering;
 use node_rules::rows::is_statement;
 use node_rules::scope_kind::{flags_of, root_flags};
 use semantic_diagnostics::Diagnostics;
-use semantic_syntax::{Ident, ReferenceFlags, ScopeFlags, ScopeId, SourceType, Steps};
+use semantic_syntax::{ReferenceFlags, ScopeFlags, ScopeId, SourceType, Steps};
 use semantic_tree::{AstKind, AstType, Mark, Program, Role};
 use std::alloc::{AllocError, Global};
 use std::marker::Model;
 use table_building::declared::Declared;
-use table_building::route::Route;
 use walk_notes::notes::{is_noted, is_noted_behind};
 use walk_notes::{LazyNamesakes, Notes};
 
@@ -138,7 +136,6 @@ impl<'a> Walk<'a> {
     {
         let source_type = program.source_type();
         let root = program.root();
-        let namesakes = LazyNamesakes::new(alloc, program);
         let states = NamespaceStates::of_namespaces(alloc, program)?;
         let declared = Declared::new(alloc, root, root_flags(root, source_type))?;
         Ok(Walk {
@@ -146,7 +143,7 @@ impl<'a> Walk<'a> {
             source_type,
             states,
             declared,
-            namesakes,
+            namesakes: LazyNamesakes::new(alloc, program),
             path: Path::new(alloc, settings.build_nodes),
             current_scope: ScopeId::new(0),
             current_reference_flags: ReferenceFlags::empty(),
@@ -186,7 +183,6 @@ impl<'a> Walk<'a> {
     }
 
     /// Notes what is entered of classes and labels.
-    #[tactic(auto, using(crate::proofs::Going::going, walk_notes::proofs::Unnoted::silent))]
     fn note(&mut self, kind: AstKind<'a>) -> Result<(), AllocError>
         ensures made { OnOk result (self.new ≡ record self.old { notes = noting (parent_in self.old.path) kind.entry.node.now self.old.notes }) }
         ensures goes { OnOk result (Goes self.old.made self.new.made) }
@@ -200,7 +196,6 @@ impl<'a> Walk<'a> {
     }
 
     /// Notes what is left of classes and labels.
-    #[tactic(auto, using(crate::proofs::Going::going, walk_notes::proofs::Unnoted::silent))]
     fn note_behind(&mut self, kind: AstKind<'a>) -> Result<(), AllocError>
         ensures made { OnOk result (self.new ≡ record self.old { notes = leaving_notes kind.entry.node.now self.old.notes }) }
         ensures goes { OnOk result (Goes self.old.made self.new.made) }
@@ -229,9 +224,10 @@ impl<'a> Walk<'a> {
         ensures made { OnOk result (self.new ≡ cond (is identifier_reference kind.entry.node.now) (referring self.old kind.entry.node.now) self.old) }
         ensures goes { OnOk result (Goes self.old.made self.new.made) }
     {
-        match kind.ty() {
-            AstType::IdentifierReference => self.refer(kind),
-            _ => Ok(()),
+        if kind.ty() == AstType::IdentifierReference {
+            self.refer(kind)
+        } else {
+            Ok(())
         }
     }
 
@@ -332,17 +328,9 @@ impl<'a> Walk<'a> {
     fn is_catch_body(&self, kind: AstKind<'a>, role: Role) -> bool
         ensures { result ≡ is_catch_body (place_in self.now role kind.entry.node.now) }
     {
-        kind.ty() == AstType::BlockStatement && role == Role::Body && self.is_in_clause()
-    }
-
-    /// Whether the parent of the node that is visited is a catch clause.
-    fn is_in_clause(&self) -> bool
-        ensures { result ≡ parent_holds (is catch_clause) (parent_in self.now.path) }
-    {
-        match self.parent() {
-            Some(parent) => parent.ty() == AstType::CatchClause,
-            None => false,
-        }
+        kind.ty() == AstType::BlockStatement
+            && role == Role::Body
+            && self.stands_under(AstType::CatchClause)
     }
 
     /// The scope of a catch clause's body, which binds nothing yet, takes over what the clause binds (ECMAScript
@@ -359,24 +347,6 @@ impl<'a> Walk<'a> {
         } else {
             Ok(())
         }
-    }
-
-    /// Where a function in a block of sloppy code moves (ECMAScript, Annex B.3.2): to the nearest function, unless a
-    /// namesake stands between, wherever that is written.
-    pub(crate) fn target_of_block_function(
-        &mut self,
-        name: Ident<'_>,
-    ) -> Result<Option<ScopeId>, AllocError>
-        ensures stays { self.new ≡ self.old }
-        ensures target { IfOk result (λ o. o ≡ block_target self.old.made.tables self.old.namesakes self.old.current (chars name.entry.text.now)) }
-        ensures within { IfOk result (λ o. IfSome o (λ s. s < length self.old.made.tables.scopes)) }
-    {
-        let block = self.current_scope;
-        let scoping = self.declared.scoping();
-        let route = Route::outward(self.alloc, scoping, block, ScopeFlags::Var)?;
-        let target = route.target;
-        let stands = stand_on(&mut self.namesakes, &route, scoping, name)?;
-        Ok(if stands { None } else { Some(target) })
     }
 
     /// Closes the scope: a direct call of `eval` inside counts for the scope around it, too (ECMAScript 19.2.1.1,
@@ -485,13 +455,6 @@ impl<'a> Walk<'a> {
         ensures given_up { OnErr result (steps.new ≤ raised steps.old (probes_in_end self.old.made)) }
     {
         self.declared.settle_rest(steps)
-    }
-
-    /// How many references wait.
-    pub(crate) fn waiting(&self) -> usize
-        ensures { result ≡ length self.now.made.waiting }
-    {
-        self.declared.waiting()
     }
 
     /// Tells the conflicts that are left.

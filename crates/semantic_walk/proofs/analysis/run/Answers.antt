@@ -1,4 +1,4 @@
-use Rattle.std.proofs.Common.{◌≡◌, Option, Some, None, true, length, ap, sym, subst, refl, List, ◌∙◌, arith}
+use Rattle.std.proofs.Common.{◌≡◌, ◌≤◌, ℕ, Option, Some, None, true, length, ap, sym, subst, refl, List, ◌∙◌, arith}
 use Rattle.semantic_syntax.specs.Counts.{raised}
 use Rattle.semantic_syntax.specs.Tables.{Tables}
 use Rattle.semantic_syntax.proofs.Results.{on_err}
@@ -34,6 +34,9 @@ use Rattle.semantic_walk.proofs.Counting.{on_success}
 use Rattle.semantic_walk.proofs.RootCount.{root_over_asks, root_counts, root_given_up, end_given_up}
 use Rattle.semantic_walk.proofs.analysis.run.Given as given
 use Rattle.semantic_walk.proofs.analysis.run.Goals as goal
+
+through : (a b d : ℕ) → a ≤ b → b ≤ d → a ≤ d
+through a b d h k = omega arith
 
 -- what the steps of a program may name, and the scope of its root
 abbrev names_of : Tree → List Declaration
@@ -185,3 +188,15 @@ returns-in_err-visit-clause-given_up g c =
     on_err c.from_residual-in_err-visit.result
     (root_given_up program start.fits c.args.settings c.reserve.new.self start.begins c.args.steps.now c.visit.new.steps
     (c.in_err-visit.ensures.given_up (names_of program) (root_place program) (root_own program) 1 (sym c.root-root.ensures.root) refl start.coming))
+
+pub returns-clause-risen : goal.returns-clause-risen
+returns-clause-risen g c = through _ _ _ c.in_ok-visit.ensures.risen c.in_ok-end.ensures.risen
+
+pub returns-in_err-leave-clause-risen : goal.returns-in_err-leave-clause-risen
+returns-in_err-leave-clause-risen g c = through _ _ _ c.in_ok-visit.ensures.risen c.in_ok-end.ensures.risen
+
+pub returns-in_err-end-clause-risen : goal.returns-in_err-end-clause-risen
+returns-in_err-end-clause-risen g c = through _ _ _ c.in_ok-visit.ensures.risen c.end.ensures.risen
+
+pub returns-in_err-visit-clause-risen : goal.returns-in_err-visit-clause-risen
+returns-in_err-visit-clause-risen g c = c.visit.ensures.risen

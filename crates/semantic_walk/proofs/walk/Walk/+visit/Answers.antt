@@ -31,6 +31,12 @@ use Rattle.semantic_walk.proofs.walk.Walk.+visit.Given as given
 use Rattle.semantic_walk.proofs.walk.Walk.+visit.Goals.{At-loop-child_role, After-new-child, In_ok-begin_child, In_default}
 use Rattle.semantic_walk.proofs.walk.Walk.+visit.Goals as goal
 
+through : (a b d : ℕ) → a ≤ b → b ≤ d → a ≤ d
+through a b d h k = omega arith
+
+shorter : (x : Role × Node) (xs ys : List (Role × Node)) → xs ≡ x ∷ ys → length ys < length xs
+shorter x xs ys e = rw e (omega arith)
+
 -- the walk has come to the node at a place
 abbrev somewhere : {w : Walker} {x : Node} {role : Role} (ds : List Declaration) (p : Place) (own : Option OpenScope) (n : ℕ) → p.node ≡ x → p.role ≡ role → IsComing ds w p own n → IsSomewhere w x role
 somewhere ds p own n node role coming = record { ds = ds; place = p; own = own; next = n; node_is = node; role_is = role; coming = coming }
@@ -158,10 +164,10 @@ loop-child_role-preserved g t c =
             (grows-trans c.enter.new.self.made.tables w.made.tables v.made.tables c.loop-child_role.invariant.goes.tables c.in_ok-begin_child.ensures.goes.tables) c.in_ok-visit.ensures.goes.tables)
             c.in_ok-leave.ensures.goes.tables)
             c.in_ok-finish_child.ensures.grows;
-        waiting = omega (arith, c.loop-child_role.invariant.start, c.in_ok-begin_child.ensures.start, c.in_ok-finish_child.ensures.stands.start);
+        waiting = through _ _ _ c.loop-child_role.invariant.start (through _ _ _ c.in_ok-begin_child.ensures.start c.in_ok-finish_child.ensures.stands.start);
       };
-      start = omega (arith, c.loop-child_role.invariant.start, c.in_ok-begin_child.ensures.start);
-      risen = omega (arith, c.loop-child_role.invariant.risen, c.in_ok-visit.ensures.risen, c.in_ok-finish_child.ensures.risen);
+      start = through _ _ _ c.loop-child_role.invariant.start c.in_ok-begin_child.ensures.start;
+      risen = through _ _ _ c.loop-child_role.invariant.risen (through _ _ _ c.in_ok-visit.ensures.risen c.in_ok-finish_child.ensures.risen);
       rests = λ ds p own n node role coming.
           let r = somewhere ds p own n node role coming in
           let k = comes_here g t at.In_ok-begin_child r (rests_here g t at.After-new-child r) in
@@ -314,3 +320,53 @@ returns-then-not-acts_between-clause-leaves g t c = λ ds p own n node role comi
 pub returns-then-not-acts_between-clause-cost : goal.returns-then-not-acts_between-clause-cost
 returns-then-not-acts_between-clause-cost g t c = λ ds p own n node role coming.
     asks_alone ds c.args.self.now p own n coming (leaf g t c p node) (even g t c p node) c.enter.new.self (c.in_ok-enter.ensures.walks ds p node coming.comes coming.shown) c.args.steps.now
+
+-- the turn stands throughout
+pub begin_child-requires-clause-turn : goal.begin_child-requires-clause-turn
+begin_child-requires-clause-turn g t c = c.loop-child_role.invariant.turn
+
+pub begin_child-requires-clause-alike : goal.begin_child-requires-clause-alike
+begin_child-requires-clause-alike g t c = c.stands_alike-alike.ensures
+
+pub finish_child-requires : goal.finish_child-requires
+finish_child-requires g t c =
+    turn-goes c.begin_child.new.self.made c.leave.new.self.made c.begin_child.new.turn
+    (goes-trans c.begin_child.new.self.made c.visit.new.self.made c.leave.new.self.made c.in_ok-visit.ensures.goes c.in_ok-leave.ensures.goes) c.in_ok-begin_child.ensures.stands
+
+pub open_last-requires-clause-turn : goal.open_last-requires-clause-turn
+open_last-requires-clause-turn g t c = c.loop-child_role.invariant.turn
+
+pub returns-clause-goes : goal.returns-clause-goes
+returns-clause-goes g t c =
+    on_ok c.open_last.result c.open_last.ensures.goes
+    (λ last. goes-trans c.args.self.now.made c.loop-child_role.self.made c.open_last.new.self.made
+    (goes-trans c.args.self.now.made c.enter.new.self.made c.loop-child_role.self.made c.in_ok-enter.ensures.goes c.loop-child_role.invariant.goes) last)
+
+pub returns-then-not-acts_between-clause-goes : goal.returns-then-not-acts_between-clause-goes
+returns-then-not-acts_between-clause-goes g t c = c.in_ok-enter.ensures.goes
+
+-- what is asked never falls
+pub returns-clause-risen : goal.returns-clause-risen
+returns-clause-risen g t c = c.loop-child_role.invariant.risen
+
+pub returns-in_err-pass-clause-risen : goal.returns-in_err-pass-clause-risen
+returns-in_err-pass-clause-risen g t c = c.loop-child_role.invariant.risen
+
+pub returns-in_err-begin_child-clause-risen : goal.returns-in_err-begin_child-clause-risen
+returns-in_err-begin_child-clause-risen g t c = c.loop-child_role.invariant.risen
+
+pub returns-in_err-visit-clause-risen : goal.returns-in_err-visit-clause-risen
+returns-in_err-visit-clause-risen g t c = through _ _ _ c.loop-child_role.invariant.risen c.visit.ensures.risen
+
+pub returns-in_err-leave-clause-risen : goal.returns-in_err-leave-clause-risen
+returns-in_err-leave-clause-risen g t c = through _ _ _ c.loop-child_role.invariant.risen c.in_ok-visit.ensures.risen
+
+pub returns-in_err-finish_child-clause-risen : goal.returns-in_err-finish_child-clause-risen
+returns-in_err-finish_child-clause-risen g t c = through _ _ _ c.loop-child_role.invariant.risen (through _ _ _ c.in_ok-visit.ensures.risen c.finish_child.ensures.risen)
+
+-- and less is left
+pub loop-child_role-smaller : goal.loop-child_role-smaller
+loop-child_role-smaller g t c = shorter _ _ _ c.in-Some.ensures.cases.0
+
+pub loop-child_role-smaller-then-passes : goal.loop-child_role-smaller-then-passes
+loop-child_role-smaller-then-passes g t c = shorter _ _ _ c.in-Some.ensures.cases.0

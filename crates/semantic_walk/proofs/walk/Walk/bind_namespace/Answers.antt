@@ -12,8 +12,8 @@ use Rattle.semantic_walk.proofs.walk.Walk.bind_namespace.Goals as goal
 pub returns-clause-made : goal.returns-clause-made
 returns-clause-made c = λ ds p e within k stated.
     let w : Walker = c.args.self.now in
-    let state : state_of c.state_of_namespace-state.result ≡ instance_state p.node p.path (nodes_around p.node p.path) =
-    c.state_of_namespace-state.ensures ∙ ap (λ (n : Node). state_in w.states n.node_id) (sym e) ∙ stated (ap (λ j. same_kind j kind.TSNamespaceDeclaration) k) in
-    on_ok_same c.bind_all.result c.bind_all.new.self _ _
-    (namespace_acts ds c.args.self.now p within c.args.namespace.node.now c.namespace_row.result (state_of c.state_of_namespace-state.result) e k (c.namespace_row.ensures p e) state)
-    c.bind_all.ensures.made
+    let state : state_of c.state-state.result ≡ instance_state p.node p.path (nodes_around p.node p.path) =
+    c.state-state.ensures ∙ ap (λ ss. state_in ss c.node_id.result) (ap (λ (v : Walker). v.states) c.self.view_is) ∙ ap (state_in w.states) c.node_id.ensures ∙ ap (λ (n : Node). state_in w.states n.node_id) (sym e) ∙ stated (ap (λ j. same_kind j kind.TSNamespaceDeclaration) k) in
+    on_ok_same c.bind_names.result c.bind_names.new.self _ _
+    (namespace_acts ds c.args.self.now p within c.args.namespace.node.now c.namespace_row.result (state_of c.state-state.result) e k (c.namespace_row.ensures p e) state)
+    c.bind_names.ensures.made

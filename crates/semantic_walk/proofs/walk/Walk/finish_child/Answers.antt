@@ -9,7 +9,9 @@ use Rattle.walk_model.specs.Waits.{HoldsAt}
 use Rattle.count_model.specs.Probes.{probes_of_steps}
 use Rattle.count_model.proofs.StepSums.{raised_none}
 use Rattle.node_rules.specs.EvenKinds.{acts_between}
+use Rattle.table_building.proofs.Growing.{goes-trans, grows-trans}
 use Rattle.semantic_walk.specs.Walker.{Walker}
+use Rattle.semantic_walk.proofs.Going.{turn-goes}
 use Rattle.semantic_walk.proofs.walk.Walk.finish_child.Given as given
 use Rattle.semantic_walk.proofs.EvenNodes.{ends_alike, none_ends}
 use Rattle.semantic_walk.proofs.Visiting.{held_behind, ends_behind}
@@ -55,3 +57,27 @@ returns-else-turn-clause-cost g c = λ ds p own start kind turn holds.
     let even : acts_between p.node.kind ≡ false = sym turn.acts ∙ c.if-turn.false in
     sym (raised_none c.args.steps.now)
     ∙ ap (λ (xs : List Step). raised c.args.steps.now (probes_of_steps ds c.args.self.now.made xs)) (sym (none_ends p even c.args.role own (forest_of c.args.rest.now)))
+
+pub come_back-requires : goal.come_back-requires
+come_back-requires g c = c.requires
+
+pub end_child-requires : goal.end_child-requires
+end_child-requires g c = turn-goes c.args.self.now.made c.turn_cursor.new.self.made c.args.turn.now (goes-trans c.args.self.now.made c.come_back.new.self.made c.turn_cursor.new.self.made c.come_back.ensures.goes c.turn_cursor.ensures.goes) c.requires
+
+pub returns-then-turn-clause-stands : goal.returns-then-turn-clause-stands
+returns-then-turn-clause-stands g c = c.end_child.ensures.stands
+
+pub returns-then-turn-clause-risen : goal.returns-then-turn-clause-risen
+returns-then-turn-clause-risen g c = c.end_child.ensures.risen
+
+pub returns-then-turn-clause-grows : goal.returns-then-turn-clause-grows
+returns-then-turn-clause-grows g c =
+    on_ok_weaker c.end_child.result
+    (grows-trans c.args.self.now.made.tables c.turn_cursor.new.self.made.tables c.end_child.new.self.made.tables (goes-trans c.args.self.now.made c.come_back.new.self.made c.turn_cursor.new.self.made c.come_back.ensures.goes c.turn_cursor.ensures.goes).tables)
+    c.end_child.ensures.grows
+
+pub returns-else-turn-clause-stands : goal.returns-else-turn-clause-stands
+returns-else-turn-clause-stands g c = turn-goes c.args.self.now.made c.come_back.new.self.made c.args.turn.now c.come_back.ensures.goes c.requires
+
+pub returns-else-turn-clause-grows : goal.returns-else-turn-clause-grows
+returns-else-turn-clause-grows g c = c.come_back.ensures.goes.tables

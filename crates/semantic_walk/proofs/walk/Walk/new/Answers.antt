@@ -25,8 +25,8 @@ returns-clause-begins c =
     let made : c.in_ok-declared.declared ≡ open_scope nothing_made (root_place program) (root_scope (root_place program)) =
     made_first program is_program nothing_made c.in_ok-declared.declared c.root-root.result.node.now c.source_type-source_type.result c.root_flags.result.bits refl c.root-root.ensures.root
     c.source_type-source_type.ensures c.root_flags.ensures c.in_ok-declared.ensures in
-    begins program _ c.args.settings.build_nodes (notes_classes c.args.settings) c.args.settings.checks made c.source_type-source_type.ensures (ap (λ (way : Way). way.nodes) c.new-2.ensures) c.new-3.ensures c.empty.ensures
-    (c.is_typescript_definition.ensures ∙ ap is_typescript_definition c.source_type-source_type.ensures) (ap (λ (way : Way). way.entered) c.new-2.ensures) (c.new-4.ensures ∙ ap nothing_noted c.notes_classes.ensures) c.source_text.ensures.bytes refl c.new-5.ensures refl
+    begins program _ c.args.settings.build_nodes (notes_classes c.args.settings) c.args.settings.checks made c.source_type-source_type.ensures (ap (λ (way : Way). way.nodes) c.new-3.ensures) c.new-4.ensures c.empty.ensures
+    (c.is_typescript_definition.ensures ∙ ap is_typescript_definition c.source_type-source_type.ensures) (ap (λ (way : Way). way.entered) c.new-3.ensures) (c.new-5.ensures ∙ ap nothing_noted c.notes_classes.ensures) c.source_text.ensures.bytes refl c.new-6.ensures refl
 
 pub returns-clause-states : goal.returns-clause-states
 returns-clause-states c = c.in_ok-states.ensures.searched
@@ -39,4 +39,4 @@ barred_by ws false opener name = refl
 pub returns-clause-names : goal.returns-clause-names
 returns-clause-names c = λ opener name.
     let program : Tree = c.args.program.now in
-    ap (λ (ws : List Written). is_written ws opener name) c.new-namesakes.ensures ∙ barred_by (names_written program) (is_sloppy program.source_type) opener name
+    ap (λ (ws : List Written). is_written ws opener name) c.new-2.ensures ∙ barred_by (names_written program) (is_sloppy program.source_type) opener name

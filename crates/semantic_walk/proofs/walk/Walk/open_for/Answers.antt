@@ -14,3 +14,20 @@ returns-then-is_inside-clause-opens c = λ ds p own n cursor start f same in_rol
     let var = stands_var ds w turn p n cursor start c.args.role f own between absent in
     on_ok_both c.open_own.result (c.open_own.ensures.opens ds p same in_role between.within between.between.stands.chain var) c.open_own.ensures.own
     (λ opens goes. opened_turn ds w turn p n cursor start c.args.role f own between absent inside _ _ opens goes)
+
+pub open_own-requires-clause-turn : goal.open_own-requires-clause-turn
+open_own-requires-clause-turn c = c.requires.turn
+
+pub open_own-requires-clause-ids : goal.open_own-requires-clause-ids
+open_own-requires-clause-ids c =
+    c.requires.ids (none_there c.args.turn.now.own (c.is_none.ensures ∙ ap not c.if-is_none.true))
+    (ap (λ k. is_inside k c.args.role) (sym c.ty.ensures) ∙ sym c.is_inside.ensures ∙ c.if-is_inside.true)
+
+pub returns-then-is_inside-clause-goes : goal.returns-then-is_inside-clause-goes
+returns-then-is_inside-clause-goes c = c.open_own.ensures.goes
+
+pub returns-then-is_inside-clause-stands : goal.returns-then-is_inside-clause-stands
+returns-then-is_inside-clause-stands c = c.open_own.ensures.stands
+
+pub returns-then-is_inside-clause-start : goal.returns-then-is_inside-clause-start
+returns-then-is_inside-clause-start c = c.open_own.ensures.start

@@ -7,7 +7,7 @@ use Rattle.table_building.proofs.Growing.{goes-trans}
 use Rattle.semantic_walk.specs.Binds.{moving}
 use Rattle.semantic_walk.specs.Walker.{Walker}
 use Rattle.semantic_walk.proofs.MovedNames.{move_adds}
-use Rattle.semantic_walk.proofs.walk.Walk.bind_block_function.Goals as goal
+use Rattle.semantic_walk.proofs.walk.Walk.bind_block_names.Goals as goal
 
 pub loop-name-preserved : goal.loop-name-preserved
 loop-name-preserved c =
