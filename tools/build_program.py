@@ -9,6 +9,7 @@ done. A build that fails ends with its log, and with status 1."""
 import contextlib
 import hashlib
 import os
+import re
 import shutil
 import signal
 import subprocess
@@ -25,6 +26,11 @@ LOOKS_EVERY = 0.2
 
 # The memory that a proof may take, in bytes.
 MEMORY_OF_PROOF = 3_000_000_000
+
+# What a crate's proof takes grows with its functions, and with the lines of its definitions and lemmas, so many of which take as
+# long as a function.
+FUNCTION = re.compile(rb"\bfn \w")
+LINES_FOR_FUNCTION = 180
 
 
 def crates_listed():
@@ -72,13 +78,23 @@ def checksum(named, crates):
     return made.hexdigest()
 
 
-def chains(named, crates):
-    """The lines of each crate and of the longest chain of crates above it: the longer, the sooner it is to be proved."""
-    lines = {it: sum(bytes_in(path).count(b"\n") for path in files_of(it)) for it in crates}
-    behind = dict(lines)
+def work_of(crate):
+    """What a proof of the crate takes, reckoned in functions: a lemma is cheap, and some lines of them count as one function."""
+    functions, lines = 0, 0
+    for path in files_of(crate):
+        if path.endswith(".rt"):
+            functions += len(FUNCTION.findall(bytes_in(path)))
+        else:
+            lines += bytes_in(path).count(b"\n")
+    return functions + lines // LINES_FOR_FUNCTION + 1
+
+
+def chains(named, crates, work):
+    """The work of each crate and of the longest chain of crates above it: the longer, the sooner it is to be proved."""
+    behind = {it: work[it] for it in crates}
     for crate in reversed(crates):
         for below in named[crate]:
-            behind[below] = max(behind[below], lines[below] + behind[crate])
+            behind[below] = max(behind[below], work[below] + behind[crate])
     return behind
 
 
@@ -140,7 +156,8 @@ class Build:
             made[name] = Crate(name, [made[it] for it in in_order(named, name, [])[:-1]])
         self.libraries = [made[it] for it in crates[:-1]]
         self.last = made[crates[-1]]
-        self.behind = chains(named, crates)
+        self.work = {it: work_of(it) for it in crates}
+        self.behind = chains(named, crates, self.work)
         memory = os.sysconf("SC_PAGE_SIZE") * os.sysconf("SC_PHYS_PAGES")
         self.processors = min(len(os.sched_getaffinity(0)), max(memory // MEMORY_OF_PROOF, 1))
         self.copies = [copy_of(f"{room}/{number}", crates) for number in range(self.processors)]
@@ -153,19 +170,22 @@ class Build:
         print(f"{self.last.name}: {what} ({done} of {len(self.libraries) + 1} crates done, {minutes} minutes so far)", flush=True)
 
     def start_ready(self):
-        """Starts the crates that wait for none, that with the longest chain above first. That one gets the processors which
-        the others leave idle: while the lowest crates are proved there is little beside them."""
+        """Starts the crates that wait for none, that with the longest chain above first, at most one for each processor. That one
+        gets a job for each processor if its chain is what all waits for, and else those which the others leave idle."""
         at_work = [it for it in self.libraries if it.running]
-        free = self.processors - sum(it.jobs for it in at_work)
+        idle = self.processors - sum(it.jobs for it in at_work)
         ready = sorted((it for it in self.libraries if it.is_ready()), key=lambda it: -self.behind[it.name])
         places = [it for it in self.copies if it not in [other.at for other in at_work]]
-        for others, crate in zip(reversed(range(len(ready))), ready):
-            if free < 1:
-                break
-            jobs = max(free - others, 1)
+        for others, crate in zip(reversed(range(len(ready))), ready[: len(places)]):
+            is_awaited = crate is ready[0] and self.behind[crate.name] >= self.left() / self.processors
+            jobs = self.processors if is_awaited else max(idle - others, 1)
             crate.start("lib", places.pop(), jobs)
             self.say(f"proving {crate.name}")
-            free -= jobs
+            idle -= jobs
+
+    def left(self):
+        """The work of all that isn't done."""
+        return sum(self.work[it.name] for it in [*self.libraries, self.last] if not it.is_done)
 
     def look(self):
         """Notes which proofs ended, and gives the crate of one that failed, if any did."""

@@ -6,7 +6,7 @@ use Rattle.semantic_kinds.specs.declared.role.Role.TheVariants as role
 use Rattle.semantic_tree.specs.declared.node.Node.{Node}
 use Rattle.semantic_syntax.specs.Tables.{Name}
 use Rattle.semantic_tree.specs.Views.{is, child_of, children_of}
-use Rattle.program_names.specs.Exported.{declared_names}
+use Rattle.semantic_model.specs.Exported.{declared_names}
 use Rattle.link_model.specs.Module.{Analysed, Below, nodes_of, text_or_empty, source_text}
 
 -- how a name is exported

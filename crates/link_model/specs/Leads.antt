@@ -5,7 +5,7 @@ use Rattle.semantic_tree.specs.declared.node.Node.{Node}
 use Rattle.semantic_syntax.specs.Tables.{Name}
 use Rattle.semantic_tree.specs.Views.{is as is_kind}
 use Rattle.semantic_model.specs.TablesOf.{is_symbol}
-use Rattle.program_names.specs.Analysis.{Analysis, symbol_at, tied_at}
+use Rattle.semantic_model.specs.Analysis.{Analysis, symbol_at, tied_at}
 use Rattle.link_model.specs.Module.{Analysed, module_names, named, source_text}
 use Rattle.link_model.specs.Imports.{Import, Wanted, one, whole, imports}
 use Rattle.link_model.specs.Exports.{Exported, listed, passed_on, collected, declared, by_default, Export, exports, export_of, stars}

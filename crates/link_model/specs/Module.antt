@@ -7,7 +7,7 @@ use Rattle.semantic_tree.specs.declared.node.Node.{Node}
 use Rattle.semantic_syntax.specs.Tables.{Name}
 use Rattle.semantic_tree.specs.Views.{child_of}
 use Rattle.module_set.specs.declared.modules.Module.{Module}
-use Rattle.program_names.specs.Analysis.{Analysis, analysis_of}
+use Rattle.semantic_model.specs.Analysis.{Analysis, analysis_of}
 
 -- a module with the analysis of its program
 pub record Analysed : Type 0 where

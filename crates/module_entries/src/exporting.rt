@@ -4,7 +4,7 @@ ghost use Rattle.std.specs.Option.{is_some};
 ghost use Rattle.semantic_kinds.specs.declared.role.Role.TheVariants as role;
 ghost use Rattle.semantic_model.specs.Names.{bound_names};
 ghost use Rattle.semantic_tree.specs.Views.{child_of, children_of};
-ghost use Rattle.program_names.specs.Exported.{declared_names};
+ghost use Rattle.semantic_model.specs.Exported.{declared_names};
 ghost use Rattle.link_model.specs.Exports.{exports_of_node};
 ghost use Rattle.module_entries.specs.Entries.{seen, with_exports, exports_in};
 ghost use Rattle.module_entries.specs.Views.{export_of};

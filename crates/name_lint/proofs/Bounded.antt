@@ -27,7 +27,7 @@ use Rattle.semantic_model.proofs.fold.Changes.{HasName}
 use Rattle.semantic_model.proofs.fold.Orders.{HasForm, sound_program}
 use Rattle.semantic_model.proofs.form.Shape.{has_form}
 use Rattle.semantic_model.proofs.fits.TablesFit.{tables_fit}
-use Rattle.program_names.specs.Analysis.{Analysis, analysis_of, symbol_at}
+use Rattle.semantic_model.specs.Analysis.{Analysis, analysis_of, symbol_at}
 use Rattle.name_lint.specs.Uses.{owner_of, owner_on, owners, is_counted, used_symbol, use_of, uses_by}
 use Rattle.name_lint.specs.Live.{is_sure, sure_from, free_use, owned_use, exports}
 use Rattle.name_lint.specs.Undeclared.{reference_names}

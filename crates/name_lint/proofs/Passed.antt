@@ -14,7 +14,7 @@ use Rattle.semantic_model.specs.ScopeKind.{opened_scope}
 use Rattle.semantic_model.specs.Cursor.{on_entering}
 use Rattle.semantic_model.specs.Step.{Step, entering, opening, leaving, header_ending, closing, opening_at, ending_after, opening_last, steps_below, root_place, steps}
 use Rattle.semantic_model.proofs.steps.Turn.{Turn, turn_at}
-use Rattle.program_names.specs.Analysis.{Analysis, symbol_at}
+use Rattle.semantic_model.specs.Analysis.{Analysis, symbol_at}
 use Rattle.name_lint.specs.Uses.{own_name, or_further, owner_on, owner_of, owners}
 use Rattle.name_lint.specs.Undeclared.{reference_names, reference_spans}
 use Rattle.name_lint.specs.Gathered.{Gathered, nothing_gathered, symbol_or, owner_inside, gathered_at, gathered_below, gathered_from, gathered_by}

@@ -13,7 +13,7 @@ use Rattle.semantic_model.specs.NodeTable.{Belongs, node_tables, number_of}
 use Rattle.semantic_model.specs.Step.{steps}
 use Rattle.semantic_model.specs.TablesOf.{tables_of}
 use Rattle.semantic.specs.Shown.{entries}
-use Rattle.program_names.specs.Analysis.{analysis_of, symbol_at}
+use Rattle.semantic_model.specs.Analysis.{analysis_of, symbol_at}
 use Rattle.name_lint.specs.Gathered.{Gathered, nothing_gathered, symbol_in, text_of, gathered_from, gathered_by}
 use Rattle.name_lint.specs.Live.{AreOutside, AreUnused, exports}
 use Rattle.name_lint.specs.Undeclared.{undeclared_from, undeclared, reference_names}

@@ -12,7 +12,7 @@ use Rattle.semantic_tree.specs.Tree.{Tree}
 use Rattle.scoping.specs.NodeEntries.{NodeEntries}
 use Rattle.semantic_tree.specs.Views.{is}
 use Rattle.semantic_model.specs.Step.{Step, steps}
-use Rattle.program_names.specs.Analysis.{Analysis, analysis_of}
+use Rattle.semantic_model.specs.Analysis.{Analysis, analysis_of}
 use Rattle.name_lint.specs.Uses.{own_name, owners}
 use Rattle.name_lint.specs.Undeclared.{reference_names, reference_spans}
 

@@ -9,8 +9,8 @@ use Rattle.semantic_tree.specs.Tree.{Tree}
 use Rattle.semantic_model.specs.Step.{Step, steps}
 use Rattle.semantic_model.specs.TablesOf.{tables_of}
 use Rattle.reachability.specs.Rows.{Among, Reached, rows_of}
-use Rattle.program_names.specs.Analysis.{Analysis, analysis_of, symbol_at}
-use Rattle.program_names.specs.Exported.{exported_names, default_exported_names}
+use Rattle.semantic_model.specs.Analysis.{Analysis, analysis_of, symbol_at}
+use Rattle.semantic_model.specs.Exported.{exported_names, default_exported_names}
 use Rattle.name_lint.specs.Uses.{Use, uses_by, owners}
 
 -- whether a symbol is in use for what it is: a member of an enum, the name of a function expression, one that is only declared, or one that a direct call of `eval` may name

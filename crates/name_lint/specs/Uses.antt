@@ -8,7 +8,7 @@ use Rattle.semantic_syntax.specs.declared.reference_flags.TheConstants.Reference
 use Rattle.semantic_tree.specs.declared.node.Node.{Node}
 use Rattle.semantic_tree.specs.Views.{is, has_text, child_of}
 use Rattle.semantic_model.specs.Step.{Step, entering}
-use Rattle.program_names.specs.Analysis.{Analysis, symbol_at}
+use Rattle.semantic_model.specs.Analysis.{Analysis, symbol_at}
 
 -- a function or class declaration
 abbrev pub is_declaration : Node → Bool

@@ -13,12 +13,12 @@ use Rattle.semantic_tree.specs.Tree.{Tree, IsNumbered}
 use Rattle.semantic_tree.specs.declared.node.Node.{Node}
 use Rattle.semantic_model.specs.Entries.{Among}
 use Rattle.semantic_model.specs.Namespace.{InstanceState, non_instantiated, const_enum_only, instantiated, Item, greater, instance_state, nodes_around}
-use Rattle.namespace_laws.specs.Reaches.{Reaches, itself, onward, LeadsTo, CountsAs, IsGreatestReached, statement_at}
-use Rattle.namespace_laws.specs.Statements.{items_from}
-use Rattle.namespace_laws.proofs.Standing.{apart, below_count}
-use Rattle.namespace_laws.proofs.Closed.{closed, leads-within}
-use Rattle.namespace_laws.proofs.Around.{place-in}
-use Rattle.namespace_laws.proofs.Greatest.{searched, only-one}
+use Rattle.namespace_states.specs.Reaches.{Reaches, itself, onward, LeadsTo, CountsAs, IsGreatestReached, statement_at}
+use Rattle.namespace_states.specs.Statements.{items_from}
+use Rattle.namespace_states.proofs.Standing.{apart, below_count}
+use Rattle.namespace_states.proofs.Closed.{closed, leads-within}
+use Rattle.namespace_states.proofs.Around.{place-in}
+use Rattle.namespace_states.proofs.Greatest.{searched, only-one}
 use Rattle.namespace_states.specs.Led.{Led}
 use Rattle.namespace_states.proofs.Ties.{IsNoted}
 use Rattle.namespace_states.specs.StatesByMarks.{state_by, states_by, state_in, AreStatesOf, AreSearched}

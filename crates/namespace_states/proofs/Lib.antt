@@ -5,3 +5,10 @@ pub mod Leading
 pub mod Found
 pub mod Opening
 pub mod Ties
+pub mod Lists
+pub mod Standing
+pub mod Closed
+pub mod Entered
+pub mod Around
+pub mod Rounds
+pub mod Greatest

@@ -15,10 +15,10 @@ use Rattle.semantic_model.specs.Place.{Place}
 use Rattle.semantic_model.specs.Step.{entering, steps}
 use Rattle.semantic_model.specs.Namespace.{Item}
 use Rattle.semantic_model.proofs.alone.BodyFollows.{kind_flips}
-use Rattle.namespace_laws.specs.Reaches.{statement_at}
-use Rattle.namespace_laws.specs.Statements.{lists_inside, items_below, items_from}
-use Rattle.namespace_laws.proofs.Lists.{among-append}
-use Rattle.namespace_laws.proofs.Around.{place-in}
+use Rattle.namespace_states.specs.Reaches.{statement_at}
+use Rattle.namespace_states.specs.Statements.{lists_inside, items_below, items_from}
+use Rattle.namespace_states.proofs.Lists.{among-append}
+use Rattle.namespace_states.proofs.Around.{place-in}
 
 -- a node that doesn't count as a namespace is none
 not-one : (k : AstType) → ◌≡◌ {A = ℕ} (cond (same_kind kind.TSNamespaceDeclaration k) 1 0) 0 → same_kind k kind.TSNamespaceDeclaration ≡ false

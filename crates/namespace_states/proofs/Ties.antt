@@ -4,9 +4,9 @@ use Rattle.semantic_tree.specs.Forest.{Forest, nothing, tree}
 use Rattle.semantic_tree.specs.declared.node.Node.{Node}
 use Rattle.semantic_model.specs.Entries.{Among}
 use Rattle.semantic_model.specs.Namespace.{InstanceState, non_instantiated, instantiated, const_enum_only, Item, Reached, reach}
-use Rattle.namespace_laws.specs.Reaches.{LeadsTo, CountsAs}
-use Rattle.namespace_laws.specs.Statements.{lists_inside, items_below, items_from}
-use Rattle.namespace_laws.proofs.Lists.{among-append, among-left, among-right, among-map, among-mapped}
+use Rattle.namespace_states.specs.Reaches.{LeadsTo, CountsAs}
+use Rattle.namespace_states.specs.Statements.{lists_inside, items_below, items_from}
+use Rattle.namespace_states.proofs.Lists.{among-append, among-left, among-right, among-map, among-mapped}
 use Rattle.namespace_states.specs.Led.{Led, nothing_led, counted, counted_all, led_by, led_below, led_from}
 
 -- statements by what each leads to, in order

@@ -3,7 +3,7 @@ use Rattle.std.specs.Prelude.{ℕ, List, [], ◌∷◌, ◌++◌, map}
 use Rattle.semantic_tree.specs.Forest.{Forest, nothing, tree}
 use Rattle.semantic_tree.specs.declared.node.Node.{Node}
 use Rattle.semantic_model.specs.Namespace.{InstanceState, non_instantiated, instantiated, const_enum_only, Item, Reached, reach}
-use Rattle.namespace_laws.specs.Statements.{lists_inside}
+use Rattle.namespace_states.specs.Statements.{lists_inside}
 
 pub record Led : Type 0 where
   -- where a statement leads, and the statement

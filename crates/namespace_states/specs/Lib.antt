@@ -4,3 +4,6 @@ pub mod FirstNames
 pub mod Entries
 pub mod OpenBlocks
 pub mod Led
+pub mod Reaches
+pub mod Statements
+pub mod Descents

@@ -5,7 +5,7 @@ use Rattle.semantic_model.specs.Entries.{Among}
 use Rattle.semantic_model.specs.Place.{Place}
 use Rattle.semantic_model.specs.Step.{entering, steps}
 use Rattle.semantic_model.specs.Namespace.{InstanceState, non_instantiated, instantiated, const_enum_only, instance_state, nodes_around}
-use Rattle.namespace_laws.specs.Reaches.{IsGreatestReached, statement_at}
+use Rattle.namespace_states.specs.Reaches.{IsGreatestReached, statement_at}
 
 -- the state of what reaches a value, or a `const` enum
 abbrev pub state_by : Bool → Bool → InstanceState

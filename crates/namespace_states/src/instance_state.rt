@@ -5,7 +5,7 @@ ghost use Rattle.semantic_model.specs.Entries.{Among};
 ghost use Rattle.semantic_model.specs.Place.{Place};
 ghost use Rattle.semantic_model.specs.Step.{entering, steps};
 ghost use Rattle.semantic_model.specs.Namespace.{instance_state, nodes_around};
-ghost use Rattle.namespace_laws.specs.Reaches.{IsGreatestReached, statement_at};
+ghost use Rattle.namespace_states.specs.Reaches.{IsGreatestReached, statement_at};
 ghost use Rattle.namespace_states.specs.InstanceStates.{state_of};
 
 use crate::states::NamespaceStates;

@@ -5,7 +5,7 @@ ghost use Rattle.semantic_kinds.specs.declared.role.Role.TheVariants.{Body as bo
 ghost use Rattle.semantic_tree.specs.declared.node.Node.{Node};
 ghost use Rattle.semantic_tree.specs.Views.{child_of, children_of};
 ghost use Rattle.semantic_model.specs.Namespace.{Item, statements, leads_to, target_of, body_items, item_reached, specifier_reached, specifiers_reached, declaration_reached, reach};
-ghost use Rattle.namespace_laws.specs.Statements.{lists_inside};
+ghost use Rattle.namespace_states.specs.Statements.{lists_inside};
 ghost use Rattle.namespace_states.specs.Led.{nothing_led, led_to, led_by, led_from};
 
 use crate::leads::Leads;

@@ -47,8 +47,8 @@ use Rattle.program_laws.proofs.DeclaredNodes.{IsOf, of_name, of_member, declarat
 use Rattle.rename_model.proofs.NameShape.{identifier_cases}
 use Rattle.program_laws.proofs.NodeNames.{nodes_have_names, tied_nodes_have_names}
 use Rattle.program_laws.proofs.TreeNodes.{nodes_from, placed_node}
-use Rattle.program_names.specs.Analysis.{analysis_of}
-use Rattle.program_names.specs.Exported.{exported_names}
+use Rattle.semantic_model.specs.Analysis.{analysis_of}
+use Rattle.semantic_model.specs.Exported.{exported_names}
 use Rattle.rename_model.specs.Alone.{names_of, BelongsTo, IsUnused}
 use Rattle.rename_model.specs.Refusal.{fixes_name, first_fixed}
 use Rattle.rename_model.specs.Renamed.{bears_name}

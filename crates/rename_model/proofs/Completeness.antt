@@ -11,8 +11,8 @@ use Rattle.semantic_model.specs.TablesOf.{tables_of}
 use Rattle.semantic_model.proofs.form.Shape.{has_form}
 use Rattle.semantic_model.proofs.once.ListedUnder.{name_tells}
 use Rattle.rename_model.proofs.NameShape.{no_fault_made, numbers_kept}
-use Rattle.program_names.specs.Analysis.{analysis_of}
-use Rattle.program_names.specs.Exported.{exported_names}
+use Rattle.semantic_model.specs.Analysis.{analysis_of}
+use Rattle.semantic_model.specs.Exported.{exported_names}
 use Rattle.rename_model.specs.Alone.{BelongsTo, IsUnused}
 use Rattle.rename_model.specs.Refusal.{differs, is_bad_name, first_fixed, compared, unless_fixed, unless_bad, rename}
 use Rattle.rename_model.specs.Renamed.{bears_name, renamed}

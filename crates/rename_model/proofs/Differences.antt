@@ -3,7 +3,7 @@ use Rattle.std.proofs.Common.{◌≡◌, ◌<◌, ◌≤◌, ◌+◌, ℕ, zero,
 use Rattle.std.proofs.lemmas.Bool.{and_parts, eqb-true, cases_eq}
 use Rattle.semantic_tree.specs.Children.{node_count}
 use Rattle.semantic_tree.specs.Tree.{Tree}
-use Rattle.program_names.specs.Analysis.{Analysis, symbol_at, tied_at, analysis_of}
+use Rattle.semantic_model.specs.Analysis.{Analysis, symbol_at, tied_at, analysis_of}
 use Rattle.rename_model.specs.Same.{same_option, is_same_at, SameAt, Same, DiffersFirstAt, first_difference}
 
 same_is : (x y : Option ℕ) → same_option x y ≡ true → x ≡ y

@@ -19,7 +19,7 @@ use Rattle.semantic_model.specs.TablesOf.{is_symbol, tables_of}
 use Rattle.semantic_model.proofs.fits.FitParts.{stands}
 use Rattle.semantic_model.proofs.lists.Members.{among_at}
 use Rattle.walk_model.proofs.once.SymbolsOnce.{symbols_times}
-use Rattle.program_names.specs.Analysis.{Analysis, symbol_at, tied_at, analysis_of}
+use Rattle.semantic_model.specs.Analysis.{Analysis, symbol_at, tied_at, analysis_of}
 use Rattle.rename_model.specs.Renamed.{bears_name}
 
 pub some_is : {A : Type 0} → (x y : A) → ◌≡◌ {A = Option A} (Some x) (Some y) → x ≡ y

@@ -8,8 +8,8 @@ use Rattle.semantic_tree.specs.Tree.{Tree, IsNumbered}
 use Rattle.semantic_model.specs.Entries.{Among}
 use Rattle.semantic_model.specs.Place.{Place}
 use Rattle.semantic_model.specs.Step.{Step, entering, opening, header_ending, closing, leaving, steps}
-use Rattle.program_names.specs.Analysis.{analysis_of}
-use Rattle.program_names.specs.Exported.{exported_names}
+use Rattle.semantic_model.specs.Analysis.{analysis_of}
+use Rattle.semantic_model.specs.Exported.{exported_names}
 use Rattle.rename_model.specs.Fixed.{FixesFirst, NoneFixes}
 use Rattle.rename_model.specs.Refusal.{Refusal, bad_name, fixed, differs, is_bad_name, fixes_name, node_in, first_fixed, compared, unless_fixed, unless_bad, rename}
 use Rattle.rename_model.specs.Renamed.{bears_name, renamed}

@@ -25,7 +25,7 @@ use Rattle.program_laws.specs.Remarked.{remarked}
 use Rattle.program_laws.specs.SameAnalysis.{HaveSameAnalysis}
 use Rattle.rename_model.specs.WithName.{sheds, with_name_alone, with_name, with_name_in}
 use Rattle.program_laws.proofs.TableMarks.{same_unmarked}
-use Rattle.program_names.specs.Analysis.{symbol_at, tied_at}
+use Rattle.semantic_model.specs.Analysis.{symbol_at, tied_at}
 use Rattle.rename_model.specs.Same.{Same}
 
 -- a chosen node has the old name, and is the only kind that has; no node has the new name

@@ -11,7 +11,7 @@ use Rattle.semantic_model.specs.Binder.{member_names}
 use Rattle.semantic_model.specs.Entries.{Among}
 use Rattle.semantic_tree.specs.Views.{is, children_of}
 use Rattle.rename_model.specs.WithName.{is_identifier}
-use Rattle.program_names.specs.Analysis.{symbol_at, tied_at, analysis_of}
+use Rattle.semantic_model.specs.Analysis.{symbol_at, tied_at, analysis_of}
 
 -- the names of a binding identifier, of an identifier reference, or of an enum member
 abbrev pub names_of : Node → List Name

@@ -4,8 +4,8 @@ use Rattle.semantic_tree.specs.Tree.{Tree}
 use Rattle.semantic_model.specs.Entries.{Among}
 use Rattle.semantic_model.specs.Place.{Place}
 use Rattle.semantic_model.specs.Step.{entering, steps}
-use Rattle.program_names.specs.Analysis.{analysis_of}
-use Rattle.program_names.specs.Exported.{exported_names}
+use Rattle.semantic_model.specs.Analysis.{analysis_of}
+use Rattle.semantic_model.specs.Exported.{exported_names}
 use Rattle.rename_model.specs.Refusal.{fixes_name}
 use Rattle.rename_model.specs.Renamed.{bears_name}
 

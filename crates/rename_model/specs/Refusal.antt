@@ -10,8 +10,8 @@ use Rattle.semantic_tree.specs.Views.{is}
 use Rattle.semantic_model.specs.Place.{Place, parent_holds}
 use Rattle.semantic_syntax.specs.Members.{contains}
 use Rattle.semantic_model.specs.Step.{Step, entering, steps}
-use Rattle.program_names.specs.Analysis.{Analysis, analysis_by, analysis_of}
-use Rattle.program_names.specs.Exported.{exported_names}
+use Rattle.semantic_model.specs.Analysis.{Analysis, analysis_by, analysis_of}
+use Rattle.semantic_model.specs.Exported.{exported_names}
 use Rattle.rename_model.specs.WithName.{with_name_in}
 use Rattle.rename_model.specs.Renamed.{bears_name}
 use Rattle.rename_model.specs.Same.{first_difference}

@@ -4,7 +4,7 @@ use Rattle.semantic_syntax.specs.Tables.{Name}
 use Rattle.semantic_tree.specs.Tree.{Tree}
 use Rattle.semantic_model.specs.TablesOf.{is_symbol}
 use Rattle.rename_model.specs.WithName.{with_name_in}
-use Rattle.program_names.specs.Analysis.{Analysis, symbol_at, tied_at}
+use Rattle.semantic_model.specs.Analysis.{Analysis, symbol_at, tied_at}
 
 -- the node bears the name of symbol s: it is a binding identifier or enum member of the symbol, or a reference that is tied to it
 abbrev pub bears_name : Analysis → ℕ → ℕ → Bool

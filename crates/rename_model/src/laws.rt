@@ -5,7 +5,7 @@ ghost use Rattle.semantic_tree.specs.Children.{node_count};
 ghost use Rattle.semantic_tree.specs.Faults.{first_fault};
 ghost use Rattle.semantic_tree.specs.Tree.{Tree, IsNumbered};
 ghost use Rattle.semantic_model.specs.TablesOf.{tables_of};
-ghost use Rattle.program_names.specs.Analysis.{analysis_of};
+ghost use Rattle.semantic_model.specs.Analysis.{analysis_of};
 ghost use Rattle.rename_model.specs.Alone.{BelongsTo, IsUnused};
 ghost use Rattle.rename_model.specs.Fixed.{FixesFirst, NoneFixes};
 ghost use Rattle.rename_model.specs.Refusal.{bad_name, fixed, differs, is_bad_name, rename};

@@ -1,6 +1,6 @@
 -- A search for a difference goes on behind a node that is the same.
 use Rattle.std.proofs.Common.{◌≡◌, ℕ, suc, ◌+◌, ◌-◌, ◌<◌, true, Some, cond, ap, sym, ◌∙◌, arith}
-use Rattle.program_names.specs.Analysis.{Analysis}
+use Rattle.semantic_model.specs.Analysis.{Analysis}
 use Rattle.rename_model.specs.Same.{is_same_at, first_difference}
 
 pub goes_on : (a b : Analysis) (from count : ℕ) → from < count → is_same_at a b from ≡ true → first_difference a b (from + 1) (count - (from + 1)) ≡ first_difference a b from (count - from)

@@ -12,8 +12,8 @@ use Rattle.semantic.proofs.Lookups.{shows}
 use Rattle.semantic_model.specs.Step.{steps}
 use Rattle.semantic_tree.specs.Children.{node_count}
 use Rattle.semantic_tree.specs.Tree.{Tree, IsNumbered}
-use Rattle.program_names.specs.Analysis.{Analysis, analysis_of}
-use Rattle.program_names.specs.Exported.{exported_names}
+use Rattle.semantic_model.specs.Analysis.{Analysis, analysis_of}
+use Rattle.semantic_model.specs.Exported.{exported_names}
 use Rattle.rename_model.specs.Refusal.{bad_name, fixed, differs, is_bad_name, first_fixed, compared, unless_fixed, unless_bad, rename}
 use Rattle.rename_model.specs.Renamed.{bears_name, renamed}
 use Rattle.rename_model.specs.Same.{first_difference}

@@ -4,7 +4,7 @@ use Rattle.std.specs.declared.alloc.AllocError.{AllocError}
 use Rattle.semantic_syntax.specs.Tables.{Name}
 use Rattle.semantic_tree.specs.Children.{node_count}
 use Rattle.semantic_tree.specs.Tree.{Tree}
-use Rattle.program_names.specs.Analysis.{Analysis, analysis_of}
+use Rattle.semantic_model.specs.Analysis.{Analysis, analysis_of}
 use Rattle.rename_model.specs.Fixed.{FixesFirst, NoneFixes}
 use Rattle.rename_model.specs.Refusal.{bad_name, fixed, differs, is_bad_name, rename}
 use Rattle.rename_model.specs.Renamed.{renamed}

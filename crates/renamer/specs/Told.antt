@@ -1,5 +1,5 @@
 -- The analysis that tables tell.
-use Rattle.program_names.specs.Analysis.{Analysis}
+use Rattle.semantic_model.specs.Analysis.{Analysis}
 use Rattle.semantic.specs.Shown.{shown}
 use Rattle.renamer.specs.declared.analysed.Analysed.{Analysed}
 

@@ -1,7 +1,7 @@
 //! What an analysis tells of nodes.
 
 ghost use Rattle.std.specs.Prelude.{◌≡◌};
-ghost use Rattle.program_names.specs.Analysis.{symbol_at, tied_at};
+ghost use Rattle.semantic_model.specs.Analysis.{symbol_at, tied_at};
 ghost use Rattle.renamer.specs.Told.{told_by};
 
 use scoping::{NodeTables, Scoping};

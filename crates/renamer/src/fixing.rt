@@ -7,7 +7,7 @@ ghost use Rattle.semantic_tree.specs.Faults.{first_where};
 ghost use Rattle.semantic_tree.specs.Place.{placed_from};
 ghost use Rattle.semantic_syntax.specs.Members.{contains};
 ghost use Rattle.semantic_model.specs.Step.{steps};
-ghost use Rattle.program_names.specs.Exported.{exported_names};
+ghost use Rattle.semantic_model.specs.Exported.{exported_names};
 ghost use Rattle.renamer.specs.Told.{told_by};
 ghost use Rattle.rename_model.specs.Refusal.{first_fixed};
 ghost use Rattle.rename_model.specs.Renamed.{bears_name};

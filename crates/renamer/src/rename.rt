@@ -4,7 +4,7 @@ ghost use Rattle.std.specs.Prelude.{◌≡◌, ◌<◌, false, length, slice_get
 ghost use Rattle.std.specs.Str.{chars};
 ghost use Rattle.semantic_syntax.specs.Tables.{Symbol};
 ghost use Rattle.semantic_model.specs.TablesOf.{tables_of};
-ghost use Rattle.program_names.specs.Analysis.{analysis_of};
+ghost use Rattle.semantic_model.specs.Analysis.{analysis_of};
 ghost use Rattle.renamer.specs.Told.{told_by};
 ghost use Rattle.rename_model.specs.Alone.{BelongsTo, IsUnused};
 ghost use Rattle.renamer.specs.Answers.{IsAnswer};

@@ -8,7 +8,7 @@ use Rattle.semantic_tree.specs.Forest.{Forest, nothing, tree, count}
 use Rattle.semantic_tree.specs.KindCounts.{kind_count, how_many, among_kinds}
 use Rattle.semantic_tree.proofs.KindSums.{kinds_make_up}
 use Rattle.semantic_model.specs.Inside.{opens, scopes_in}
-use Rattle.count_laws.proofs.ProgramRoom.{passes_few}
+use Rattle.walk_model.proofs.sizes.ProgramRoom.{passes_few}
 
 -- a scope for each node that opens one
 pub openers : (f : Forest) → how_many opens f ≡ scopes_in f

@@ -15,7 +15,7 @@ use Rattle.semantic_model.specs.Step.{Step, entering, opening, header_ending, cl
 use Rattle.semantic_model.proofs.steps.TurnCases.{opening_case, ending_case, last_case}
 use Rattle.semantic_model.proofs.steps.Turn.{Turn, turn_at}
 use Rattle.semantic_model.proofs.steps.Compose.{flat-append}
-use Rattle.program_names.specs.Exported.{is_default_declaration, exported_names, default_exported_names}
+use Rattle.semantic_model.specs.Exported.{is_default_declaration, exported_names, default_exported_names}
 use Rattle.semantic.specs.declared.node_symbols.exports.Export.{Export}
 use Rattle.semantic.specs.declared.node_symbols.exports.Export.TheVariants as export
 use Rattle.semantic.specs.Given.{names_given, given_names, given_below, given_from}

@@ -12,7 +12,7 @@ use Rattle.semantic_model.specs.NodeTable.{Belongs, number_of, node_tables}
 use Rattle.semantic_model.specs.Step.{steps}
 use Rattle.semantic_model.specs.TablesOf.{tables_of}
 use Rattle.semantic_tree.specs.Tree.{Tree}
-use Rattle.program_names.specs.Analysis.{tied_at, analysis_of}
+use Rattle.semantic_model.specs.Analysis.{tied_at, analysis_of}
 use Rattle.semantic.specs.Shown.{belonging, entries, shown}
 
 pub number_found : (es : List (ℕ × ℕ)) (node : ℕ) → lookup (nat_eq node) es ≡ number_of (map belonging es) node

@@ -5,9 +5,9 @@ use Rattle.semantic_tree.specs.Children.{single}
 use Rattle.semantic_tree.specs.Faults.{first_fault}
 use Rattle.semantic_tree.specs.Tree.{Tree, IsNumbered}
 use Rattle.semantic_model.specs.TablesOf.{tables_of}
-use Rattle.count_laws.proofs.Scopes.{scopes_counted}
-use Rattle.count_laws.proofs.References.{references_counted}
-use Rattle.count_laws.proofs.Symbols.{symbols_counted}
+use Rattle.walk_model.proofs.sizes.Scopes.{scopes_counted}
+use Rattle.walk_model.proofs.sizes.References.{references_counted}
+use Rattle.walk_model.proofs.sizes.Symbols.{symbols_counted}
 use Rattle.semantic.specs.declared.stats.Stats.{Stats}
 use Rattle.semantic.specs.Tally.{IsCount, IsSizeOf}
 

@@ -6,7 +6,7 @@ use Rattle.semantic_tree.specs.Forest.{Forest, count}
 use Rattle.semantic_tree.specs.Tree.{Tree}
 use Rattle.semantic_model.specs.Inside.{scopes_in}
 use Rattle.semantic_tree.specs.KindCounts.{how_many}
-use Rattle.count_laws.specs.Counted.{is_symbol, is_reference}
+use Rattle.walk_model.specs.Counted.{is_symbol, is_reference}
 use Rattle.semantic_walk.specs.declared.settings.Room.{Room}
 use Rattle.semantic.specs.declared.builder.SemanticBuilder.{SemanticBuilder}
 use Rattle.semantic.specs.declared.stats.Stats.{Stats}

@@ -8,7 +8,7 @@ use Rattle.semantic_tree.specs.Forest.{Forest, nothing, tree}
 use Rattle.semantic_tree.specs.declared.node.Node.{Node}
 use Rattle.semantic_model.specs.Names.{bound_names}
 use Rattle.semantic_tree.specs.Views.{children_of}
-use Rattle.program_names.specs.Exported.{is_default_declaration}
+use Rattle.semantic_model.specs.Exported.{is_default_declaration}
 use Rattle.semantic.specs.declared.node_symbols.exports.Export.{Export}
 use Rattle.semantic.specs.declared.node_symbols.exports.Export.TheVariants as export
 

@@ -4,7 +4,7 @@ pub mod FreeReference
 pub mod Lending
 pub mod SwappedNames
 pub use Rattle.check_model.specs.DiagnosticsOf
-pub use Rattle.count_laws.specs.Counted
+pub use Rattle.walk_model.specs.Counted
 pub use Rattle.semantic_walk.specs.Begun
 pub use Rattle.semantic_walk.specs.Listed
 pub use Rattle.walk_notes.specs.NoteLists

@@ -3,7 +3,7 @@ use Rattle.std.specs.Prelude.{ℕ, List, map}
 use Rattle.scoping.specs.NodeEntries.{NodeEntries}
 use Rattle.semantic_syntax.specs.Tables.{Tables}
 use Rattle.semantic_model.specs.NodeTable.{Belongs}
-use Rattle.program_names.specs.Analysis.{Analysis}
+use Rattle.semantic_model.specs.Analysis.{Analysis}
 
 abbrev pub belonging : (ℕ × ℕ) → Belongs
 belonging e = record { node = e.0; number = e.1 }

@@ -4,7 +4,7 @@ use Rattle.semantic_syntax.specs.Tables.{Tables}
 use Rattle.semantic_tree.specs.Forest.{Forest, count}
 use Rattle.semantic_model.specs.Inside.{scopes_in}
 use Rattle.semantic_tree.specs.KindCounts.{how_many}
-use Rattle.count_laws.specs.Counted.{is_symbol, is_reference}
+use Rattle.walk_model.specs.Counted.{is_symbol, is_reference}
 use Rattle.semantic.specs.declared.stats.Stats.{Stats}
 
 -- the counts of a forest

@@ -4,7 +4,7 @@ ghost use Rattle.std.specs.Prelude.{◌≡◌, ◌≤◌, ◌||◌, true, false,
 ghost use Rattle.semantic_syntax.specs.Counts.{raised};
 ghost use Rattle.semantic_tree.specs.Children.{node_count};
 ghost use Rattle.semantic_model.specs.TablesOf.{tables_of};
-ghost use Rattle.count_model.specs.Probes.{probes, depths};
+ghost use Rattle.walk_model.specs.Probes.{probes, depths};
 ghost use Rattle.semantic_walk.specs.Begun.{BelongsToNodes, IsAnalysis};
 ghost use Rattle.semantic_walk.specs.Listed.{kept_nodes};
 ghost use Rattle.semantic_model.specs.Label.{unused_labels};

@@ -5,7 +5,7 @@ ghost use Rattle.semantic_kinds.specs.declared.role.Role.TheVariants as role;
 ghost use Rattle.semantic_tree.specs.Children.{single};
 ghost use Rattle.semantic_model.specs.Inside.{opens};
 ghost use Rattle.semantic_model.specs.TablesOf.{tables_of};
-ghost use Rattle.count_laws.specs.Counted.{is_symbol, is_reference};
+ghost use Rattle.walk_model.specs.Counted.{is_symbol, is_reference};
 ghost use Rattle.semantic.specs.Tally.{increased, IsCount, IsSizeOf, IsAccurate};
 
 use node_rules::inside::opens;

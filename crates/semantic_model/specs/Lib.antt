@@ -29,3 +29,5 @@ pub mod Count
 pub mod Element
 pub mod Class
 pub mod Label
+pub mod Analysis
+pub mod Exported

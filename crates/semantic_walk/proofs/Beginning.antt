@@ -40,9 +40,9 @@ use Rattle.walk_model.proofs.once.NotedOnce.{notes_once}
 use Rattle.walk_model.proofs.turns.RootSteps.{root_enters, root_scope, root_made, root_walked}
 use Rattle.walk_model.proofs.turns.Seats.{root_is_program}
 use Rattle.walk_model.proofs.turns.WalkTurns.{root_between}
-use Rattle.count_laws.specs.Room.{HasRoom}
-use Rattle.count_laws.proofs.ProgramRoom.{program_room}
-use Rattle.count_laws.proofs.Rooms.{room_first}
+use Rattle.walk_model.specs.Room.{HasRoom}
+use Rattle.walk_model.proofs.sizes.ProgramRoom.{program_room}
+use Rattle.walk_model.proofs.sizes.Rooms.{room_first}
 use Rattle.semantic_walk.specs.AtPlace.{IsComing, entered, walked_within, left_at, walked_over}
 use Rattle.semantic_walk.specs.Begun.{begun, notes_classes, IsBegun, BelongsToNodes}
 use Rattle.node_store.specs.NodeList.{no_nodes}

@@ -15,9 +15,9 @@ use Rattle.semantic_model.specs.Step.{steps_below, opening_at, ending_after, sco
 use Rattle.walk_model.specs.WalkState.{WalkState}
 use Rattle.walk_model.specs.Walks.{after_all}
 use Rattle.walk_model.specs.Waits.{HoldsAt}
-use Rattle.count_model.specs.Probes.{probes_of_steps}
-use Rattle.count_model.proofs.StepSums.{raised_then, raised_none, raised_more}
-use Rattle.count_model.proofs.TurnCosts.{ending_asks, turn_asks, last_asks_none}
+use Rattle.walk_model.specs.Probes.{probes_of_steps}
+use Rattle.walk_model.proofs.asking.StepSums.{raised_then, raised_none, raised_more}
+use Rattle.walk_model.proofs.asking.TurnCosts.{ending_asks, turn_asks, last_asks_none}
 use Rattle.table_building.specs.Settled.{probes_from}
 use Rattle.semantic_walk.specs.Walker.{Walker}
 use Rattle.semantic_walk.specs.AtPlace.{IsTurnAt, probes_over, walked_over}

@@ -30,8 +30,8 @@ use Rattle.walk_model.proofs.places.Nested.{Descends, AreNested, open_past, seen
 use Rattle.walk_model.proofs.shows.Represents.{Represents, with_noted}
 use Rattle.walk_model.proofs.places.Routes.{AllGoOut}
 use Rattle.walk_model.proofs.declares.Simulated.{declares_as, entering_as, steps_as, nothing_as, program_nested}
-use Rattle.count_laws.proofs.Growth.{declares_add, step_adds}
-use Rattle.count_laws.specs.Room.{opened_by}
+use Rattle.walk_model.proofs.sizes.Growth.{declares_add, step_adds}
+use Rattle.walk_model.specs.Room.{opened_by}
 use Rattle.semantic_walk.specs.Folded.{ShowsFold}
 
 -- a node is noted with its symbol

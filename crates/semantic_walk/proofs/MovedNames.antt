@@ -1,7 +1,7 @@
 -- What the name of a block function adds.
 use Rattle.std.proofs.Common.{ℕ, ◌+◌, ◌≤◌, Option, None, Some, length}
 use Rattle.semantic_model.specs.Naming.{Naming}
-use Rattle.count_laws.proofs.Growth.{declare_adds, moved_adds}
+use Rattle.walk_model.proofs.sizes.Growth.{declare_adds, moved_adds}
 use Rattle.table_building.specs.Each.{settle_in_block}
 use Rattle.semantic_walk.specs.Walker.{Walker}
 use Rattle.semantic_walk.specs.Binds.{block_target, moving_one}

@@ -25,8 +25,8 @@ use Rattle.walk_notes.proofs.Unnoted.{enters_nothing, leaves_nothing}
 use Rattle.node_store.specs.Entered.{Entered}
 use Rattle.check_walk.specs.SoFar.{Telling}
 use Rattle.check_walk.specs.TellingAlong.{telling_along, telling_past}
-use Rattle.count_model.specs.Probes.{probes_of_steps}
-use Rattle.count_model.proofs.StepSums.{raised_none}
+use Rattle.walk_model.specs.Probes.{probes_of_steps}
+use Rattle.walk_model.proofs.asking.StepSums.{raised_none}
 use Rattle.semantic_walk.specs.AtPlace.{IsComing, entered, kept_at, told_within, walked_within, walked_over, probes_over}
 use Rattle.semantic_walk.specs.Binds.{acting}
 use Rattle.node_rules.specs.EvenKinds.{acts_between, is_quiet, is_passing, is_leaf, stands_alike}

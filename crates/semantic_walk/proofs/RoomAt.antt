@@ -23,9 +23,9 @@ use Rattle.walk_model.specs.Opens.{add_eval}
 use Rattle.walk_model.specs.WalkState.{WalkState}
 use Rattle.walk_model.specs.Walks.{after_all}
 use Rattle.walk_model.proofs.turns.ChildTurns.{after-append}
-use Rattle.count_laws.specs.Room.{id_count, HasRoom}
-use Rattle.count_laws.proofs.Growth.{homes_count}
-use Rattle.count_laws.proofs.Rooms.{room_past, room_first}
+use Rattle.walk_model.specs.Room.{id_count, HasRoom}
+use Rattle.walk_model.proofs.sizes.Growth.{homes_count}
+use Rattle.walk_model.proofs.sizes.Rooms.{room_past, room_first}
 use Rattle.semantic_walk.specs.AtPlace.{IsTurnAt, IsBetweenAt, IsComing}
 use Rattle.semantic_walk.specs.Ids.{names_by, HasIds, MayEnter, MayOpen}
 use Rattle.semantic_walk.specs.Paths.{parent_in}

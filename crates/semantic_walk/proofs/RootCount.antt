@@ -14,9 +14,9 @@ use Rattle.walk_model.specs.WalkState.{WalkState, nothing_made}
 use Rattle.walk_model.specs.Walks.{after, after_all}
 use Rattle.walk_model.proofs.turns.RootSteps.{root_enters, root_scope, root_made}
 use Rattle.walk_model.proofs.turns.Seats.{root_is_program}
-use Rattle.count_model.specs.Probes.{probes, probes_of_steps, probes_in_end}
-use Rattle.count_model.proofs.StepSums.{raised_then, raised_more}
-use Rattle.count_model.proofs.TurnCosts.{root_asks}
+use Rattle.walk_model.specs.Probes.{probes, probes_of_steps, probes_in_end}
+use Rattle.walk_model.proofs.asking.StepSums.{raised_then, raised_more}
+use Rattle.walk_model.proofs.asking.TurnCosts.{root_asks}
 use Rattle.semantic_walk.specs.AtPlace.{entered, probes_over}
 use Rattle.semantic_walk.specs.Begun.{IsBegun}
 use Rattle.semantic_walk.specs.Walker.{Walker}

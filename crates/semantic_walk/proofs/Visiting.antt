@@ -30,8 +30,8 @@ use Rattle.walk_model.specs.Recursion.{IsReady, IsBetween}
 use Rattle.walk_model.proofs.turns.ChildTurns.{node_turn}
 use Rattle.walk_model.proofs.turns.TurnParts.{within_at}
 use Rattle.walk_model.proofs.turns.WalkTurns as turns
-use Rattle.count_laws.specs.Room.{HasRoom}
-use Rattle.count_laws.proofs.Rooms.{room_after}
+use Rattle.walk_model.specs.Room.{HasRoom}
+use Rattle.walk_model.proofs.sizes.Rooms.{room_after}
 use Rattle.node_store.specs.Entered.{Entered}
 use Rattle.semantic_walk.specs.Listed.{IsAmong, all_listed}
 use Rattle.walk_notes.specs.NoteLists.{NoteLists, noting, noted_inside, noted_over}
@@ -40,7 +40,7 @@ use Rattle.node_rules.specs.EvenKinds.{acts_between}
 use Rattle.semantic_walk.specs.Walker.{Walker, telling_of}
 use Rattle.semantic_walk.specs.Turns.{child_scope, own_or}
 use Rattle.semantic_walk.specs.AtPlace.{probes_over, ComesTo, IsWithin, IsTurnAt, IsBetweenAt, IsOpenAtRoot, IsComing, entered, kept_at, told_within, walked_within, left_at, walked_over}
-use Rattle.count_model.specs.Probes.{probes_of_steps}
+use Rattle.walk_model.specs.Probes.{probes_of_steps}
 use Rattle.semantic_syntax.specs.Counts.{raised}
 use Rattle.semantic_walk.specs.declared.visit.Turn.{Turn}
 use Rattle.check_walk.specs.Ready.{IsReadyBetween}

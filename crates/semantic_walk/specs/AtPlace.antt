@@ -14,8 +14,8 @@ use Rattle.walk_model.specs.Walks.{after, after_all}
 use Rattle.walk_model.specs.Shown.{ShowsChain, IsGrounded}
 use Rattle.walk_model.specs.NamedScopes.{IsStepNamed, AllNamed}
 use Rattle.walk_model.specs.Recursion.{IsBetween}
-use Rattle.count_model.specs.Probes.{probes_of_steps}
-use Rattle.count_laws.specs.Room.{HasRoom}
+use Rattle.walk_model.specs.Probes.{probes_of_steps}
+use Rattle.walk_model.specs.Room.{HasRoom}
 use Rattle.node_store.specs.Entered.{Entered, leaving as leaving_node}
 use Rattle.walk_notes.specs.NoteLists.{noting, noted_inside, noted_over, leaving as leaving_notes}
 use Rattle.node_rules.specs.EvenKinds.{acts_between}

@@ -8,7 +8,7 @@ use Rattle.semantic_tree.specs.Views.{is, children_of}
 use Rattle.semantic_model.specs.Names.{bound_names, names_at}
 use Rattle.semantic_model.specs.Place.{parent_holds}
 use Rattle.semantic_model.specs.Binder.{member_names}
-use Rattle.count_laws.specs.Room.{id_count}
+use Rattle.walk_model.specs.Room.{id_count}
 use Rattle.semantic_walk.specs.Binds.{is_bound_inside}
 use Rattle.semantic_walk.specs.Paths.{parent_in}
 use Rattle.semantic_walk.specs.Walker.{Walker}

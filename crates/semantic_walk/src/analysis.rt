@@ -2,7 +2,7 @@
 
 ghost use Rattle.std.specs.Prelude.{◌≡◌, ◌≤◌, ◌||◌, IfOk, OnOk, OnErr};
 ghost use Rattle.semantic_syntax.specs.Counts.{raised};
-ghost use Rattle.count_model.specs.Probes.{probes};
+ghost use Rattle.walk_model.specs.Probes.{probes};
 ghost use Rattle.semantic_walk.specs.Begun.{IsBegun, BelongsToNodes, IsAnalysis};
 ghost use Rattle.semantic_walk.specs.Listed.{kept_nodes, list_kept};
 ghost use Rattle.semantic_model.specs.Label.{unused_labels};

@@ -21,7 +21,7 @@ ghost use Rattle.walk_model.specs.Waits.{HoldsAt, start_at};
 ghost use Rattle.table_building.specs.Growth.{Grows, Goes};
 ghost use Rattle.semantic_syntax.specs.Counts.{raised};
 ghost use Rattle.semantic_syntax.specs.Told.{source_of};
-ghost use Rattle.count_model.specs.Probes.{probes_of_steps};
+ghost use Rattle.walk_model.specs.Probes.{probes_of_steps};
 ghost use Rattle.table_building.specs.Settled.{settled_from, probes_from};
 ghost use Rattle.node_rules.specs.EvenKinds.{acts_between, stands_alike};
 ghost use Rattle.semantic_walk.specs.Turns.{IsTurn, child_scope, is_passed, past_leaf};

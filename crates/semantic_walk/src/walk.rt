@@ -21,7 +21,7 @@ ghost use Rattle.walk_model.specs.Walks.{after};
 ghost use Rattle.walk_model.specs.Opens.{add_eval, close_scope};
 ghost use Rattle.semantic_syntax.specs.Counts.{raised};
 ghost use Rattle.semantic_syntax.specs.Told.{source_of};
-ghost use Rattle.count_model.specs.Probes.{probes_in_end};
+ghost use Rattle.walk_model.specs.Probes.{probes_in_end};
 ghost use Rattle.table_building.specs.Settled.{settled_from, probes_from};
 ghost use Rattle.node_rules.specs.Seen.{path_of};
 ghost use Rattle.semantic_walk.specs.Paths.{parent_in};

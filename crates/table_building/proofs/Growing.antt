@@ -6,7 +6,7 @@ use Rattle.std.specs.Map.{values_of}
 use Rattle.semantic_syntax.specs.Tables.{Tables, Name}
 use Rattle.semantic_syntax.specs.Reading.{bindings_of}
 use Rattle.scoping.specs.Writing.{taken_over}
-use Rattle.count_laws.proofs.Growth.{homes_count}
+use Rattle.walk_model.proofs.sizes.Growth.{homes_count}
 use Rattle.semantic_model.specs.Binding.{Binding, is_of, get, put}
 use Rattle.semantic_syntax.specs.Outcome.{Pending}
 use Rattle.table_building.specs.Growth.{Grows, Goes}

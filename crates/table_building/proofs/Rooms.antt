@@ -9,7 +9,7 @@ use Rattle.semantic_model.specs.Naming.{Naming}
 use Rattle.semantic_model.specs.Names.{bound_below, bound_names}
 use Rattle.walk_model.specs.WalkState.{WalkState}
 use Rattle.walk_model.specs.Declares.{declare, declare_anew}
-use Rattle.count_laws.proofs.Growth.{declare_adds, anew_adds}
+use Rattle.walk_model.proofs.sizes.Growth.{declare_adds, anew_adds}
 use Rattle.table_building.specs.Each.{declare_each, declare_pattern}
 use Rattle.table_building.specs.Named.{caught_naming, pattern_naming}
 use Rattle.table_building.specs.Routes.{IsRoute}

@@ -8,3 +8,5 @@ pub mod refers
 pub mod written
 pub mod once
 pub mod turns
+pub mod sizes
+pub mod asking

@@ -12,3 +12,6 @@ pub mod Seated
 pub mod Recursion
 pub mod WrittenNames
 pub mod NamedScopes
+pub mod Counted
+pub mod Room
+pub mod Probes

@@ -4,7 +4,7 @@ ghost use Rattle.std.specs.Prelude.{◌≡◌, ◌++◌, map, IfOk, OnOk};
 ghost use Rattle.semantic_kinds.specs.Kinds.{same_kind};
 ghost use Rattle.semantic_model.specs.Names.{bound_names};
 ghost use Rattle.semantic_model.specs.Step.{steps};
-ghost use Rattle.program_names.specs.Exported.{is_default_declaration, exported_names, default_exported_names};
+ghost use Rattle.semantic_model.specs.Exported.{is_default_declaration, exported_names, default_exported_names};
 ghost use Rattle.semantic.specs.Given.{exporting, gives, given_names, given_from};
 
 use node_rules::bound_identifiers::bound_identifiers;

@@ -6,7 +6,7 @@ ghost use Rattle.semantic_tree.specs.Tree.{Tree};
 ghost use Rattle.semantic_model.specs.Step.{steps};
 ghost use Rattle.semantic_model.specs.NodeTable.{node_tables};
 ghost use Rattle.semantic_model.specs.TablesOf.{tables_of};
-ghost use Rattle.program_names.specs.Analysis.{analysis_of};
+ghost use Rattle.semantic_model.specs.Analysis.{analysis_of};
 ghost use Rattle.semantic.specs.Shown.{shown, entries};
 
 /// The tables of a program, and what belongs to its nodes, show its analysis.

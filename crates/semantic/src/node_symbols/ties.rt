@@ -2,7 +2,7 @@
 
 ghost use Rattle.std.specs.Prelude.{◌≡◌};
 ghost use Rattle.semantic_syntax.specs.Tables.{Tables};
-ghost use Rattle.program_names.specs.Analysis.{symbol_at, tied_at};
+ghost use Rattle.semantic_model.specs.Analysis.{symbol_at, tied_at};
 ghost use Rattle.semantic.specs.Shown.{shown};
 
 use scoping::{NodeTables, Scoping};

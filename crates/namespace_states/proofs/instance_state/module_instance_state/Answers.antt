@@ -1,6 +1,6 @@
 use Rattle.std.proofs.Common.{ap, sym, subst, ◌∙◌}
 use Rattle.semantic_model.specs.Namespace.{InstanceState}
-use Rattle.namespace_laws.specs.Reaches.{IsGreatestReached, statement_at}
+use Rattle.namespace_states.specs.Reaches.{IsGreatestReached, statement_at}
 use Rattle.namespace_states.specs.StatesByMarks.{state_in}
 use Rattle.namespace_states.proofs.instance_state.module_instance_state.Goals as goal
 

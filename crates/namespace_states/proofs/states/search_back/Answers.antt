@@ -4,8 +4,8 @@ use Rattle.reachability.specs.Rows.{lists, rows_of}
 use Rattle.semantic_tree.specs.Children.{node_count}
 use Rattle.semantic_tree.specs.declared.node.Node.{Node}
 use Rattle.semantic_model.specs.Namespace.{InstanceState, instantiated, const_enum_only}
-use Rattle.namespace_laws.specs.Reaches.{IsGreatestReached}
-use Rattle.namespace_laws.proofs.Standing.{below_count}
+use Rattle.namespace_states.specs.Reaches.{IsGreatestReached}
+use Rattle.namespace_states.proofs.Standing.{below_count}
 use Rattle.namespace_states.specs.Led.{Led, led_from, nothing_led}
 use Rattle.namespace_states.proofs.Ties.{IsNoted, noted_of}
 use Rattle.namespace_states.specs.StatesByMarks.{state_in, states_by}

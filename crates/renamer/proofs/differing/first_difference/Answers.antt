@@ -1,5 +1,5 @@
 use Rattle.std.proofs.Common.{◌≡◌, ◌<◌, true, ap, sym, ◌∙◌, arith}
-use Rattle.program_names.specs.Analysis.{Analysis}
+use Rattle.semantic_model.specs.Analysis.{Analysis}
 use Rattle.rename_model.specs.Same.{is_same_at}
 use Rattle.renamer.specs.Told.{told_by}
 use Rattle.renamer.proofs.GoingOn.{goes_on}

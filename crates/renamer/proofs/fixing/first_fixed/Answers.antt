@@ -4,7 +4,7 @@ use Rattle.semantic_tree.specs.Faults.{first_where}
 use Rattle.semantic_tree.specs.Place.{placed_from}
 use Rattle.semantic_syntax.specs.Members.{contains}
 use Rattle.semantic_model.specs.Step.{steps}
-use Rattle.program_names.specs.Exported.{exported_names}
+use Rattle.semantic_model.specs.Exported.{exported_names}
 use Rattle.rename_model.specs.Renamed.{bears_name}
 use Rattle.renamer.specs.Fixing.{fixes_at}
 use Rattle.renamer.specs.Told.{told_by}

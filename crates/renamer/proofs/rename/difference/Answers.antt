@@ -1,5 +1,5 @@
 use Rattle.std.proofs.Common.{◌≡◌, sym, ◌∙◌}
-use Rattle.program_names.specs.Analysis.{analysis_of}
+use Rattle.semantic_model.specs.Analysis.{analysis_of}
 use Rattle.rename_model.specs.Same.{first_difference}
 use Rattle.renamer.specs.Told.{told_by}
 use Rattle.renamer.proofs.Outcomes.{built}

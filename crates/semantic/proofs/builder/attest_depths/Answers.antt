@@ -1,5 +1,5 @@
 use Rattle.semantic_tree.proofs.ShapedLaws.{IsShaped-no_fault}
-use Rattle.count_model.proofs.Depths.{probes_within}
+use Rattle.walk_model.proofs.asking.Depths.{probes_within}
 use Rattle.semantic.proofs.builder.attest_depths.Goals as goal
 
 pub returns : goal.returns

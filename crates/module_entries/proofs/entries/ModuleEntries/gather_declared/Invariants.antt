@@ -1,7 +1,7 @@
 use Rattle.std.proofs.Common.{◌≡◌, map, flat_map}
 use Rattle.semantic_tree.specs.ChildIter.{left_of}
 use Rattle.semantic_model.specs.Names.{bound_names}
-use Rattle.program_names.specs.Exported.{declared_names}
+use Rattle.semantic_model.specs.Exported.{declared_names}
 use Rattle.module_entries.specs.Views.{export_of}
 use Rattle.module_entries.specs.Entries.{seen, with_exports}
 use Rattle.module_entries.proofs.entries.ModuleEntries.gather_declared.Given as goal

@@ -3,7 +3,7 @@ use Rattle.semantic_tree.specs.Forest.{count}
 use Rattle.semantic_tree.specs.Children.{forest_of}
 use Rattle.semantic_tree.specs.declared.node.Node.{Node}
 use Rattle.semantic_model.specs.Namespace.{reach}
-use Rattle.namespace_laws.specs.Statements.{lists_inside}
+use Rattle.namespace_states.specs.Statements.{lists_inside}
 use Rattle.namespace_states.specs.Led.{led_by, led_below}
 use Rattle.namespace_states.proofs.program_pass.ProgramPass.+visit.Given as goal
 

@@ -2,8 +2,8 @@ use Rattle.std.proofs.Common.{IfOk, subst}
 use Rattle.semantic_tree.specs.declared.node.Node.{Node}
 use Rattle.semantic_model.specs.Entries.{Among}
 use Rattle.semantic_model.specs.Namespace.{Item}
-use Rattle.namespace_laws.specs.Reaches.{IsGreatestReached}
-use Rattle.namespace_laws.specs.Statements.{items_from}
+use Rattle.namespace_states.specs.Reaches.{IsGreatestReached}
+use Rattle.namespace_states.specs.Statements.{items_from}
 use Rattle.namespace_states.specs.StatesByMarks.{state_in}
 use Rattle.namespace_states.proofs.FoundStates.{states_placed, states_searched}
 use Rattle.namespace_states.proofs.states.NamespaceStates.of.Goals as goal

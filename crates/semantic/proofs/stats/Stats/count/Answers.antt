@@ -6,7 +6,7 @@ use Rattle.semantic_tree.specs.Children.{single}
 use Rattle.semantic_tree.specs.Forest.{Forest, count}
 use Rattle.semantic_tree.proofs.ShapedLaws.{IsShaped-no_fault}
 use Rattle.semantic_model.specs.Inside.{opens}
-use Rattle.count_laws.specs.Counted.{is_symbol, is_reference}
+use Rattle.walk_model.specs.Counted.{is_symbol, is_reference}
 use Rattle.semantic.proofs.Counting.{kind_fits, kinds_added, openers}
 use Rattle.semantic.proofs.Sizes.{tables_of_size}
 use Rattle.semantic.proofs.stats.Stats.count.Goals as goal

@@ -4,7 +4,7 @@ use Rattle.semantic_kinds.specs.declared.role.Role.TheVariants as role
 use Rattle.semantic_tree.specs.Children.{single, node_count}
 use Rattle.semantic_tree.specs.KindCounts.{among_kinds}
 use Rattle.semantic_model.specs.Inside.{opens}
-use Rattle.count_laws.specs.Counted.{is_symbol, is_reference}
+use Rattle.walk_model.specs.Counted.{is_symbol, is_reference}
 use Rattle.semantic.proofs.stats.Stats.count.Given as goal
 
 -- what is counted and what is left come to the whole

@@ -10,7 +10,7 @@ use Rattle.table_building.proofs.Growing.{goes-refl}
 use Rattle.semantic_walk.proofs.PlaceDeclares.{stated, unstated, function_declares, function_opens}
 use Rattle.semantic_walk.proofs.PlaceRows.{on_ok_same, caught_acts, members_act}
 use Rattle.semantic_walk.proofs.BindArms.{DeclaresNothing, nothing_entered, nothing_opened, imports_declared, below_root, ids_declared, class_entered, class_opened, mapped_opened}
-use Rattle.count_laws.specs.Room.{id_count}
+use Rattle.walk_model.specs.Room.{id_count}
 use Rattle.semantic_walk.specs.Binds.{acting}
 use Rattle.semantic_walk.specs.Ids.{HasIds, names_by}
 use Rattle.semantic_walk.specs.Paths.{parent_in}

@@ -6,8 +6,8 @@ use Rattle.semantic_model.specs.Place.{Place, OpenScope}
 use Rattle.semantic_model.specs.Step.{Step, ending_after}
 use Rattle.walk_model.specs.WalkState.{WalkState}
 use Rattle.walk_model.specs.Waits.{HoldsAt}
-use Rattle.count_model.specs.Probes.{probes_of_steps}
-use Rattle.count_model.proofs.StepSums.{raised_none}
+use Rattle.walk_model.specs.Probes.{probes_of_steps}
+use Rattle.walk_model.proofs.asking.StepSums.{raised_none}
 use Rattle.node_rules.specs.EvenKinds.{acts_between}
 use Rattle.table_building.proofs.Growing.{goes-trans, grows-trans}
 use Rattle.semantic_walk.specs.Walker.{Walker}

@@ -3,7 +3,7 @@ use Rattle.semantic_tree.specs.declared.node.Node.{Node}
 use Rattle.semantic_model.specs.Naming.{Naming}
 use Rattle.node_rules.specs.BoundIdentifiers.{names_left}
 use Rattle.walk_model.specs.WalkState.{WalkState}
-use Rattle.count_laws.proofs.Growth.{declare_adds}
+use Rattle.walk_model.proofs.sizes.Growth.{declare_adds}
 use Rattle.table_building.specs.Named.{named_by}
 use Rattle.table_building.specs.Each.{declare_each}
 use Rattle.table_building.proofs.Growing.{goes-trans}

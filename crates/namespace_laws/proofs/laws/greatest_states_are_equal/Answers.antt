@@ -1,5 +1,0 @@
-use Rattle.namespace_laws.proofs.Greatest.{only-one}
-use Rattle.namespace_laws.proofs.laws.greatest_states_are_equal.Goals as goal
-
-pub returns : goal.returns
-returns c = λ i s t g h. only-one i s t g h

@@ -1,5 +1,0 @@
-use Rattle.namespace_laws.proofs.Greatest.{searched}
-use Rattle.namespace_laws.proofs.laws.searched_states_are_greatest.Goals as goal
-
-pub returns : goal.returns
-returns c = λ program p h a. searched program p h a

@@ -1,3 +1,0 @@
-pub mod Reaches
-pub mod Statements
-pub mod Descents
