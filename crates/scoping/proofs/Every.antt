@@ -1,5 +1,5 @@
 -- What holds of each entry, as entries come and go.
-use Rattle.std.proofs.Common.{ℕ, zero, suc, Bool, true, false, cond, if◌then◌else◌, List, [], ◌∷◌, length, take, position, swap_remove, ◌-◌, Option, None, Some, arith}
+use Rattle.std.proofs.Common.{ℕ, zero, suc, Bool, true, false, cond, if◌then◌else◌, List, [], ◌∷◌, ◌++◌, length, take, position, swap_remove, ◌-◌, Option, None, Some, arith}
 use Rattle.std.specs.List.{AllByRecursion}
 use Rattle.indexmap.specs.IndexMap.{insert_entry, shift_remove_entry, swap_remove_by}
 use Rattle.std.specs.Option.{option_map_or}
@@ -21,6 +21,11 @@ module _ {K X : Type 0} (P : K × X → Type 0) where
       by : (b : Bool) → AllByRecursion P (shift_remove_entry test es) → AllByRecursion P (cond b es (e ∷ shift_remove_entry test es))
       by true rest = h.1
       by false rest = (h.0, rest)
+
+-- what holds of all holds of those in front
+pub every-front : {X : Type 0} (P : X → Type 0) (xs ys : List X) → AllByRecursion P (xs ++ ys) → AllByRecursion P xs
+every-front P [] ys h = tt
+every-front P (x ∷ xs) ys h = (h.0, every-front P xs ys h.1)
 
 -- what the last element's move into a place leaves
 module _ {X : Type 0} (P : X → Type 0) where

@@ -2,6 +2,7 @@
 use Rattle.std.proofs.Common.{◌≡◌, ℕ, ◌<◌, ◌≤◌, nat_eq, Bool, true, false, cond, unwrap_or, List, [], ◌∷◌, ◌++◌, None, Some, IfSome, Result, OnErr, length, get_or, map, refl, sym, ap, subst, ◌∙◌, arith, length-append}
 use Rattle.std.specs.List.{AllByRecursion}
 use Rattle.std.specs.Global.{Vec}
+use Rattle.std.specs.Vec.{vec_len}
 use Rattle.std.specs.Map.{lookup}
 use Rattle.std.specs.Str.{bytes_eq}
 use Rattle.std.proofs.Math.ListN.{set, get_or-append}
@@ -151,6 +152,17 @@ module _ (a : Inside) (sound : IsSound a) (s : ℕ) where
 
   pub uses_within : s < length (tables a).symbols → s < length a.uses.items
   uses_within within = omega (arith, symbol_within within, sound.used)
+
+-- an index of what is shown is one of the fields' rows
+module _ (a : Inside) (sound : IsSound a) (s i : ℕ) (at : i ≡ s) where
+  pub scope_index : s < length (tables a).scopes → i < vec_len a.scopes
+  scope_index within = omega (arith, at, row_within a sound s within, a.scopes.ok.0)
+
+  pub symbol_index : s < length (tables a).symbols → i < vec_len a.symbols
+  symbol_index within = omega (arith, at, symbol_within a sound s within, a.symbols.ok.0)
+
+  pub uses_index : s < length (tables a).symbols → i < vec_len a.uses
+  uses_index within = omega (arith, at, uses_within a sound s within, a.uses.ok.0)
 
 -- a reference listed under a number
 pub listed_push : (names references n r : ℕ) (es : List (ℕ × List ℕ)) → n < names → r < references → AllByRecursion (IsListedWithin names references) es

@@ -47,8 +47,7 @@ impl FreeTable {
             list.push(reference)?;
             return Ok(());
         }
-        let mut list = Vec::new(self.alloc);
-        list.push(reference)?;
+        let list = vec![in self.alloc; reference]?;
         self.lists.insert(number, list)?;
         Ok(())
     }

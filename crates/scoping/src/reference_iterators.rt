@@ -94,8 +94,10 @@ impl<'s> Iterator for ReferencesIter<'s> {
     ghost remaining = { λ s. at_most (length s) };
 
     fn next(&mut self) -> Option<&'s Reference> {
-        let id = self.ids.next()?;
-        Some(&self.references[id.index()])
+        match self.ids.next() {
+            Some(id) => Some(&self.references[id.index()]),
+            None => None,
+        }
     }
 }
 

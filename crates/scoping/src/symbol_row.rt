@@ -155,14 +155,12 @@ impl SymbolRow {
             list.push(added)?;
             return Ok(());
         }
-        let mut list = Vec::with_capacity(alloc, 2)?;
-        list.push(Redeclaration {
+        let own = Redeclaration {
             span: self.span,
             declaration: self.node,
             flags: self.flags,
-        })?;
-        list.push(added)?;
-        self.redeclarations = Some(list);
+        };
+        self.redeclarations = Some(vec![in alloc; own, added]?);
         Ok(())
     }
 

@@ -3,6 +3,7 @@ pub mod Numbered
 pub mod Ways
 pub mod Passing
 pub mod Growing
+pub mod Grown
 pub mod Waiting
 pub mod Settling
 pub mod Outside

@@ -137,8 +137,7 @@ impl<'a> Declared<'a> {
 
     /// Gives up what is made.
     pub fn give_up(self) {
-        drop_scoping(self.scoping);
-        drop_tables(self.tables);
+        drop(self);
     }
 
     /// How many references wait.
@@ -372,9 +371,3 @@ impl<'a> Declared<'a> {
         self.declare(scope, &declaration)
     }
 }
-
-/// Drops the tables, out of line: each function that drops them itself is proved anew to drop each of their parts.
-fn drop_scoping(_scoping: Scoping) {}
-
-/// Drops what belongs to each node, out of line too.
-fn drop_tables(_tables: NodeTables) {}

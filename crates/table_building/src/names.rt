@@ -17,7 +17,7 @@ ghost use Rattle.table_building.specs.Each as each;
 use crate::declaration::Declaration;
 use crate::declared::Declared;
 use crate::route::Route;
-use node_rules::bound_identifiers::bound_identifiers;
+use node_rules::bound_identifiers::{BoundIdentifiers, bound_identifiers};
 use node_rules::rows::{Row, catch_pattern_row, caught_row, member_row};
 use semantic_syntax::ScopeId;
 use semantic_tree::{AstKind, AstType, Role};
@@ -40,6 +40,23 @@ impl<'a> Declared<'a> {
         ensures goes { Goes self.old self.new }
     {
         let names = bound_identifiers(self.alloc, part)?;
+        self.declare_listed(node, &names, scope, row, is_pure)
+    }
+
+    /// The node declares the listed names in the scope.
+    fn declare_listed(
+        &mut self,
+        node: AstKind<'a>,
+        names: &BoundIdentifiers<'a>,
+        scope: ScopeId,
+        row: Row,
+        is_pure: bool,
+    ) -> Result<(), AllocError>
+        requires scope { scope < length self.old.tables.scopes }
+        requires room { length self.old.tables.symbols + length names.now ≤ u32.MAX }
+        ensures made { OnOk result (self.new ≡ each.declare_each self.old scope (map (named_by node.entry.node.now row is_pure) names.now)) }
+        ensures goes { Goes self.old self.new }
+    {
         for name in names.iter() {
             self.declare_name(node, name, scope, row, is_pure)?;
         }
@@ -80,6 +97,23 @@ impl<'a> Declared<'a> {
         ensures goes { Goes self.old self.new }
     {
         let names = bound_identifiers(self.alloc, part)?;
+        self.hoist_listed(node, &names, route, row, is_pure)
+    }
+
+    /// The node declares the listed names as `var` variables.
+    fn hoist_listed(
+        &mut self,
+        node: AstKind<'a>,
+        names: &BoundIdentifiers<'a>,
+        route: &Route,
+        row: Row,
+        is_pure: bool,
+    ) -> Result<(), AllocError>
+        requires route { IsRoute (length self.old.tables.scopes) route.now }
+        requires room { length self.old.tables.symbols + length names.now ≤ u32.MAX }
+        ensures made { OnOk result (self.new ≡ each.hoist_each self.old route.now.passed.items route.now.target (map (named_by node.entry.node.now row is_pure) names.now)) }
+        ensures goes { Goes self.old self.new }
+    {
         for name in names.iter() {
             self.hoist_name(node, name, route, row, is_pure)?;
         }

@@ -29,9 +29,9 @@ impl NamedTables {
         ensures free { IfOk result (λ t. t.free ≡ free.now) }
     {
         Ok(NamedTables {
+            free: free.clone()?,
             names: names.clone()?,
             bindings: bindings.clone()?,
-            free: free.clone()?,
         })
     }
 }
@@ -60,9 +60,9 @@ impl Rows {
     {
         Ok(Rows {
             scopes: scopes.clone()?,
-            symbols: symbols.clone()?,
             references: references.clone()?,
             uses: uses.clone()?,
+            symbols: symbols.clone()?,
         })
     }
 }
@@ -75,8 +75,8 @@ impl Scoping {
     ) -> Result<Scoping, AllocError>
         ensures { IfOk result (λ t. t ≡ self.now) }
     {
-        let rows = Rows::cloned(&self.scopes, &self.symbols, &self.references, &self.uses)?;
         let pure_symbols = self.pure_symbols.clone()?;
+        let rows = Rows::cloned(&self.scopes, &self.symbols, &self.references, &self.uses)?;
         let named = NamedTables::cloned(&self.names, &self.bindings, &self.free)?;
         Ok(Scoping {
             alloc,

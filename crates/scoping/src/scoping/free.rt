@@ -23,8 +23,7 @@ impl Scoping {
         ensures err { OnErr result (self.new ≡ self.old) }
     {
         let number = self.names.intern(name)?;
-        self.free.push(number, reference)?;
-        Ok(())
+        self.free.push(number, reference)
     }
 
     /// The free references of each name.

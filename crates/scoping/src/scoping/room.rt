@@ -42,7 +42,7 @@ pub(crate) fn reserve_symbol(
 }
 
 /// Adds a value to a list that has room for it.
-fn push_in_room<T: Drop>(list: &mut Vec<T>, value: T)
+pub(crate) fn push_in_room<T: Drop>(list: &mut Vec<T>, value: T)
     requires { vec_len list.old < vec_capacity list.old }
     ensures { list.new.items ≡ list.old.items ++ value ∷ [] }
 {

@@ -5,6 +5,7 @@ ghost use Rattle.std.specs.Int.RustNames.{bit_and, bit_or};
 ghost use Rattle.scoping.specs.Ancestry.{RunsOutward};
 ghost use Rattle.semantic_syntax.specs.Reading.{scope_of, chain};
 
+use super::room::push_in_room;
 use super::{ScopeRow, Scoping};
 use crate::scope_iterators::{ScopeAncestors, ScopeIds};
 use semantic_syntax::{NodeId, ScopeFlags, ScopeId};
@@ -30,11 +31,12 @@ impl Scoping {
         let id = ScopeId::new(self.scopes.len() as u32);
         self.scopes.reserve(1)?;
         self.bindings.add_scope()?;
-        self.scopes.push(ScopeRow {
+        let row = ScopeRow {
             parent,
             node,
             flags,
-        })?;
+        };
+        push_in_room(&mut self.scopes, row);
         Ok(id)
     }
 

@@ -1,4 +1,4 @@
-use Rattle.std.proofs.Common.{◌++◌, ◌∷◌, [], nat_eq, sym, ◌∙◌, ap}
+use Rattle.std.proofs.Common.{nat_eq, sym, ◌∙◌, ap}
 use Rattle.indexmap.specs.IndexMap.{insert_entry}
 use Rattle.semantic_syntax.proofs.Results.{on_err}
 use Rattle.scoping.proofs.Entries.{by_value, lookup-by_value, insert-by_value, set_value-kept, set_value-inserts}
@@ -22,9 +22,8 @@ returns-in-Some-clause-ok c =
 
 pub returns-clause-ok : goal.returns-clause-ok
 returns-clause-ok c =
-    let only = c.in_ok-push-2.ensures.items ∙ ap (λ xs. xs ++ c.args.reference ∷ []) c.new-list.ensures.items in
     let es = c.self.inside.lists.entries in
     let none = sym c.in_default.ensures.value in
     rw (← c.self.view_is, c.in_ok-insert.ensures.entries, c.get_mut.follows.holds-at-none, lookup-by_value (λ v. v.items) (nat_eq c.args.number) es, none)
-    (insert-by_value (λ v. v.items) nat_eq es c.args.number c.push-2.new.self
-    ∙ ap (insert_entry nat_eq (by_value (λ v. v.items) es) c.args.number) only)
+    (insert-by_value (λ v. v.items) nat_eq es c.args.number c.in_ok-list.list
+    ∙ ap (insert_entry nat_eq (by_value (λ v. v.items) es) c.args.number) c.in_ok-list.ensures.items)

@@ -1,5 +1,6 @@
-use Rattle.std.proofs.Common.{◌≡◌, ℕ, ◌++◌, set, length, subst, sym, ap, ◌∙◌, nat_eq}
+use Rattle.std.proofs.Common.{◌≡◌, ℕ, ◌++◌, set, length, subst, sym, ap, ◌∙◌, nat_eq, arith}
 use Rattle.indexmap.specs.IndexMap.{insert_entry}
+use Rattle.semantic_syntax.proofs.Results.{on_err}
 use Rattle.scoping.specs.NodeEntries.{AreBefore, AreRising, HasNone, IsPositionOf}
 use Rattle.scoping.proofs.Rising.{insert_at, insert_behind, rise_behind, rise_set, pushed}
 use Rattle.scoping.proofs.node_map.NodeMap.insert.Goals as goal
@@ -39,3 +40,26 @@ returns-in_ok-insert-in-None-clause-ok g c =
     let es = c.self.inside.rising.items in
     let none = subst (λ xs. HasNone xs c.args.node) c.deref-2.ensures.value c.in-None.ensures in
     ap (λ fs. es ++ fs) c.in_ok-insert-in-None.ensures.entries ∙ sym (insert_behind es c.self.inside.late.entries c.args.node c.args.value none) ∙ ap (λ xs. insert_entry nat_eq xs c.args.node c.args.value) c.self.view_is
+
+pub is_behind-requires : goal.is_behind-requires
+is_behind-requires g c = subst AreRising (sym c.deref.ensures.value) c.self.invariant
+
+pub position_of-requires : goal.position_of-requires
+position_of-requires g c = subst AreRising (sym c.deref-2.ensures.value) c.self.invariant
+
+pub index_mut-requires : goal.index_mut-requires
+index_mut-requires g c =
+    let position = subst (λ xs. IsPositionOf xs c.args.node c.in-Some.position) c.deref-2.ensures.value c.in-Some.ensures in
+    omega (arith, position.in_range, c.self.inside.rising.ok.0)
+
+pub invariant_of-self : goal.invariant_of-self
+invariant_of-self g c = subst AreRising (sym c.in_err-push.ensures.items) c.self.invariant
+
+pub returns-in_err-push-clause-err : goal.returns-in_err-push-clause-err
+returns-in_err-push-clause-err g c = on_err c.from_residual.result (ap (λ xs. xs ++ c.self.inside.late.entries) c.in_err-push.ensures.items ∙ c.self.view_is)
+
+pub invariant_of-self-in_ok-insert-in-None : goal.invariant_of-self-in_ok-insert-in-None
+invariant_of-self-in_ok-insert-in-None g c = c.self.invariant
+
+pub invariant_of-self-in_err-insert-in-None : goal.invariant_of-self-in_err-insert-in-None
+invariant_of-self-in_err-insert-in-None g c = c.self.invariant

@@ -3,8 +3,9 @@ use Rattle.std.specs.Str.{bytes_eq}
 use Rattle.std.proofs.Math.ListN.{set}
 use Rattle.std.proofs.lemmas.List.{length-set}
 use Rattle.indexmap.specs.IndexMap.{insert_entry}
-use Rattle.semantic_syntax.proofs.Results.{on_ok_then, on_err_then}
+use Rattle.semantic_syntax.proofs.Results.{on_err, on_ok_then, on_err_then}
 use Rattle.scoping.specs.Names.{name_of}
+use Rattle.scoping.proofs.Clones.{sound_same}
 use Rattle.scoping.proofs.Cases.{either}
 use Rattle.scoping.proofs.Shown.{tables_eq, bound_insert, shown_insert, scope_within, symbol_within, sound_bindings, sound_interned, tables_interned, bindings_interned, symbols_interned, free_interned}
 use Rattle.scoping.proofs.scoping.Scoping.add_binding.Goals as goal
@@ -44,3 +45,9 @@ returns-clause-ok c =
 pub returns-clause-err : goal.returns-clause-err
 returns-clause-err c =
     on_err_then c.insert.result (λ is. rw is (tables_interned c.self.inside c.self.invariant _ _ _ c.in_ok-number.ensures.ok ∙ c.self.view_is)) c.insert.ensures.err
+
+pub invariant_of-self : goal.invariant_of-self
+invariant_of-self c = sound_same c.self.inside _ c.self.invariant c.in_err-number.ensures.err refl refl refl refl refl refl
+
+pub returns-in_err-number-clause-err : goal.returns-in_err-number-clause-err
+returns-in_err-number-clause-err c = rw c.in_err-number.ensures.err (on_err c.from_residual.result c.self.view_is)

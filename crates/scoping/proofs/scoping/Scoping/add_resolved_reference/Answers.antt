@@ -4,7 +4,7 @@ use Rattle.std.proofs.lemmas.List.{length-set}
 use Rattle.semantic_syntax.proofs.Every.{every-push, every-set, every-or}
 use Rattle.semantic_syntax.proofs.Results.{on_err}
 use Rattle.scoping.proofs.Rows.{rows, rows_kept, rows_changed}
-use Rattle.scoping.proofs.Shown.{tables_eq, uses_within, sound_uses}
+use Rattle.scoping.proofs.Shown.{uses_index, tables_eq, uses_within, sound_uses}
 use Rattle.scoping.proofs.scoping.Scoping.add_resolved_reference.Goals as goal
 
 pub invariant_of-self : goal.invariant_of-self
@@ -40,3 +40,6 @@ returns-clause-ok c =
     (tables_eq _ _ refl refl refl refl
     (rows_changed c.self.inside.uses.items c.args.symbol c.index.result c.index_mut.result.now c.push.new.self c.index.ensures within c.index_mut.ensures.value (λ rs. rs ++ c.args.reference ∷ []) c.in_ok-push.ensures.items)
     refl refl)
+
+pub index_mut-requires : goal.index_mut-requires
+index_mut-requires c = uses_index c.self.inside c.self.invariant c.args.symbol c.index.result c.index.ensures (rw (← c.self.view_is) at c.requires.symbol)

@@ -1,4 +1,6 @@
-use Rattle.std.proofs.Common.{refl, ap}
+use Rattle.std.proofs.Common.{refl, ap, arith}
+use Rattle.std.proofs.lemmas.List.{length-map}
+use Rattle.scoping.specs.Row.{symbol_of_row}
 use Rattle.semantic_syntax.proofs.Results.{on_err}
 use Rattle.scoping.proofs.Clones.{sound_same, tables_same}
 use Rattle.scoping.proofs.Pushed.{tables_pushed, sound_pushed}
@@ -35,3 +37,15 @@ returns-clause-ok c =
     rw (← c.self.view_is)
     (tables_pushed c.self.inside c.self.invariant _ _ _ c.in_ok-number.ensures.ok c.push_symbol.new.symbols _ _ c.push_symbol.ensures.symbols c.reserve_symbol.ensures.symbols c.new-row.ensures
     c.push_symbol.new.uses _ c.push_symbol.ensures.uses c.reserve_symbol.ensures.uses)
+
+pub overflow_cast-len : goal.overflow_cast-len
+overflow_cast-len c = omega (arith, c.len.ensures, c.self.inside.symbols.ok.0, c.self.invariant.symbols_fit)
+
+pub push_symbol-requires-clause-room : goal.push_symbol-requires-clause-room
+push_symbol-requires-clause-room c = c.in_ok-reserve_symbol.ensures.room
+
+pub push_symbol-requires-clause-uses_room : goal.push_symbol-requires-clause-uses_room
+push_symbol-requires-clause-uses_room c = c.in_ok-reserve_symbol.ensures.uses_room
+
+pub returns-clause-made : goal.returns-clause-made
+returns-clause-made c = rw (← c.self.view_is) (omega (arith, c.new-id.ensures, c.len.ensures, c.self.inside.symbols.ok.0, length-map c.self.inside.symbols.items (symbol_of_row c.self.inside.names)))

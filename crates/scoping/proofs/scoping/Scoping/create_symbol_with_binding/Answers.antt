@@ -64,3 +64,20 @@ returns-clause-ok c =
     let bound = shown_insert _ _ c.self.inside.bindings sound.bound c.args.bind_in within _ _ interned.number c.new-id.result
     ∙ ap (λ bs. set bs c.args.bind_in (insert_entry bytes_eq (get_or bs c.args.bind_in []) (name_of c.args.name) c.new-id.result)) (bindings_interned c.self.inside c.self.invariant _ _ _ interned) in
     rw (← c.self.view_is, c.in_ok-insert.ensures.ok, ← id) (λ j. record (pushed j) { bindings = bound j })
+
+pub overflow_cast-len : goal.overflow_cast-len
+overflow_cast-len c = omega (arith, c.len.ensures, c.self.inside.symbols.ok.0, c.self.invariant.symbols_fit)
+
+pub push_symbol-requires-clause-room : goal.push_symbol-requires-clause-room
+push_symbol-requires-clause-room c = c.in_ok-reserve_symbol.ensures.room
+
+pub push_symbol-requires-clause-uses_room : goal.push_symbol-requires-clause-uses_room
+push_symbol-requires-clause-uses_room c = c.in_ok-reserve_symbol.ensures.uses_room
+
+pub invariant_of-self-in_err-insert : goal.invariant_of-self-in_err-insert
+invariant_of-self-in_err-insert c =
+    let room = c.reserve_symbol.ensures in
+    sound_same (record c.self.inside { names = c.intern.new.self }) _ (sound_interned c.self.inside c.self.invariant _ _ _ c.in_ok-number.ensures.ok) refl refl c.in_err-insert.ensures.err room.symbols refl (ap rows room.uses) refl
+
+pub returns-clause-made : goal.returns-clause-made
+returns-clause-made c = rw (← c.self.view_is) (omega (arith, c.new-id.ensures, c.len.ensures, c.self.inside.symbols.ok.0, length-map c.self.inside.symbols.items (symbol_of_row c.self.inside.names)))

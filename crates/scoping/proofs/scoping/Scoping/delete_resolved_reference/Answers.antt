@@ -5,7 +5,7 @@ use Rattle.indexmap.specs.IndexMap.{swap_remove_by}
 use Rattle.semantic_syntax.proofs.Every.{every-set, every-or}
 use Rattle.scoping.proofs.Every.{every-swapped}
 use Rattle.scoping.proofs.Rows.{rows, rows_changed}
-use Rattle.scoping.proofs.Shown.{tables_eq, uses_within, sound_uses}
+use Rattle.scoping.proofs.Shown.{uses_index, tables_eq, uses_within, sound_uses}
 use Rattle.scoping.proofs.scoping.Scoping.delete_resolved_reference.Goals as goal
 
 pub invariant_of-self : goal.invariant_of-self
@@ -25,3 +25,6 @@ returns c =
     (tables_eq _ _ refl refl refl refl
     (rows_changed c.self.inside.uses.items c.args.symbol c.index.result c.index_mut.result.now c.take_out.new.references c.index.ensures within c.index_mut.ensures.value (swap_remove_by (nat_eq c.args.reference)) c.take_out.ensures)
     refl refl)
+
+pub index_mut-requires : goal.index_mut-requires
+index_mut-requires c = uses_index c.self.inside c.self.invariant c.args.symbol c.index.result c.index.ensures (rw (← c.self.view_is) at c.requires)

@@ -2,6 +2,8 @@ use Rattle.std.proofs.Common.{refl, ap, ◌∙◌, [], ◌∷◌, length}
 use Rattle.semantic_syntax.specs.Reading.{symbol_of}
 use Rattle.scoping.specs.View.{tables}
 use Rattle.scoping.specs.Writing.{with_symbol}
+use Rattle.semantic_syntax.proofs.Results.{on_err}
+use Rattle.scoping.proofs.Clones.{sound_same}
 use Rattle.scoping.proofs.Folds.{length_homes, named_homes, shown_homes}
 use Rattle.scoping.proofs.Moves.{bound_moved, length_moved, moved_is}
 use Rattle.scoping.proofs.Shown.{tables_eq, scope_within, symbol_within, sound_bindings, sound_rows, shown_number}
@@ -44,3 +46,12 @@ returns-clause-ok c =
     (tables_eq _ _ refl refl (shown_homes a.names c.args.to (c.args.symbol ∷ []) a.symbols.items (within, tt)) refl refl refl refl
     ∙ ap (λ t. with_symbol t c.args.symbol (record (symbol_of (tables a) c.args.symbol) { scope = c.args.to }))
     (moved_is _ _ a.bindings sound.bound (tables a) c.args.from c.args.to first second _ c.own_number-number.result number))
+
+pub invariant_of-self : goal.invariant_of-self
+invariant_of-self c = sound_same c.self.inside _ c.self.invariant refl refl c.in_err-move_number.ensures.err refl refl refl refl
+
+pub returns-in_err-move_number-clause-err : goal.returns-in_err-move_number-clause-err
+returns-in_err-move_number-clause-err c = rw c.in_err-move_number.ensures.err (on_err c.from_residual.result c.self.view_is)
+
+pub set_home-requires : goal.set_home-requires
+set_home-requires c = symbol_within c.self.inside c.self.invariant c.args.symbol (rw (← c.self.view_is) at c.requires.symbol)

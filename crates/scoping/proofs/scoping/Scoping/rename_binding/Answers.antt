@@ -1,8 +1,9 @@
-use Rattle.std.proofs.Common.{◌≡◌, None, sym, ap, ◌∙◌, map, get_or, []}
+use Rattle.std.proofs.Common.{◌≡◌, refl, None, sym, ap, ◌∙◌, map, get_or, []}
 use Rattle.std.specs.Map.{lookup}
 use Rattle.std.specs.Str.{bytes_eq}
-use Rattle.semantic_syntax.proofs.Results.{on_ok_then, on_err_then}
+use Rattle.semantic_syntax.proofs.Results.{on_err, on_ok_then, on_err_then}
 use Rattle.scoping.specs.Names.{named, name_of}
+use Rattle.scoping.proofs.Clones.{sound_same}
 use Rattle.scoping.proofs.Cases.{either}
 use Rattle.scoping.proofs.Renamed.{sound_renamed, is_renamed}
 use Rattle.scoping.proofs.Shown.{scope_within, sound_interned, tables_interned, shown_lookup_unknown, bindings_interned}
@@ -42,3 +43,12 @@ returns-in-None-clause-ok c =
     ap (λ bs. lookup (bytes_eq (name_of c.args.old)) (get_or bs c.args.scope [])) (sym (bindings_interned a c.self.invariant _ _ _ interned)) ∙ found in
     let bound = rw (← c.self.view_is) at c.requires.bound in
     absurd (cc)
+
+pub invariant_of-self : goal.invariant_of-self
+invariant_of-self c = sound_same c.self.inside _ c.self.invariant c.in_err-new_number.ensures.err refl refl refl refl refl refl
+
+pub returns-in_err-new_number-clause-err : goal.returns-in_err-new_number-clause-err
+returns-in_err-new_number-clause-err c = rw c.in_err-new_number.ensures.err (on_err c.from_residual.result c.self.view_is)
+
+pub invariant_of-self-in-None : goal.invariant_of-self-in-None
+invariant_of-self-in-None c = sound_interned c.self.inside c.self.invariant _ _ _ c.in_ok-new_number.ensures.ok

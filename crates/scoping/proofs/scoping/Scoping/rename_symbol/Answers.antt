@@ -1,5 +1,7 @@
-use Rattle.std.proofs.Common.{ap, ◌∙◌, [], ◌∷◌, length}
+use Rattle.std.proofs.Common.{refl, ap, ◌∙◌, [], ◌∷◌, length}
 use Rattle.scoping.specs.Names.{name_of}
+use Rattle.semantic_syntax.proofs.Results.{on_err}
+use Rattle.scoping.proofs.Clones.{sound_same}
 use Rattle.scoping.proofs.Folds.{length_named, named_named, shown_named}
 use Rattle.scoping.proofs.Renamed.{sound_renamed, symbol_renamed}
 use Rattle.scoping.proofs.Shown.{scope_within, symbol_within, sound_rows, sound_interned, err_interned}
@@ -40,3 +42,12 @@ returns-clause-ok c =
     rw (← c.self.view_is, c.in_ok-rename.ensures.ok, c.set_name.ensures)
     (symbol_renamed c.self.inside c.self.invariant _ _ _ interned c.args.scope c.args.symbol (rw (← c.self.view_is) at c.requires.scope) _ symbol c.own_number-old_number.ensures _
     (shown_named c.intern.new.self c.in_ok-new_number.new_number (name_of c.args.new) interned.number.named (c.args.symbol ∷ []) c.self.inside.symbols.items (row, tt)))
+
+pub invariant_of-self : goal.invariant_of-self
+invariant_of-self c = sound_same c.self.inside _ c.self.invariant c.in_err-new_number.ensures.err refl refl refl refl refl refl
+
+pub returns-in_err-new_number-clause-err : goal.returns-in_err-new_number-clause-err
+returns-in_err-new_number-clause-err c = rw c.in_err-new_number.ensures.err (on_err c.from_residual.result c.self.view_is)
+
+pub set_name-requires : goal.set_name-requires
+set_name-requires c = symbol_within c.self.inside c.self.invariant c.args.symbol (rw (← c.self.view_is) at c.requires.symbol)

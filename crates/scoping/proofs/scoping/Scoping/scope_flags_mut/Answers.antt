@@ -2,7 +2,7 @@ use Rattle.std.proofs.Common.{refl, ap, sym}
 use Rattle.std.proofs.lemmas.List.{length-set}
 use Rattle.semantic_syntax.specs.Tables.{Scope}
 use Rattle.scoping.proofs.Forests.{IsForest-same}
-use Rattle.scoping.proofs.Shown.{tables_eq, scope_at, scope_changed, parents_kept, row_within, sound_scopes}
+use Rattle.scoping.proofs.Shown.{scope_index, tables_eq, scope_at, scope_changed, parents_kept, row_within, sound_scopes}
 use Rattle.scoping.proofs.scoping.Scoping.scope_flags_mut.Goals as goal
 
 pub invariant_of-self-lent : goal.invariant_of-self-lent
@@ -28,3 +28,6 @@ returns c =
         value = rw (← c.self.view_is) (sym (ap (λ (x : Scope). x.flags) (scope_at c.self.inside.scopes.items c.args.scope c.index.result c.index_mut-row.result.now c.index_mut-row.result.now c.index.ensures within c.index_mut-row.ensures.value)));
       },
     )
+
+pub index_mut-row-requires : goal.index_mut-row-requires
+index_mut-row-requires c = scope_index c.self.inside c.self.invariant c.args.scope c.index.result c.index.ensures (rw (← c.self.view_is) at c.requires)

@@ -1,7 +1,7 @@
 use Rattle.std.proofs.Common.{refl, ap}
 use Rattle.std.proofs.lemmas.List.{length-set}
 use Rattle.scoping.specs.Row.{symbol_of_row}
-use Rattle.scoping.proofs.Shown.{tables_eq, symbol_changed, symbol_within, sound_rows, named_set, read_named}
+use Rattle.scoping.proofs.Shown.{symbol_index, tables_eq, symbol_changed, symbol_within, sound_rows, named_set, read_named}
 use Rattle.scoping.proofs.scoping.Scoping.set_symbol_span.Goals as goal
 
 pub invariant_of-self : goal.invariant_of-self
@@ -20,3 +20,6 @@ returns c =
     (symbol_changed c.self.inside.names c.self.inside.symbols.items c.args.symbol c.index.result c.index_mut.result.now c.set_span.new.self c.index.ensures within c.index_mut.ensures.value
     (λ y. record y { span = c.args.span }) (ap (symbol_of_row c.self.inside.names) c.set_span.ensures))
     refl refl refl refl)
+
+pub index_mut-requires : goal.index_mut-requires
+index_mut-requires c = symbol_index c.self.inside c.self.invariant c.args.symbol c.index.result c.index.ensures (rw (← c.self.view_is) at c.requires)

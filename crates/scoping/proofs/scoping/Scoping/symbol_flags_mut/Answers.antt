@@ -1,6 +1,6 @@
 use Rattle.std.proofs.Common.{refl, ap, ◌∙◌, sym}
 use Rattle.semantic_syntax.specs.Tables.{Symbol}
-use Rattle.scoping.proofs.Shown.{tables_eq, symbol_at, symbol_changed, symbol_within}
+use Rattle.scoping.proofs.Shown.{symbol_index, tables_eq, symbol_at, symbol_changed, symbol_within}
 use Rattle.scoping.proofs.scoping.Scoping.symbol_flags_mut.Goals as goal
 
 pub returns : goal.returns
@@ -18,3 +18,6 @@ returns c =
         value = rw (← c.self.view_is) (c.flags_mut.ensures.value ∙ sym (ap (λ (y : Symbol). y.flags) (symbol_at c.self.inside.names c.self.inside.symbols.items c.args.symbol c.index.result c.index_mut.result.now c.index_mut.result.now c.index.ensures within c.index_mut.ensures.value)));
       },
     )
+
+pub index_mut-requires : goal.index_mut-requires
+index_mut-requires c = symbol_index c.self.inside c.self.invariant c.args.symbol c.index.result c.index.ensures (rw (← c.self.view_is) at c.requires)

@@ -5,6 +5,15 @@ use Rattle.semantic_model.specs.Binding.{put}
 use Rattle.table_building.proofs.Numbered.{interned_same, interned_numbered, numbered_insert, put_numbered}
 use Rattle.table_building.proofs.hoisting_variables.HoistingVariables.put.Goals as goal
 
+pub invariant_of-self : goal.invariant_of-self
+invariant_of-self c = rw c.in_err-number.ensures.err c.self.invariant
+
+pub returns-in_err-number-clause-err : goal.returns-in_err-number-clause-err
+returns-in_err-number-clause-err c = rw c.in_err-number.ensures.err (on_err c.from_residual.result c.self.view_is)
+
+pub invariant_of-self-in_err-insert : goal.invariant_of-self-in_err-insert
+invariant_of-self-in_err-insert c = rw c.in_err-insert.ensures.err (interned_numbered _ _ _ _ c.in_ok-number.ensures.ok c.self.inside.symbols.entries c.self.invariant)
+
 pub returns-in_err-insert-clause-err : goal.returns-in_err-insert-clause-err
 returns-in_err-insert-clause-err c =
     rw c.in_err-insert.ensures.err

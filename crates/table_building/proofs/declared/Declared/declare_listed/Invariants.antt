@@ -1,16 +1,15 @@
 use Rattle.std.proofs.Common.{◌≡◌, ◌+◌, ◌-◌, ◌^◌, ◌≤◌, length, map}
 use Rattle.node_rules.specs.BoundIdentifiers.{names_left}
-use Rattle.semantic_model.specs.Names.{bound_names}
 use Rattle.table_building.specs.Growth.{Goes}
 use Rattle.table_building.specs.Named.{named_by}
 use Rattle.table_building.specs.Each.{declare_each}
-use Rattle.table_building.proofs.declared.Declared.declare_names.Given as goal
+use Rattle.table_building.proofs.declared.Declared.declare_listed.Given as goal
 
 -- to declare what is left is to declare all
 abbrev pub invariant-loop-name : goal.invariant-loop-name
 invariant-loop-name l = record {
   rest : declare_each l.self l.scope (map (named_by l.node.node.now l.row l.is_pure) (names_left l.name-iterator))
-      ≡ declare_each l.initial.self l.scope (map (named_by l.node.node.now l.row l.is_pure) (bound_names l.part.node.now));
+      ≡ declare_each l.initial.self l.scope (map (named_by l.node.node.now l.row l.is_pure) l.names);
   room : length l.self.tables.symbols + length (names_left l.name-iterator) ≤ 2 ^ 32 - 1;
   goes : Goes l.initial.self l.self;
 }
