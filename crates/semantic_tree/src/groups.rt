@@ -12,7 +12,7 @@ use semantic_kinds::class::is_member;
 pub fn is_parentheses(kind: AstType) -> bool
     ensures { result ≡ is_parentheses kind }
 {
-    kind == AstType::ParenthesizedExpression
+    matches!(kind, AstType::ParenthesizedExpression)
 }
 
 /// Whether nodes of the kind are parentheses, or what TypeScript puts round an expression.
