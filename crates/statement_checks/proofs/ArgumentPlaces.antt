@@ -1,5 +1,5 @@
 -- The value of a field is no static block, so one row at most is told of `arguments`.
-use Rattle.std.proofs.Common.{◌≡◌, List, [], ◌∷◌, ◌++◌, Bool, true, false, refl}
+use Rattle.std.proofs.Common.{◌≡◌, [], ◌∷◌, ◌++◌, Bool, true, false, refl}
 use Rattle.std.proofs.lemmas.Bool.{and_parts}
 use Rattle.semantic_kinds.specs.declared.kind.AstType.TheVariants as kinds
 use Rattle.semantic_tree.specs.Views.{is, is_child_in}
