@@ -23,3 +23,12 @@ by_truths false block one two h k = absurd cc
 -- only the first row is told of a field
 pub in_field : (link : Node × Node) (one two : Diagnostic) → is_field_value link ≡ true → row_if (is_field_value link) one ++ row_if (is_static_block link) two ≡ one ∷ []
 in_field link one two h = by_truths (is_field_value link) (is_static_block link) one two h (no_block link h)
+
+second_by_truths : (field block : Bool) (one two : Diagnostic) → field ≡ false → block ≡ true → row_if field one ++ row_if block two ≡ two ∷ []
+second_by_truths false true one two h k = refl
+second_by_truths false false one two h k = absurd cc
+second_by_truths true block one two h k = absurd cc
+
+-- and only the second one of a static block
+pub in_block : (link : Node × Node) (one two : Diagnostic) → is_field_value link ≡ false → is_static_block link ≡ true → row_if (is_field_value link) one ++ row_if (is_static_block link) two ≡ two ∷ []
+in_block link one two h k = second_by_truths (is_field_value link) (is_static_block link) one two h k
