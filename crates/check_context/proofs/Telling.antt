@@ -68,6 +68,11 @@ pub then_tells : {A E : Type 0} (r : Result A E) (rows more before mid now : Lis
 then_tells (Ok done) rows more before mid now h k = k ∙ ap (λ l. l ++ more) h ∙ append_assoc before rows more
 then_tells (Err want) rows more before mid now h k = then_begun rows more before mid now h k
 
+-- a loop goes on behind an element
+pub goes_past : {X : Type 0} (f : X → List Diagnostic) (rows before mid now : List Diagnostic) (xs : List X) (x : X) (rest : List X)
+    → xs ≡ x ∷ rest → IsTelling rows (flat_map f xs) before mid → now ≡ mid ++ f x → IsTelling rows (flat_map f rest) before now
+goes_past f rows before mid now xs x rest is t k = goes_on rows (f x) (flat_map f rest) before mid now (subst (λ l. IsTelling rows (flat_map f l) before mid) is t) k
+
 -- a loop stops at an element
 pub loop_stops : {A E X : Type 0} (P : E → Type 0) (f : X → List Diagnostic) (rows before mid now : List Diagnostic) (xs : List X) (x : X) (rest : List X) (r : Result A E)
     → IsErrAnd r P → xs ≡ x ∷ rest → IsTelling rows (flat_map f xs) before mid → IsBegun (f x) mid now → Tells r rows before now

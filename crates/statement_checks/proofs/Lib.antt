@@ -5,4 +5,5 @@ pub mod Skipped
 pub mod Ends
 pub mod Counts
 pub mod JumpEnds
-pub mod Turns
+pub mod Conditions
+pub mod ArgumentPlaces

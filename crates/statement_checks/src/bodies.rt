@@ -1,8 +1,5 @@
 //! Early errors of functions that stand as bodies of statements, and of `with`.
-ghost use Rattle.std.specs.Prelude.{◌≡◌, not, option_map, find};
-ghost use Rattle.semantic_kinds.specs.declared.kind.AstType.TheVariants as kinds;
-ghost use Rattle.semantic_tree.specs.ChildIter.{shown};
-ghost use Rattle.semantic_tree.specs.Views.{is};
+ghost use Rattle.std.specs.Prelude.{◌≡◌};
 ghost use Rattle.check_model.specs.Bodies as rows;
 ghost use Rattle.check_context.specs.Handed.{around, sight, IsContext, IsHanded};
 ghost use Rattle.check_context.specs.Tells.{Tells};
@@ -48,29 +45,18 @@ fn has_single_body(kind: AstKind<'_>) -> bool
         || kind.is_iteration_statement()
 }
 
-/// The first node around that is no label.
-fn first_unlabelled<'a>(ctx: &CheckContext<'a, '_>) -> Option<AstKind<'a>>
-    requires { IsContext ctx.now }
-    ensures { option_map shown result ≡ find (λ node. not (is kinds.LabeledStatement node)) (around ctx.now).path }
-{
-    let mut left = ctx.above();
-    while let Some(kind) = left.next() {
-        if kind.ty() != AstType::LabeledStatement {
-            return Some(kind);
-        }
-    }
-    None
-}
-
 /// Whether a labelled statement is, outside its labels, the body of a loop, a `with` or an `if`.
 fn is_single_body(ctx: &CheckContext<'_, '_>) -> bool
     requires { IsContext ctx.now }
     ensures { result ≡ rows.is_single_body (around ctx.now) }
 {
-    match first_unlabelled(ctx) {
-        Some(outer) => has_single_body(outer),
-        None => false,
+    let mut left = ctx.above();
+    while let Some(kind) = left.next() {
+        if kind.ty() != AstType::LabeledStatement {
+            return has_single_body(kind);
+        }
     }
+    false
 }
 
 /// A declared function has a label only in sloppy code, and not as a body of a statement (ECMAScript 14.13.1, Annex

@@ -1,10 +1,9 @@
 //! Early errors of exported names.
-ghost use Rattle.std.specs.Prelude.{◌≡◌, ◌==◌, ◌&&◌, nat_eq, flat_map};
-ghost use Rattle.std.specs.List.{IsDistinct, list_any};
+ghost use Rattle.std.specs.Prelude.{nat_eq, flat_map};
+ghost use Rattle.std.specs.List.{IsDistinct};
 ghost use Rattle.std.specs.Map.{keys_of};
-ghost use Rattle.semantic_kinds.specs.declared.kind.AstType.TheVariants as kinds;
 ghost use Rattle.semantic_kinds.specs.declared.role.Role.TheVariants as roles;
-ghost use Rattle.semantic_tree.specs.Views.{all_in, child_of, is};
+ghost use Rattle.semantic_tree.specs.Views.{all_in, child_of};
 ghost use Rattle.check_model.specs.Exports as rows;
 ghost use Rattle.check_model.specs.Search.{rows_of_some};
 ghost use Rattle.check_context.specs.Handed.{around, sight, IsContext};
@@ -16,15 +15,7 @@ use semantic_diagnostics::makers::undefined_export;
 use semantic_tree::{AstKind, AstType, Role};
 use std::alloc::{AllocError, Global};
 
-/// Whether an exported name is declared nowhere (ECMAScript 16.2.1.1, ExportedBindings).
-fn is_undefined(local: AstKind<'_>, ctx: &CheckContext<'_, '_>) -> bool
-    requires { IsDistinct nat_eq (keys_of ctx.now.tables.now.references) }
-    ensures { let node = local.entry.node.now in result ≡ (is kinds.IdentifierReference node && list_any (λ other. other == node.node_id) (around ctx.now).unresolved) }
-{
-    local.ty() == AstType::IdentifierReference && ctx.is_free(local)
-}
-
-/// Tells of an exported name that is declared nowhere.
+/// Tells of an exported name that is declared nowhere (ECMAScript 16.2.1.1, ExportedBindings).
 #[tactic(auto, using(check_context::proofs::Telling::made))]
 fn tell_local(
     alloc: Global,
@@ -35,11 +26,12 @@ fn tell_local(
     requires { IsDistinct nat_eq (keys_of ctx.now.tables.now.references) }
     ensures { Tells result (rows.local_rows (around ctx.now) local.entry.node.now) out.old out.new }
 {
-    if !is_undefined(local, ctx) {
-        return Ok(());
+    if local.ty() == AstType::IdentifierReference && ctx.is_free(local) {
+        let name = local.text();
+        tell(undefined_export(alloc, name.as_str(), local.span()), out)
+    } else {
+        Ok(())
     }
-    let name = local.text();
-    tell(undefined_export(alloc, name.as_str(), local.span()), out)
 }
 
 /// Tells of the name that a specifier exports, if it is declared nowhere.

@@ -113,16 +113,6 @@ fn tell_imports(
     Ok(())
 }
 
-/// Tells of what the root scope binds.
-#[tactic(auto, using(check_context::proofs::Telling::telling))]
-fn tell_bound(alloc: Global, scoping: &Scoping, out: &mut Diagnostics) -> Result<(), AllocError>
-    requires { 0 < length scoping.now.scopes }
-    ensures { Tells result (rows.bound_rows (bound_in scoping.now) 0 scoping.now.symbols) out.old out.new }
-{
-    let counts = counts_of_bound(alloc, scoping)?;
-    tell_imports(alloc, &counts, scoping, out)
-}
-
 /// A module doesn't declare an import again, in JavaScript (ECMAScript 16.2.2.1, BoundNames; 16.2.1.1,
 /// LexicallyDeclaredNames). The context is that of the program.
 #[tactic(auto, using(check_context::proofs::Telling::telling))]
@@ -137,5 +127,6 @@ pub fn check_import_value_redeclarations<'a>(
     if ctx.source_type.is_typescript() || !ctx.source_type.is_module() {
         return Ok(());
     }
-    tell_bound(alloc, ctx.scoping, out)
+    let counts = counts_of_bound(alloc, ctx.scoping)?;
+    tell_imports(alloc, &counts, ctx.scoping, out)
 }

@@ -134,23 +134,6 @@ fn tell_unmet(
     Ok(())
 }
 
-/// Tells of a `break` with a label that has no target.
-#[tactic(auto, using(check_context::proofs::Telling::telling))]
-fn tell_labelled_break(
-    alloc: Global,
-    label: AstKind<'_>,
-    ctx: &CheckContext<'_, '_>,
-    out: &mut Diagnostics,
-) -> Result<(), AllocError>
-    requires { IsContext ctx.now }
-    ensures { Tells result (rows.labelled_rows (λ target. []) label.entry.node.now (around ctx.now).path) out.old out.new }
-{
-    match met_by_label(label, ctx) {
-        Some(met) => tell_unmet(alloc, label, met, out),
-        None => Ok(()),
-    }
-}
-
 /// A `break` has a target in its function (ECMAScript 14.9.1, ContainsUndefinedBreakTarget).
 #[tactic(auto, using(check_context::proofs::Telling::telling))]
 pub fn check_break_statement<'a>(
@@ -162,9 +145,12 @@ pub fn check_break_statement<'a>(
     requires { IsContext ctx.now }
     ensures { Tells result (rows.check_break_statement (sight kind.entry.node.now ctx.now)) out.old out.new }
 {
-    match kind.child(Role::Label) {
-        Some(label) => tell_labelled_break(alloc, label, ctx, out),
-        None => tell_plain_break(alloc, kind.span(), ctx, out),
+    let Some(label) = kind.child(Role::Label) else {
+        return tell_plain_break(alloc, kind.span(), ctx, out);
+    };
+    match met_by_label(label, ctx) {
+        Some(met) => tell_unmet(alloc, label, met, out),
+        None => Ok(()),
     }
 }
 
@@ -222,23 +208,6 @@ fn tell_met_by_continue(
     }
 }
 
-/// Tells of a `continue` with a label that has no target, or whose target is no loop.
-#[tactic(auto, using(check_context::proofs::Telling::telling))]
-fn tell_labelled_continue(
-    alloc: Global,
-    label: AstKind<'_>,
-    ctx: &CheckContext<'_, '_>,
-    out: &mut Diagnostics,
-) -> Result<(), AllocError>
-    requires { IsContext ctx.now }
-    ensures { Tells result (rows.labelled_rows (rows.continue_rows label.entry.node.now) label.entry.node.now (around ctx.now).path) out.old out.new }
-{
-    match met_by_label(label, ctx) {
-        Some(met) => tell_met_by_continue(alloc, label, met, out),
-        None => Ok(()),
-    }
-}
-
 /// A `continue` has a loop as its target in its function (ECMAScript 14.8.1, ContainsUndefinedContinueTarget).
 #[tactic(auto, using(check_context::proofs::Telling::telling))]
 pub fn check_continue_statement<'a>(
@@ -250,8 +219,11 @@ pub fn check_continue_statement<'a>(
     requires { IsContext ctx.now }
     ensures { Tells result (rows.check_continue_statement (sight kind.entry.node.now ctx.now)) out.old out.new }
 {
-    match kind.child(Role::Label) {
-        Some(label) => tell_labelled_continue(alloc, label, ctx, out),
-        None => tell_plain_continue(alloc, kind.span(), ctx, out),
+    let Some(label) = kind.child(Role::Label) else {
+        return tell_plain_continue(alloc, kind.span(), ctx, out);
+    };
+    match met_by_label(label, ctx) {
+        Some(met) => tell_met_by_continue(alloc, label, met, out),
+        None => Ok(()),
     }
 }

@@ -1,8 +1,6 @@
 //! Early errors of labels.
 ghost use Rattle.std.specs.Prelude.{◌≡◌, option_map};
-ghost use Rattle.semantic_kinds.specs.declared.role.Role.TheVariants as roles;
 ghost use Rattle.semantic_tree.specs.ChildIter.{shown};
-ghost use Rattle.semantic_tree.specs.Views.{has_text, whose};
 ghost use Rattle.check_model.specs.Jumps as rows;
 ghost use Rattle.check_context.specs.Handed.{around, sight, IsContext};
 ghost use Rattle.check_context.specs.Tells.{Tells};
@@ -24,21 +22,18 @@ pub(crate) fn is_boundary(kind: AstKind<'_>) -> bool
     )
 }
 
-/// Whether the node has a label of the same text.
-fn has_label(label: AstKind<'_>, kind: AstKind<'_>) -> bool
-    ensures { result ≡ whose roles.Label (has_text label.entry.node.now.text) kind.entry.node.now }
-{
-    match kind.child(Role::Label) {
-        Some(own) => is_same(own, label),
-        None => false,
-    }
-}
-
 /// Whether the node is a statement of the label.
 pub(crate) fn is_labelled_by(label: AstKind<'_>, kind: AstKind<'_>) -> bool
     ensures { result ≡ rows.is_labelled_by label.entry.node.now kind.entry.node.now }
 {
-    kind.ty() == AstType::LabeledStatement && has_label(label, kind)
+    if kind.ty() == AstType::LabeledStatement {
+        match kind.child(Role::Label) {
+            Some(own) => is_same(own, label),
+            None => false,
+        }
+    } else {
+        false
+    }
 }
 
 /// The innermost statement around, in the same function, that has the label too.

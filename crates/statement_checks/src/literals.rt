@@ -1,6 +1,5 @@
 //! Early errors of literals and directives.
-ghost use Rattle.std.specs.Prelude.{◌≡◌, ◌==◌, ◌||◌, not, length};
-ghost use Rattle.std.specs.Str.{encode_utf8_all};
+ghost use Rattle.std.specs.Prelude.{◌≡◌, ◌||◌, not};
 ghost use Rattle.semantic_kinds.specs.declared.mark.Mark.TheVariants as mark;
 ghost use Rattle.semantic_kinds.specs.declared.role.Role.TheVariants as roles;
 ghost use Rattle.semantic_tree.specs.Views.{has, whose};
@@ -97,13 +96,6 @@ pub fn check_number_literal<'a>(
     }
 }
 
-/// Whether a string isn't written as it reads: its raw bytes, with the quotes, are as many as those that it means.
-fn is_escaped(kind: AstKind<'_>, raw: &[u8]) -> bool
-    ensures { result ≡ not (length raw.now == length (encode_utf8_all kind.entry.node.now.text)) }
-{
-    raw.len() != kind.node().text.as_str().len()
-}
-
 /// Tells of the first bad escape of a string, if there is one.
 #[tactic(auto, using(crate::proofs::FirstBad::rows, check_context::proofs::Telling::made))]
 fn tell_escapes(
@@ -121,7 +113,8 @@ fn tell_escapes(
     }
 }
 
-/// Strict code has no octal escapes, and no `\8` and `\9` (ECMAScript 12.9.4.1). The first one is told.
+/// Strict code has no octal escapes, and no `\8` and `\9` (ECMAScript 12.9.4.1). The first one is told, of a string
+/// that isn't written as it reads: its raw bytes, with the quotes, aren't as many as those that it means.
 #[tactic(auto, using(check_context::proofs::Telling::telling))]
 pub fn check_string_literal<'a>(
     alloc: Global,
@@ -136,7 +129,7 @@ pub fn check_string_literal<'a>(
         return Ok(());
     }
     let raw = ctx.bytes_at(kind.span());
-    if !is_escaped(kind, raw) {
+    if raw.len() == kind.node().text.as_str().len() {
         return Ok(());
     }
     tell_escapes(alloc, raw, kind.span(), out)

@@ -1,5 +1,5 @@
 //! Early errors of names.
-ghost use Rattle.std.specs.Prelude.{◌≡◌, ◌∷◌, ◌++◌, [], option_map};
+ghost use Rattle.std.specs.Prelude.{◌≡◌, ◌∷◌, [], option_map};
 ghost use Rattle.std.specs.Str.{chars};
 ghost use Rattle.semantic_kinds.specs.declared.kind.AstType.TheVariants as kinds;
 ghost use Rattle.semantic_tree.specs.ChildIter.{shown};
@@ -247,21 +247,6 @@ fn tell_let(
     )
 }
 
-/// Tells of names that may not be bound, outside of definition files.
-#[tactic(auto, using(check_context::proofs::Telling::telling))]
-fn tell_binding(
-    alloc: Global,
-    kind: AstKind<'_>,
-    ctx: &CheckContext<'_, '_>,
-    out: &mut Diagnostics,
-) -> Result<(), AllocError>
-    requires { IsContext ctx.now }
-    ensures { let s = sight kind.entry.node.now ctx.now in Tells result (rows.eval_binding_rows s ++ rows.let_rows s) out.old out.new }
-{
-    tell_eval_binding(alloc, kind, ctx, out)?;
-    tell_let(alloc, kind, ctx, out)
-}
-
 /// Strict code doesn't bind `eval` and `arguments` (ECMAScript 13.1.1), and a lexical declaration doesn't bind `let`
 /// (14.3.1.1), except in a definition file.
 #[tactic(auto, using(check_context::proofs::Telling::telling))]
@@ -275,27 +260,14 @@ pub fn check_binding_identifier<'a>(
     ensures { Tells result (rows.check_binding_identifier (sight kind.entry.node.now ctx.now)) out.old out.new }
 {
     if ctx.source_type.is_typescript_definition() {
-        Ok(())
-    } else {
-        tell_binding(alloc, kind, ctx, out)
+        return Ok(());
     }
-}
-
-/// Tells of a private name outside of every class.
-#[tactic(auto, using(check_context::proofs::Telling::made))]
-fn tell_private_name(
-    alloc: Global,
-    kind: AstKind<'_>,
-    out: &mut Diagnostics,
-) -> Result<(), AllocError>
-    ensures { let node = kind.entry.node.now in Tells result (tell.private_not_in_class node.text node.span ∷ []) out.old out.new }
-{
-    let name = kind.text();
-    tell(private_not_in_class(alloc, name.as_str(), kind.span()), out)
+    tell_eval_binding(alloc, kind, ctx, out)?;
+    tell_let(alloc, kind, ctx, out)
 }
 
 /// Private names stand in class bodies alone (ECMAScript 16.1.1, AllPrivateIdentifiersValid).
-#[tactic(auto, using(check_context::proofs::Telling::telling))]
+#[tactic(auto, using(check_context::proofs::Telling::made))]
 pub fn check_private_identifier_outside_class<'a>(
     alloc: Global,
     kind: AstKind<'a>,
@@ -306,8 +278,8 @@ pub fn check_private_identifier_outside_class<'a>(
     ensures { Tells result (rows.check_private_identifier_outside_class (sight kind.entry.node.now ctx.now)) out.old out.new }
 {
     if ctx.has_class() {
-        Ok(())
-    } else {
-        tell_private_name(alloc, kind, out)
+        return Ok(());
     }
+    let name = kind.text();
+    tell(private_not_in_class(alloc, name.as_str(), kind.span()), out)
 }

@@ -1,13 +1,11 @@
 //! Early errors of identifier references.
-ghost use Rattle.std.specs.Prelude.{◌≡◌, ◌&&◌, ◌||◌, ◌++◌, IsTrue, option_map, find, codes};
+ghost use Rattle.std.specs.Prelude.{◌≡◌, ◌||◌, ◌++◌, option_map, find, codes};
 ghost use Rattle.std.specs.Str.{bytes_eq};
 ghost use Rattle.semantic_kinds.specs.Classes.{is_member};
 ghost use Rattle.semantic_kinds.specs.declared.kind.AstType.TheVariants as kinds;
 ghost use Rattle.semantic_tree.specs.ChildIter.{shown};
-ghost use Rattle.semantic_kinds.specs.declared.role.Role.TheVariants as roles;
-ghost use Rattle.semantic_tree.specs.Views.{has_text, is, whose};
+ghost use Rattle.semantic_tree.specs.Views.{is};
 ghost use Rattle.semantic_tree.specs.declared.node.Node.{Node};
-ghost use Rattle.semantic_syntax.specs.Ascii.{is_ascii};
 ghost use Rattle.semantic_diagnostics.specs.Names as tell;
 ghost use Rattle.check_model.specs.Names as rows;
 ghost use Rattle.check_model.specs.Search.{row_if, rows_if};
@@ -37,21 +35,18 @@ fn is_target(kind: AstType) -> bool
     )
 }
 
-/// Whether the left of a node is a reference of the name.
-fn has_left(name: AstKind<'_>, node: AstKind<'_>) -> bool
-    ensures { result ≡ whose roles.Left (λ left. is kinds.IdentifierReference left && has_text name.entry.node.now.text left) node.entry.node.now }
-{
-    match node.child(Role::Left) {
-        Some(left) => left.ty() == AstType::IdentifierReference && is_same(left, name),
-        None => false,
-    }
-}
-
 /// Whether the node assigns to the name itself.
 fn assigns_to(name: AstKind<'_>, node: AstKind<'_>) -> bool
     ensures { result ≡ rows.assigns_to name.entry.node.now.text node.entry.node.now }
 {
-    node.ty() == AstType::AssignmentExpression && has_left(name, node)
+    if node.ty() == AstType::AssignmentExpression {
+        match node.child(Role::Left) {
+            Some(left) => left.ty() == AstType::IdentifierReference && is_same(left, name),
+            None => false,
+        }
+    } else {
+        false
+    }
 }
 
 /// Whether what stands around a name writes to it (ECMAScript 8.6.4, AssignmentTargetType).
@@ -128,58 +123,8 @@ fn owner_of_arguments<'a>(
     None
 }
 
-/// Tells of `arguments` in a place that has none.
-#[tactic(auto, using(check_context::proofs::Telling::made, semantic_diagnostics::proofs::AsciiTexts::ascii_texts))]
-fn tell_arguments_if(
-    alloc: Global,
-    is_there: bool,
-    place: &str,
-    span: Span,
-    out: &mut Diagnostics,
-) -> Result<(), AllocError>
-    requires { IsTrue (is_ascii place.now) }
-    ensures { Tells result (row_if is_there (tell.unexpected_arguments place.now span)) out.old out.new }
-{
-    if is_there {
-        tell(unexpected_arguments(alloc, place, span), out)
-    } else {
-        Ok(())
-    }
-}
-
-/// Tells of `arguments` in the value of a field.
-#[tactic(auto, using(check_context::proofs::Telling::telling))]
-fn tell_in_field(
-    alloc: Global,
-    span: Span,
-    child: AstKind<'_>,
-    parent: AstKind<'_>,
-    out: &mut Diagnostics,
-) -> Result<(), AllocError>
-    ensures { let link : Node × Node = (child.entry.node.now, parent.entry.node.now) in Tells result (row_if (rows.is_field_value link) (tell.unexpected_arguments (codes "class field initializer") span)) out.old out.new }
-{
-    let is_there = is_field_value(child, parent);
-    tell_arguments_if(alloc, is_there, "class field initializer", span, out)
-}
-
-/// Tells of `arguments` in a static block.
-#[tactic(auto, using(check_context::proofs::Telling::telling))]
-fn tell_in_block(
-    alloc: Global,
-    span: Span,
-    child: AstKind<'_>,
-    parent: AstKind<'_>,
-    out: &mut Diagnostics,
-) -> Result<(), AllocError>
-    ensures { let link : Node × Node = (child.entry.node.now, parent.entry.node.now) in Tells result (row_if (rows.is_static_block link) (tell.unexpected_arguments (codes "static initialization block") span)) out.old out.new }
-{
-    let _child = child;
-    let is_there = parent.ty() == AstType::StaticBlock;
-    tell_arguments_if(alloc, is_there, "static initialization block", span, out)
-}
-
 /// Tells of `arguments` in the value of a field or in a static block.
-#[tactic(auto, using(check_context::proofs::Telling::telling))]
+#[tactic(auto, using(check_context::proofs::Telling::made, semantic_diagnostics::proofs::AsciiTexts::ascii_texts))]
 fn tell_arguments(
     alloc: Global,
     span: Span,
@@ -189,28 +134,18 @@ fn tell_arguments(
 ) -> Result<(), AllocError>
     ensures { let link : Node × Node = (child.entry.node.now, parent.entry.node.now) in Tells result (row_if (rows.is_field_value link) (tell.unexpected_arguments (codes "class field initializer") span) ++ row_if (rows.is_static_block link) (tell.unexpected_arguments (codes "static initialization block") span)) out.old out.new }
 {
-    tell_in_field(alloc, span, child, parent, out)?;
-    tell_in_block(alloc, span, child, parent, out)
-}
-
-/// Tells of `arguments` in a place that has none, going outward.
-#[tactic(auto, using(check_context::proofs::Telling::telling))]
-fn tell_owner<'a>(
-    alloc: Global,
-    kind: AstKind<'a>,
-    ctx: &CheckContext<'a, '_>,
-    out: &mut Diagnostics,
-) -> Result<(), AllocError>
-    requires { IsContext ctx.now }
-    ensures { Tells result (rows.arguments_rows (sight kind.entry.node.now ctx.now)) out.old out.new }
-{
-    match owner_of_arguments(kind, ctx) {
-        Some((child, parent)) => tell_arguments(alloc, kind.span(), child, parent, out),
-        None => Ok(()),
+    if is_field_value(child, parent) {
+        let place = "class field initializer";
+        return tell(unexpected_arguments(alloc, place, span), out);
     }
+    if parent.ty() == AstType::StaticBlock {
+        let place = "static initialization block";
+        return tell(unexpected_arguments(alloc, place, span), out);
+    }
+    Ok(())
 }
 
-/// Tells of a reference that is called `arguments`.
+/// Tells of a reference that is called `arguments`, in a place that has none, going outward.
 #[tactic(auto, using(check_context::proofs::Telling::telling))]
 fn tell_if_arguments<'a>(
     alloc: Global,
@@ -221,10 +156,12 @@ fn tell_if_arguments<'a>(
     requires { IsContext ctx.now }
     ensures { let s = sight kind.entry.node.now ctx.now in Tells result (rows_if (bytes_eq s.node.text (codes "arguments")) (rows.arguments_rows s)) out.old out.new }
 {
-    if reads(kind, "arguments") {
-        tell_owner(alloc, kind, ctx, out)
-    } else {
-        Ok(())
+    if !reads(kind, "arguments") {
+        return Ok(());
+    }
+    match owner_of_arguments(kind, ctx) {
+        Some((child, parent)) => tell_arguments(alloc, kind.span(), child, parent, out),
+        None => Ok(()),
     }
 }
 

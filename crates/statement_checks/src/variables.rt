@@ -1,9 +1,9 @@
 //! Early errors of loops' heads and of variable declarations.
-ghost use Rattle.std.specs.Prelude.{◌≡◌, ◌&&◌, ◌∷◌, [], option_map, flat_map, codes};
+ghost use Rattle.std.specs.Prelude.{◌≡◌, ◌&&◌, option_map, flat_map, codes};
 ghost use Rattle.semantic_kinds.specs.declared.kind.AstType.TheVariants as kinds;
 ghost use Rattle.semantic_kinds.specs.declared.role.Role.TheVariants as roles;
 ghost use Rattle.semantic_tree.specs.ChildIter.{shown, left_of};
-ghost use Rattle.semantic_tree.specs.Views.{all_in, has_text, is, whose};
+ghost use Rattle.semantic_tree.specs.Views.{has_text, is, whose};
 ghost use Rattle.semantic_tree.specs.BoundNames.{bound_names};
 ghost use Rattle.semantic_diagnostics.specs.Names as tell_of;
 ghost use Rattle.semantic_diagnostics.specs.Statements as tell;
@@ -86,25 +86,8 @@ fn loop_name(for_in: bool) -> &'static str
     if for_in { "for-in" } else { "for-of" }
 }
 
-/// Tells of an initializer in the head of a loop.
-#[tactic(auto, using(check_context::proofs::Telling::made, crate::proofs::LoopNames::names))]
-fn tell_initializer(
-    alloc: Global,
-    left: AstKind<'_>,
-    for_in: bool,
-    out: &mut Diagnostics,
-) -> Result<(), AllocError>
-    ensures { Tells result (tell.unexpected_initializer_in_for_loop_head (rows.loop_name for_in) left.entry.node.now.span ∷ []) out.old out.new }
-{
-    let name = loop_name(for_in);
-    tell(
-        unexpected_initializer_in_for_loop_head(alloc, name, left.span()),
-        out,
-    )
-}
-
 /// Tells of the initializer of a declarator in the head of a loop, where it may not stand.
-#[tactic(auto, using(check_context::proofs::Telling::telling))]
+#[tactic(auto, using(check_context::proofs::Telling::made, crate::proofs::LoopNames::names))]
 fn tell_declarator(
     alloc: Global,
     left: AstKind<'_>,
@@ -116,29 +99,14 @@ fn tell_declarator(
     requires { IsContext ctx.now }
     ensures { Tells result (row_if (rows.is_bad_initializer (around ctx.now) left.entry.node.now for_in declarator.entry.node.now) (tell.unexpected_initializer_in_for_loop_head (rows.loop_name for_in) left.entry.node.now.span)) out.old out.new }
 {
-    if is_bad_initializer(left, for_in, declarator, ctx) {
-        tell_initializer(alloc, left, for_in, out)
-    } else {
-        Ok(())
+    if !is_bad_initializer(left, for_in, declarator, ctx) {
+        return Ok(());
     }
-}
-
-/// Tells of the initializer of the only declarator in the head of a loop.
-#[tactic(auto, using(check_context::proofs::Telling::telling))]
-fn tell_head(
-    alloc: Global,
-    left: AstKind<'_>,
-    for_in: bool,
-    ctx: &CheckContext<'_, '_>,
-    out: &mut Diagnostics,
-) -> Result<(), AllocError>
-    requires { IsContext ctx.now }
-    ensures { Tells result (rows.head_rows (around ctx.now) left.entry.node.now for_in (all_in roles.Declarators left.entry.node.now)) out.old out.new }
-{
-    match only_child(left.children(Role::Declarators)) {
-        Some(declarator) => tell_declarator(alloc, left, for_in, declarator, ctx, out),
-        None => Ok(()),
-    }
+    let name = loop_name(for_in);
+    tell(
+        unexpected_initializer_in_for_loop_head(alloc, name, left.span()),
+        out,
+    )
 }
 
 /// The variable of a loop over something has no initializer (ECMAScript 14.7.5.1, Annex B.3.5, Initializers in ForIn
@@ -156,7 +124,10 @@ pub fn check_for_statement_left<'a>(
     ensures { Tells result (rows.check_for_statement_left kind.entry.node.now for_in (around ctx.now)) out.old out.new }
 {
     if kind.ty() == AstType::VariableDeclaration {
-        tell_head(alloc, kind, for_in, ctx, out)
+        match only_child(kind.children(Role::Declarators)) {
+            Some(declarator) => tell_declarator(alloc, kind, for_in, declarator, ctx, out),
+            None => Ok(()),
+        }
     } else {
         Ok(())
     }

@@ -1,8 +1,6 @@
 //! Early errors of `infer`.
 ghost use Rattle.std.specs.Prelude.{◌≡◌};
 ghost use Rattle.std.specs.List.{list_any};
-ghost use Rattle.semantic_kinds.specs.declared.role.Role.TheVariants as roles;
-ghost use Rattle.semantic_tree.specs.Views.{whose};
 ghost use Rattle.check_model.specs.Types as rows;
 ghost use Rattle.check_context.specs.Handed.{around, sight, IsContext};
 ghost use Rattle.check_context.specs.Tells.{Tells};
@@ -21,21 +19,18 @@ fn holds(outer: Span, inner: Span) -> bool
     outer.contains_inclusive(inner)
 }
 
-/// Whether what a node extends is around the span.
-fn has_extended_over(span: Span, kind: AstKind<'_>) -> bool
-    ensures { result ≡ whose roles.Extends (λ extended. rows.holds extended.span span) kind.entry.node.now }
-{
-    match kind.child(Role::Extends) {
-        Some(extended) => holds(extended.span(), span),
-        None => false,
-    }
-}
-
 /// Whether the node is a conditional type that extends something around the span.
 fn extends_over(span: Span, kind: AstKind<'_>) -> bool
     ensures { result ≡ rows.extends_over span kind.entry.node.now }
 {
-    kind.ty() == AstType::TSConditionalType && has_extended_over(span, kind)
+    if kind.ty() == AstType::TSConditionalType {
+        match kind.child(Role::Extends) {
+            Some(extended) => holds(extended.span(), span),
+            None => false,
+        }
+    } else {
+        false
+    }
 }
 
 /// Whether a conditional type around extends something around the span.

@@ -78,15 +78,6 @@ fn tell_each_repeated<'a>(
     Ok(())
 }
 
-/// Tells of each name that a node binds again.
-fn tell_repeats(alloc: Global, kind: AstKind<'_>, out: &mut Diagnostics) -> Result<(), AllocError>
-    requires { IsPreorder kind.node.now }
-    ensures { Tells result (each_after rows.repeated_rows [] (bound_names kind.entry.node.now)) out.old out.new }
-{
-    let mut seen = IndexMap::new(alloc);
-    tell_each_repeated(alloc, kind, &mut seen, out)
-}
-
 /// The parameters of a signature have different names (TypeScript 2300).
 #[tactic(auto, using(check_context::proofs::Telling::telling))]
 pub fn check_formal_parameters<'a>(
@@ -99,7 +90,8 @@ pub fn check_formal_parameters<'a>(
     ensures { Tells result (rows.check_formal_parameters (sight kind.entry.node.now ctx.now)) out.old out.new }
 {
     if reads(kind, "signature") && has_two_items(kind) {
-        tell_repeats(alloc, kind, out)
+        let mut seen = IndexMap::new(alloc);
+        tell_each_repeated(alloc, kind, &mut seen, out)
     } else {
         Ok(())
     }

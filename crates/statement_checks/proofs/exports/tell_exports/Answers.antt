@@ -1,7 +1,6 @@
 use Rattle.check_model.specs.Exports.{export_rows}
 use Rattle.check_context.specs.Handed.{around}
-use Rattle.check_context.proofs.Telling.{loop_stops}
-use Rattle.statement_checks.proofs.Turns.{goes_past}
+use Rattle.check_context.proofs.Telling.{loop_stops, goes_past}
 use Rattle.statement_checks.proofs.exports.tell_exports.Goals as goal
 
 pub returns-in_err-tell_export : goal.returns-in_err-tell_export

@@ -3,8 +3,7 @@ use Rattle.semantic_tree.specs.Views.{child_of}
 use Rattle.check_model.specs.Exports.{local_rows}
 use Rattle.check_model.specs.Search.{rows_of_some}
 use Rattle.check_context.specs.Handed.{around}
-use Rattle.check_context.proofs.Telling.{loop_stops}
-use Rattle.statement_checks.proofs.Turns.{goes_past}
+use Rattle.check_context.proofs.Telling.{loop_stops, goes_past}
 use Rattle.statement_checks.proofs.exports.tell_specifiers.Goals as goal
 
 pub returns-in_err-tell_specifier : goal.returns-in_err-tell_specifier

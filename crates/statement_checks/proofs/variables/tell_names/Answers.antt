@@ -1,7 +1,6 @@
 use Rattle.check_model.specs.Variables.{name_rows}
 use Rattle.check_context.specs.Handed.{sight}
-use Rattle.check_context.proofs.Telling.{loop_stops}
-use Rattle.statement_checks.proofs.Turns.{goes_past}
+use Rattle.check_context.proofs.Telling.{loop_stops, goes_past}
 use Rattle.statement_checks.proofs.variables.tell_names.Goals as goal
 
 pub returns-in_err-tell_name : goal.returns-in_err-tell_name
