@@ -1,5 +1,6 @@
 //! The store of all nodes of a program.
-ghost use Rattle.std.specs.Prelude.{◌≡◌, ◌-◌, ◌<◌, ◌≤◌, ◌==◌, [], ◌∷◌, Some, OnOk, OnErr, length, drop, slice_get, slice_index, slice_set};
+ghost use Rattle.std.specs.Prelude.{◌≡◌, ◌+◌, ◌-◌, ◌<◌, ◌≤◌, ◌==◌, [], ◌∷◌, Some, OnOk, OnErr, length, drop, slice_get, slice_index, slice_set, vec_len};
+ghost use Rattle.std.specs.Vec.{vec_capacity};
 ghost use Rattle.semantic_kinds.specs.declared.kind.AstType.TheVariants.{Program};
 ghost use Rattle.node_store.specs.Seen.{seen};
 ghost use Rattle.node_store.specs.Entered.{no_flags};
@@ -48,6 +49,24 @@ impl<'a> Model for AstNodes<'a> {
     ghost view = { λ a. record { nodes = map seen a.nodes.items; parents = a.parents.items; flags = a.flags.items } };
 
     ghost invariant = { λ a. IsNodeList (record { nodes = map seen a.nodes.items; parents = a.parents.items; flags = a.flags.items }) };
+}
+
+/// Makes room for so many more nodes in the lists of a store.
+fn reserve_in<'a>(
+    nodes: &mut Vec<AstNode<'a>>,
+    parents: &mut Vec<NodeId>,
+    flags: &mut Vec<NodeFlags>,
+    n: usize,
+) -> Result<(), AllocError>
+    ensures nodes { nodes.new.items ≡ nodes.old.items }
+    ensures parents { parents.new.items ≡ parents.old.items }
+    ensures flags { flags.new.items ≡ flags.old.items }
+    ensures room { OnOk result ((vec_len nodes.new + n ≤ vec_capacity nodes.new)
+        × (vec_len parents.new + n ≤ vec_capacity parents.new) × (vec_len flags.new + n ≤ vec_capacity flags.new)) }
+{
+    nodes.reserve(n)?;
+    parents.reserve(n)?;
+    flags.reserve(n)
 }
 
 impl<'a> AstNodes<'a> {
@@ -253,9 +272,7 @@ impl<'a> AstNodes<'a> {
     pub fn reserve(&mut self, n: usize) -> Result<(), AllocError>
         ensures { self.new ≡ self.old }
     {
-        self.nodes.reserve(n)?;
-        self.parents.reserve(n)?;
-        self.flags.reserve(n)
+        reserve_in(&mut self.nodes, &mut self.parents, &mut self.flags, n)
     }
 
     /// Adds the root to an empty store, under the id 0 and as its own parent. For want of memory the
@@ -324,14 +341,11 @@ impl<'a> AstNodes<'a> {
         ensures ok { OnOk result (self.new ≡ with_node self.old kind.entry.node.now n scope parent flags) }
         ensures err { OnErr result (self.new ≡ self.old) }
     {
-        self.nodes.reserve(1)?;
-        self.parents.reserve(1)?;
-        self.flags.push(flags)?;
-        self.parents.push(parent)?;
-        match self.nodes.push(AstNode::new(kind, n, scope)) {
-            Ok(()) => Ok(()),
-            Err(_) => Err(AllocError),
-        }
+        reserve_in(&mut self.nodes, &mut self.parents, &mut self.flags, 1)?;
+        self.nodes.push_reserved(AstNode::new(kind, n, scope));
+        self.parents.push_reserved(parent);
+        self.flags.push_reserved(flags);
+        Ok(())
     }
 }
 
