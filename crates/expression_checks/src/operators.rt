@@ -42,24 +42,16 @@ fn tell_private(alloc: Global, member: AstKind<'_>, out: &mut Diagnostics) -> Re
     tell(delete_private_field(alloc, member.span()), out)
 }
 
-/// Tells of the name of a private member.
-#[tactic(auto, using(check_context::proofs::Telling::telling))]
-fn tell_field(alloc: Global, member: AstKind<'_>, out: &mut Diagnostics) -> Result<(), AllocError>
-    ensures { Tells result (rows_of_some (λ field. tell.delete_private_field field.span ∷ []) (child_of roles.Field member.entry.node.now)) out.old out.new }
-{
-    match member.child(Role::Field) {
-        Some(field) => tell_private(alloc, field, out),
-        None => Ok(()),
-    }
-}
-
-/// Tells of what an optional chain ends with, if it is a private member.
+/// Tells of what an optional chain ends with, at its name, if it is a private member.
 #[tactic(auto, using(check_context::proofs::Telling::telling))]
 fn tell_member(alloc: Global, member: AstKind<'_>, out: &mut Diagnostics) -> Result<(), AllocError>
     ensures { Tells result (rows.chained_rows member.entry.node.now) out.old out.new }
 {
     if member.ty() == AstType::PrivateFieldExpression {
-        tell_field(alloc, member, out)
+        match member.child(Role::Field) {
+            Some(field) => tell_private(alloc, field, out),
+            None => Ok(()),
+        }
     } else {
         Ok(())
     }
