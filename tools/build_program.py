@@ -156,8 +156,7 @@ class Build:
             made[name] = Crate(name, [made[it] for it in in_order(named, name, [])[:-1]])
         self.libraries = [made[it] for it in crates[:-1]]
         self.last = made[crates[-1]]
-        self.work = {it: work_of(it) for it in crates}
-        self.behind = chains(named, crates, self.work)
+        self.behind = chains(named, crates, {it: work_of(it) for it in crates})
         memory = os.sysconf("SC_PAGE_SIZE") * os.sysconf("SC_PHYS_PAGES")
         self.processors = min(len(os.sched_getaffinity(0)), max(memory // MEMORY_OF_PROOF, 1))
         self.copies = [copy_of(f"{room}/{number}", crates) for number in range(self.processors)]
@@ -171,21 +170,22 @@ class Build:
 
     def start_ready(self):
         """Starts the crates that wait for none, that with the longest chain above first, at most one for each processor. That one
-        gets a job for each processor if its chain is what all waits for, and else those which the others leave idle."""
+        gets the processors which the others leave idle: while the lowest crates are proved there is little beside them. It gets
+        all of them, also while others run, if all that waits stands on it."""
         at_work = [it for it in self.libraries if it.running]
         idle = self.processors - sum(it.jobs for it in at_work)
         ready = sorted((it for it in self.libraries if it.is_ready()), key=lambda it: -self.behind[it.name])
         places = [it for it in self.copies if it not in [other.at for other in at_work]]
         for others, crate in zip(reversed(range(len(ready))), ready[: len(places)]):
-            is_awaited = crate is ready[0] and self.behind[crate.name] >= self.left() / self.processors
-            jobs = self.processors if is_awaited else max(idle - others, 1)
+            jobs = self.processors if self.is_awaited(crate) else max(idle - others, 1)
             crate.start("lib", places.pop(), jobs)
             self.say(f"proving {crate.name}")
             idle -= jobs
 
-    def left(self):
-        """The work of all that isn't done."""
-        return sum(self.work[it.name] for it in [*self.libraries, self.last] if not it.is_done)
+    def is_awaited(self, crate):
+        """Whether all that waits stands on the crate. More jobs take more processor time, so no other gets them."""
+        waiting = [it for it in self.libraries if not it.is_done and not it.running and it is not crate]
+        return all(crate in it.below for it in waiting)
 
     def look(self):
         """Notes which proofs ended, and gives the crate of one that failed, if any did."""
