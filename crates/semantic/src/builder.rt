@@ -14,6 +14,7 @@ ghost use Rattle.semantic.specs.SwappedNames.{ComparesNames};
 
 use crate::semantic::{Semantic, SemanticBuilderReturn};
 use crate::stats::Stats;
+use checker::EarlyErrors;
 use semantic_syntax::Steps;
 use semantic_tree::Program;
 use semantic_walk::{Room, Settings, analyse};
@@ -210,7 +211,7 @@ impl SemanticBuilder {
         ensures bounded { steps.new ≤ raised steps.old (depths (tables_of program.now)) }
     {
         attest_depths(program);
-        let made = analyse(alloc, program, self.settings(program), steps)?;
+        let made = analyse(alloc, program, self.settings(program), &EarlyErrors, steps)?;
         Ok(SemanticBuilderReturn {
             semantic: Semantic {
                 program,

@@ -10,5 +10,3 @@ pub mod Stored
 pub mod AtPlace
 pub mod Leaving
 pub mod Begun
-pub mod Leavable
-pub mod Checkable

@@ -10,6 +10,7 @@ ghost use Rattle.walk_notes.specs.NoteLists.{classes_noted};
 
 use crate::settings::Settings;
 use crate::walk::Walk;
+use check_walk::Rules;
 use class_table::ClassTable;
 use node_store::AstNodes;
 use scoping::{NodeTables, Scoping};
@@ -33,10 +34,11 @@ pub struct Analysis<'a> {
 
 /// Walks over a program from its root, in tables with room by the settings, and settles what waits before it leaves the
 /// root. What the walk, which begins at the root, has made and told then is the analysis of the program.
-fn run<'a, L>(
+fn run<'a, L, R: Rules>(
     walk: &mut Walk<'a>,
     program: &'a Program,
     settings: Settings,
+    rules: &R,
     steps: &mut Steps<L>,
 ) -> Result<(), AllocError>
     requires { IsBegun settings walk.old program.now }
@@ -51,21 +53,22 @@ fn run<'a, L>(
 {
     walk.reserve(settings.room)?;
     let root = program.root();
-    walk.visit(root, Role::Root, steps)?;
+    walk.visit(root, Role::Root, rules, steps)?;
     walk.end(steps)?;
-    walk.leave(root)?;
+    walk.leave(root, rules)?;
     walk.tell_rest()
 }
 
-/// Analyses a program, keeps its nodes, notes its classes and tells early errors by the settings. The only error is want of
-/// memory.
+/// Analyses a program, keeps its nodes, notes its classes and tells early errors, which are those of the rules, by the
+/// settings. The only error is want of memory.
 ///
 /// `steps` counts the probes, one for each scope that a look-up asks: of each reference those from its own outward,
 /// once, up to the one that ties it or ends its look-up. After want of memory no more probes than these were made.
-pub fn analyse<'a, L>(
+pub fn analyse<'a, L, R: Rules>(
     alloc: Global,
     program: &'a Program,
     settings: Settings,
+    rules: &R,
     steps: &mut Steps<L>,
 ) -> Result<Analysis<'a>, AllocError>
     ensures analysis { IfOk result (λ made. IsAnalysis settings.checks program.now made.scoping made.diagnostics) }
@@ -78,7 +81,7 @@ pub fn analyse<'a, L>(
     ensures given_up { OnErr result (steps.new ≤ raised steps.old (probes program.now)) }
 {
     let mut walk = Walk::new(alloc, program, settings)?;
-    match run(&mut walk, program, settings, steps) {
+    match run(&mut walk, program, settings, rules, steps) {
         Ok(()) => Ok(walk.finish()),
         Err(error) => {
             walk.give_up();

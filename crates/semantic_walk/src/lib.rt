@@ -4,7 +4,6 @@
 pub mod analysis;
 pub mod binder;
 mod block_target;
-pub mod checker;
 pub mod laws;
 mod on_leaving;
 pub mod path;

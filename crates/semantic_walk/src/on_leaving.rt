@@ -3,10 +3,10 @@ ghost use Rattle.std.specs.Prelude.{◌≡◌, ◌++◌, map, drop, OnOk};
 ghost use Rattle.check_model.specs.DiagnosticsOf.{told};
 ghost use Rattle.check_model.specs.Rows.{rows_of};
 ghost use Rattle.check_context.specs.Handed.{sight};
-ghost use Rattle.semantic_walk.specs.Leavable.{IsLeavable};
+ghost use Rattle.check_walk.specs.Leavable.{IsLeavable};
 
-use crate::checker::check;
 use check_context::CheckContext;
+use check_walk::Rules;
 use semantic_diagnostics::Diagnostics;
 use semantic_tree::AstKind;
 use std::alloc::{AllocError, Global};
@@ -14,7 +14,8 @@ use table_building::declared::Declared;
 
 /// Adds, at the end of what was said, a diagnostic for each conflict that is not counted yet, and then one for each rule
 /// of early errors that the node violates which is left, in order, as the context shows what is around it.
-pub fn tell_leaving<'a>(
+pub fn tell_leaving<'a, R: Rules>(
+    rules: &R,
     alloc: Global,
     kind: AstKind<'a>,
     context: &CheckContext<'a, '_>,
@@ -26,5 +27,5 @@ pub fn tell_leaving<'a>(
     ensures { OnOk result (said.new ≡ said.old ++ map told (drop counted declared.now.conflicts) ++ rows_of (sight kind.entry.node.now context.now)) }
 {
     declared.tell_from(counted, said)?;
-    check(alloc, kind, context, said)
+    rules.check(alloc, kind, context, said)
 }

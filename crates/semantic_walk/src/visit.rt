@@ -31,6 +31,7 @@ ghost use Rattle.semantic_walk.specs.Ids.{MayOpen};
 ghost use Rattle.semantic_walk.specs.Leaving.{IsLeaving};
 
 use crate::walk::Walk;
+use check_walk::Rules;
 use node_rules::ambient::{is_ambient_in_child, is_ambient_inside};
 use node_rules::cursor::{before_child, behind_child};
 use node_rules::even::{acts_between, is_leaf, is_passing, stands_alike};
@@ -431,10 +432,11 @@ impl<'a> Walk<'a> {
 
     /// Walks over a node in its role and all that is below it, and stands at the node then: who visits it leaves it.
     #[tactic(auto, using(semantic_tree::specs::Falls::below, crate::proofs::Going::going))]
-    pub(crate) fn visit<L>(
+    pub(crate) fn visit<L, R: Rules>(
         &mut self,
         kind: AstKind<'a>,
         role: Role,
+        rules: &R,
         steps: &mut Steps<L>,
     ) -> Result<(), AllocError>
         requires { IsSomewhere self.old kind.node.now role }
@@ -465,8 +467,8 @@ impl<'a> Walk<'a> {
             }
             let before = self.current_reference_flags();
             self.begin_child(alike, kind, role, &mut turn, *child_role, child)?;
-            self.visit(child, *child_role, steps)?;
-            self.leave(child)?;
+            self.visit(child, *child_role, rules, steps)?;
+            self.leave(child, rules)?;
             self.finish_child(kind.ty(), &turn, *child_role, before, rest, steps)?;
             left = rest;
         }

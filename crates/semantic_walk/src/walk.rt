@@ -45,6 +45,7 @@ use crate::on_leaving::tell_leaving;
 use crate::path::Path;
 use crate::settings::{Room, Settings};
 use check_context::CheckContext;
+use check_walk::Rules;
 use namespace_states::NamespaceStates;
 use node_rules::ambient::is_ambient_inside;
 use node_rules::cursor;
@@ -371,7 +372,7 @@ impl<'a> Walk<'a> {
     }
 
     /// With checks on, tells the conflicts that are left, and then the rules of early errors that the node violates.
-    fn tell(&mut self, kind: AstKind<'a>) -> Result<(), AllocError>
+    fn tell<R: Rules>(&mut self, kind: AstKind<'a>, rules: &R) -> Result<(), AllocError>
         requires { self.old.checks ≡ true → IsFit self.old kind.node.now }
         ensures made { (p : Place) → p.node ≡ kind.entry.node.now → ShowsRows self.old p →
             OnOk result (let t = telling_left self.old.checks self.old.source (telling_of self.old) p in self.new ≡ record self.old { said = t.said; counted = t.counted }) }
@@ -391,6 +392,7 @@ impl<'a> Walk<'a> {
             in_ambient: is_ambient_inside(kind.node(), self.is_ambient),
         };
         tell_leaving(
+            rules,
             self.alloc,
             kind,
             &context,
@@ -405,24 +407,24 @@ impl<'a> Walk<'a> {
     /// What is wrong with the node is told, and it is left. This stands apart, so that leaving a node takes no room for
     /// what is handed to checks where they are off.
     #[inline(never)]
-    fn tell_and_leave(&mut self, kind: AstKind<'a>) -> Result<(), AllocError>
+    fn tell_and_leave<R: Rules>(&mut self, kind: AstKind<'a>, rules: &R) -> Result<(), AllocError>
         requires { self.old.checks ≡ true → IsFit self.old kind.node.now }
         ensures made { (p : Place) → p.node ≡ kind.entry.node.now → ShowsRows self.old p → OnOk result (self.new ≡ left_at self.old p) }
         ensures goes { OnOk result (Goes self.old.made self.new.made) }
     {
-        self.tell(kind)?;
+        self.tell(kind, rules)?;
         self.step_from(kind)
     }
 
     /// Leaves the node that is visited, which stands on the path until the end. With checks on, what is wrong with it is
     /// told.
-    pub(crate) fn leave(&mut self, kind: AstKind<'a>) -> Result<(), AllocError>
+    pub(crate) fn leave<R: Rules>(&mut self, kind: AstKind<'a>, rules: &R) -> Result<(), AllocError>
         requires { self.old.checks ≡ true → IsFit self.old kind.node.now }
         ensures made { (p : Place) → p.node ≡ kind.entry.node.now → ShowsRows self.old p → OnOk result (self.new ≡ left_at self.old p) }
         ensures goes { OnOk result (Goes self.old.made self.new.made) }
     {
         if self.checks {
-            self.tell_and_leave(kind)
+            self.tell_and_leave(kind, rules)
         } else {
             self.step_from(kind)
         }

@@ -238,7 +238,7 @@ visit-requires g t c =
     let k = comes_here g t at.In_ok-begin_child c.requires (rests_here g t at.After-new-child c.requires) in
     let there : IsSomewhere c.begin_child.new.self child.1 child.0 = somewhere c.requires.ds (place k) None (next k) refl refl k.coming in
     let smaller : count child.1.children < t = omega (arith, c.loop-child_role.invariant.left, ap (λ (xs : List (Role × Node)). count (forest_of xs)) (split g t at.After-new-child), c.decreases) in
-    λ κs out. (smaller, (out, there))
+    λ κs out. (smaller, (out.0, (out.1, there)))
 
 -- and once all below it is walked, it may be checked
 pub leave-requires : goal.leave-requires
