@@ -6,7 +6,7 @@ use Rattle.program_ends.specs.Completeness.{IsDoneOrMemory, IsUsageOrMemory}
 use Rattle.report.specs.Codes.{end_of}
 use Rattle.report.specs.Meaning.{Means, IsClearFor}
 use Rattle.report.specs.Requests.{request_of}
-use Rattle.report.specs.declared.status.ReportStatus.{ReportStatus}
+use Rattle.report_answers.specs.declared.status.ReportStatus.{ReportStatus}
 use Rattle.analysis_c.specs.Answers.{source_of, sink_of, Ran}
 
 -- a sink that held this, has taken more, and never failed

@@ -14,7 +14,7 @@ use Rattle.report.specs.Codes.{end_of}
 use Rattle.report.specs.Meaning.{Means, IsClearFor}
 use Rattle.report.specs.Requests.{request_of}
 use Rattle.report.specs.Telling.{usage_line}
-use Rattle.report.specs.declared.status.ReportStatus.{ReportStatus}
+use Rattle.report_answers.specs.declared.status.ReportStatus.{ReportStatus}
 use Rattle.analysis_c.specs.Buffers.{filled}
 use Rattle.analysis_c.specs.declared.Answer.{Answer}
 

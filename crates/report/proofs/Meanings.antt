@@ -15,11 +15,11 @@ use Rattle.program_ends.specs.Telling.{stop_of}
 use Rattle.program_ends.specs.declared.stops.Stop.TheVariants as stop
 use Rattle.program_ends.proofs.Endings.{ends_usage, ends_answered, ends_told, answer_ends, memory_ends}
 use Rattle.program_ends.proofs.Meanings.{clear_reading, clear_making}
-use Rattle.report.specs.Codes.{end_of, status_for}
+use Rattle.report_answers.specs.Codes.{end_of, status_for}
 use Rattle.report.specs.Meaning.{IsAbout, Answers, GivesAnswer, Ends, IsAsked, IsRead, IsAskedAbout, AnswersTo, RefusesNone, MeansBy, IsClearBy, IsClearFor}
 use Rattle.report.specs.Telling.{usage_line}
-use Rattle.report.specs.declared.request.Request.{Request}
-use Rattle.report.specs.declared.status.ReportStatus.{ReportStatus}
+use Rattle.report_answers.specs.declared.request.Request.{Request}
+use Rattle.report_answers.specs.declared.status.ReportStatus.{ReportStatus}
 
 -- ---- the answer
 

@@ -16,9 +16,10 @@ use Rattle.report_lines.specs.ClassLines.{all_class_lines}
 use Rattle.report_lines.specs.CountLines.{node_lines, label_line, stats_line, made_line}
 use Rattle.report_lines.specs.DiagnosticLine.{diagnostic_line}
 use Rattle.report_lines.specs.TableLines.{table_lines}
-use Rattle.report.specs.Found.{Found, found_of}
-use Rattle.report.specs.Report.{where_asked, listed_text, noted_text, counted_text, report_text, text_by}
-use Rattle.report.specs.declared.options.Options.{Options}
+use Rattle.report.specs.Built.{found_of}
+use Rattle.report_answers.specs.Found.{Found}
+use Rattle.report_answers.specs.Report.{where_asked, listed_text, noted_text, counted_text, report_text, text_by}
+use Rattle.report_answers.specs.declared.options.Options.{Options}
 
 nodes_same : (asked : Bool) (list : NodeList) (p : Tree) → list ≡ kept_nodes asked p → where_asked asked (node_lines list) ≡ where_asked asked (node_lines (node_list p))
 nodes_same true list p same = ap node_lines same

@@ -14,13 +14,13 @@ use Rattle.program_ends.specs.Completeness.{IsClear}
 use Rattle.program_ends.specs.Lines.{tree_line}
 use Rattle.program_ends.specs.Meaning.{End, Finds, MeansOf}
 use Rattle.program_ends.specs.Reads.{Stands, RefusedFor}
-use Rattle.report.specs.Codes.{end_of, status_for}
-use Rattle.report.specs.Found.{IsBuilt, found_of}
-use Rattle.report.specs.Report.{answer_text}
-use Rattle.report.specs.Requests.{request_of}
+use Rattle.report_answers.specs.Codes.{end_of, status_for}
+use Rattle.report.specs.Built.{IsBuilt, found_of}
+use Rattle.report_answers.specs.Report.{answer_text}
+use Rattle.report_answers.specs.Requests.{request_of}
 use Rattle.report.specs.Telling.{usage_line}
-use Rattle.report.specs.declared.request.Request.{Request}
-use Rattle.report.specs.declared.status.ReportStatus.{ReportStatus}
+use Rattle.report_answers.specs.declared.request.Request.{Request}
+use Rattle.report_answers.specs.declared.status.ReportStatus.{ReportStatus}
 
 -- ---- what is answered
 

@@ -2,40 +2,22 @@
 ghost use Rattle.std.specs.Prelude.{◌≡◌, ◌≤◌, ℕ, List, Some, None, IfSome, IfErr};
 ghost use Rattle.semantic_tree.specs.Tree.{Tree};
 ghost use Rattle.generated_tree.specs.Generated.{generated, most_functions};
-ghost use Rattle.report_ends.specs.Streams.{Writes};
-ghost use Rattle.program_ends.specs.Answering.{WritesAll};
 ghost use Rattle.program_ends.specs.Calls.{source_call, sink_call};
 ghost use Rattle.program_ends.specs.Completeness.{IsNotRefused, IsDoneOrMemory, IsUsageOrMemory};
 ghost use Rattle.program_ends.specs.Ending.{TellsEnd};
 ghost use Rattle.program_ends.specs.Reads.{Stands};
-ghost use Rattle.report.specs.Codes.{status_for, end_of};
-ghost use Rattle.report.specs.Found.{found_in};
+ghost use Rattle.report_answers.specs.Codes.{end_of};
 ghost use Rattle.report.specs.Meaning.{GivesAnswer, Ends, Means, IsClearFor};
-ghost use Rattle.report.specs.Report.{answer_text};
-ghost use Rattle.report.specs.Requests.{request_of};
+ghost use Rattle.report_answers.specs.Requests.{request_of};
 ghost use Rattle.report.specs.Telling.{usage_line};
 
-use crate::request::{Request, read_words};
-use crate::status::ReportStatus;
-use crate::write::{write_report, write_summary};
 use generated_tree::generated;
 use program_ends::{Stop, read_program_from, refuse, tell};
+use report_answers::{ReportStatus, Request, finish_answer, read_words};
 use report_ends::{ReportError, Sink, Source};
-use semantic::{SemanticBuilder, SemanticBuilderReturn};
-use semantic_diagnostics::Diagnostics;
+use semantic::SemanticBuilder;
 use semantic_tree::Program;
 use std::alloc::Global;
-
-/// The status for an answer that is written.
-fn status_for(diagnostics: &Diagnostics) -> ReportStatus
-    ensures { result ≡ status_for diagnostics.now }
-{
-    if diagnostics.len() == 0 {
-        ReportStatus::Clean
-    } else {
-        ReportStatus::Diagnosed
-    }
-}
 
 /// The settings of the analysis that is asked for.
 fn settings(request: Request) -> SemanticBuilder
@@ -47,34 +29,6 @@ fn settings(request: Request) -> SemanticBuilder
         .with_build_nodes(request.nodes)
         .with_class_table(request.classes)
         .with_check_syntax_error(request.check)
-}
-
-/// Writes the answer to a request.
-fn write_answer<K: Sink>(
-    alloc: Global,
-    request: Request,
-    ret: &SemanticBuilderReturn<'_>,
-    out: &mut K,
-) -> Result<(), ReportError>
-    ensures { Writes K.held K.faults out.old out.new (answer_text request (found_in ret.now)) result }
-{
-    match request.make {
-        None => write_report(alloc, ret, request.options(), out),
-        Some(_) => write_summary(alloc, ret, out),
-    }
-}
-
-/// Writes the answer to a request, and gives the status for it.
-fn finish_answer<K: Sink>(
-    alloc: Global,
-    request: Request,
-    ret: &SemanticBuilderReturn<'_>,
-    out: &mut K,
-) -> Result<ReportStatus, ReportError>
-    ensures { WritesAll K.held K.faults out.old out.new (answer_text request (found_in ret.now)) (status_for ret.now.diagnostics) result }
-{
-    write_answer(alloc, request, ret, out)?;
-    Ok(status_for(&ret.diagnostics))
 }
 
 /// Analyses a program, and writes the answer to a request about it.

@@ -1,7 +1,1 @@
-pub mod Counting
-pub mod Sizes
-pub mod LentBeside
 pub mod Swapping
-pub mod Lookups
-pub mod Pushing
-pub mod GivenSteps

@@ -9,8 +9,8 @@ use Rattle.semantic_tree.specs.KindCounts.{how_many}
 use Rattle.walk_model.specs.Counted.{is_symbol, is_reference}
 use Rattle.semantic_walk.specs.declared.settings.Room.{Room}
 use Rattle.semantic.specs.declared.builder.SemanticBuilder.{SemanticBuilder}
-use Rattle.semantic.specs.declared.stats.Stats.{Stats}
-use Rattle.semantic.specs.Tally.{increased}
+use Rattle.semantic_queries.specs.declared.stats.Stats.{Stats}
+use Rattle.semantic_queries.specs.Tally.{increased}
 
 -- the counts of a forest
 abbrev pub counts_of : Forest → Stats

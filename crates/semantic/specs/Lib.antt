@@ -1,7 +1,4 @@
-pub mod Tally
 pub mod Expected
-pub mod FreeReference
-pub mod Lending
 pub mod SwappedNames
 pub use Rattle.check_model.specs.DiagnosticsOf
 pub use Rattle.walk_model.specs.Counted
@@ -9,5 +6,8 @@ pub use Rattle.semantic_walk.specs.Begun
 pub use Rattle.semantic_walk.specs.Listed
 pub use Rattle.walk_notes.specs.NoteLists
 pub use Rattle.namespace_states.specs.InstanceStates
-pub mod Shown
-pub mod Given
+pub use Rattle.semantic_queries.specs.Tally
+pub use Rattle.semantic_queries.specs.FreeReference
+pub use Rattle.semantic_queries.specs.Lending
+pub use Rattle.semantic_queries.specs.Shown
+pub use Rattle.semantic_queries.specs.Given

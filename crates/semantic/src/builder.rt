@@ -12,9 +12,8 @@ ghost use Rattle.walk_notes.specs.NoteLists.{classes_noted};
 ghost use Rattle.semantic.specs.Expected.{expected, room_within};
 ghost use Rattle.semantic.specs.SwappedNames.{ComparesNames};
 
-use crate::semantic::{Semantic, SemanticBuilderReturn};
-use crate::stats::Stats;
 use checker::EarlyErrors;
+use semantic_queries::{SemanticBuilderReturn, Stats, put_together};
 use semantic_syntax::Steps;
 use semantic_tree::Program;
 use semantic_walk::{Room, Settings, analyse};
@@ -212,17 +211,17 @@ impl SemanticBuilder {
     {
         attest_depths(program);
         let made = analyse(alloc, program, self.settings(program), &EarlyErrors, steps)?;
+        let semantic = put_together(
+            alloc,
+            program,
+            made.scoping,
+            made.tables,
+            made.nodes,
+            made.classes,
+            made.unused_labels,
+        );
         Ok(SemanticBuilderReturn {
-            semantic: Semantic {
-                program,
-                scoping: made.scoping,
-                tables: made.tables,
-                nodes: made.nodes,
-                classes: made.classes,
-                unused_labels: made.unused_labels,
-                comments: program.comments(),
-                irregular_whitespaces: Vec::new(alloc),
-            },
+            semantic,
             diagnostics: made.diagnostics,
         })
     }

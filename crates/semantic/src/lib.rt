@@ -2,17 +2,13 @@
 #![tactic(auto)]
 
 pub mod builder;
-pub mod global_reference;
 pub mod laws;
-pub mod node_queries;
-pub mod node_symbols;
-pub mod semantic;
-pub mod stats;
 
 pub use builder::SemanticBuilder;
-pub use global_reference::{IsGlobalReference, IsGlobalReferenceName};
 pub use namespace_states::{ModuleInstanceState, module_instance_state};
-pub use semantic::{Semantic, SemanticBuilderReturn};
+pub use semantic_queries::{
+    IsGlobalReference, IsGlobalReferenceName, Semantic, SemanticBuilderReturn, Stats,
+    global_reference, node_queries, node_symbols, semantic, stats,
+};
 pub use semantic_walk::{Binder, Walk};
-pub use stats::Stats;
 pub use unused_labels::{LabeledScope, UnusedLabels};

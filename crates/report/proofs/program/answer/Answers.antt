@@ -1,9 +1,9 @@
 use Rattle.std.proofs.Common.{refl, ap}
 use Rattle.semantic_tree.specs.Children.{node_count}
 use Rattle.semantic_tree.specs.Tree.{Tree}
-use Rattle.report.specs.Codes.{status_for, end_of}
-use Rattle.report.specs.Found.{found_in}
-use Rattle.report.specs.Report.{options_of, answer_text}
+use Rattle.report_answers.specs.Codes.{status_for, end_of}
+use Rattle.report_answers.specs.Found.{found_in}
+use Rattle.report_answers.specs.Report.{options_of, answer_text}
 use Rattle.program_ends.proofs.Answering.{gives_none, gives}
 use Rattle.report.proofs.Texts.{text_same}
 use Rattle.report.specs.Meaning.{Answers}

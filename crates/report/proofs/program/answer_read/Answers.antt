@@ -1,6 +1,6 @@
 use Rattle.std.proofs.Common.{refl, inl, ◌≡◌, None}
 use Rattle.program_ends.proofs.Answering.{ends_unfound, unfound_no_refusal, gives_ends, gives_no_refusal}
-use Rattle.report.specs.Codes.{end_of}
+use Rattle.report_answers.specs.Codes.{end_of}
 use Rattle.report.proofs.Meanings.{read_about}
 use Rattle.report.specs.Meaning.{IsAbout, Answers}
 use Rattle.report.proofs.program.answer_read.Goals as goal

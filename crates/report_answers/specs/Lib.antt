@@ -1,0 +1,4 @@
+pub mod Found
+pub mod Report
+pub mod Requests
+pub mod Codes

@@ -1,5 +1,0 @@
-use Rattle.semantic.proofs.Lookups.{shows}
-use Rattle.semantic.proofs.node_symbols.laws.tables_show_the_analysis.Goals as goal
-
-pub returns : goal.returns
-returns c = λ p t nodes e symbols references scopes. shows p t nodes e symbols references scopes

@@ -1,0 +1,5 @@
+pub mod Tally
+pub mod FreeReference
+pub mod Lending
+pub mod Shown
+pub mod Given
