@@ -27,10 +27,11 @@ LOOKS_EVERY = 0.2
 # The memory that a proof may take, in bytes.
 MEMORY_OF_PROOF = 3_000_000_000
 
-# What a crate's proof takes grows with its functions, and with the lines of its definitions and lemmas, so many of which take as
-# long as a function.
+# What a crate's proof takes, reckoned in functions: what it stands on is read, and the answers for some functions are long.
 FUNCTION = re.compile(rb"\bfn \w")
-LINES_FOR_FUNCTION = 180
+FUNCTIONS_FOR_CRATE = 50
+LINES_FOR_FUNCTION = 6
+ANSWERS = "Answers.antt", "Invariants.antt", "Proof.antt"
 
 
 def crates_listed():
@@ -79,14 +80,14 @@ def checksum(named, crates):
 
 
 def work_of(crate):
-    """What a proof of the crate takes, reckoned in functions: a lemma is cheap, and some lines of them count as one function."""
+    """What a proof of the crate takes, reckoned in functions."""
     functions, lines = 0, 0
     for path in files_of(crate):
         if path.endswith(".rt"):
             functions += len(FUNCTION.findall(bytes_in(path)))
-        else:
+        elif path.endswith(ANSWERS):
             lines += bytes_in(path).count(b"\n")
-    return functions + lines // LINES_FOR_FUNCTION + 1
+    return FUNCTIONS_FOR_CRATE + functions + lines // LINES_FOR_FUNCTION
 
 
 def chains(named, crates, work):
@@ -156,7 +157,8 @@ class Build:
             made[name] = Crate(name, [made[it] for it in in_order(named, name, [])[:-1]])
         self.libraries = [made[it] for it in crates[:-1]]
         self.last = made[crates[-1]]
-        self.behind = chains(named, crates, {it: work_of(it) for it in crates})
+        self.work = {it: work_of(it) for it in crates}
+        self.behind = chains(named, crates, self.work)
         memory = os.sysconf("SC_PAGE_SIZE") * os.sysconf("SC_PHYS_PAGES")
         self.processors = min(len(os.sched_getaffinity(0)), max(memory // MEMORY_OF_PROOF, 1))
         self.copies = [copy_of(f"{room}/{number}", crates) for number in range(self.processors)]
@@ -169,23 +171,28 @@ class Build:
         print(f"{self.last.name}: {what} ({done} of {len(self.libraries) + 1} crates done, {minutes} minutes so far)", flush=True)
 
     def start_ready(self):
-        """Starts the crates that wait for none, that with the longest chain above first, at most one for each processor. That one
-        gets the processors which the others leave idle: while the lowest crates are proved there is little beside them. It gets
-        all of them, also while others run, if all that waits stands on it."""
+        """Starts the crates that wait for none, that with the longest chain above first, at most one for each processor."""
         at_work = [it for it in self.libraries if it.running]
         idle = self.processors - sum(it.jobs for it in at_work)
         ready = sorted((it for it in self.libraries if it.is_ready()), key=lambda it: -self.behind[it.name])
         places = [it for it in self.copies if it not in [other.at for other in at_work]]
         for others, crate in zip(reversed(range(len(ready))), ready[: len(places)]):
-            jobs = self.processors if self.is_awaited(crate) else max(idle - others, 1)
+            jobs = self.jobs_for(crate, idle - others)
             crate.start("lib", places.pop(), jobs)
             self.say(f"proving {crate.name}")
             idle -= jobs
 
-    def is_awaited(self, crate):
-        """Whether all that waits stands on the crate. More jobs take more processor time, so no other gets them."""
-        waiting = [it for it in self.libraries if not it.is_done and not it.running and it is not crate]
-        return all(crate in it.below for it in waiting)
+    def jobs_for(self, crate, idle):
+        """How many jobs a crate gets: one for each processor that is idle, or that the others can do without while the longest
+        chain from the crate on is proved, whichever is more. More jobs take more processor time. Of a crate that runs half is
+        taken to be left."""
+        waiting = [it for it in [*self.libraries, self.last] if not it.is_done and not it.running and it is not crate]
+        if all(crate in it.below for it in waiting):
+            return self.processors
+        chain = self.behind[crate.name]
+        above = chain - self.work[crate.name]
+        beside = sum(self.work[it.name] for it in waiting) - above + sum(self.work[it.name] for it in self.libraries if it.running) / 2
+        return max(idle, int(self.processors - beside / chain), 1)
 
     def look(self):
         """Notes which proofs ended, and gives the crate of one that failed, if any did."""
