@@ -6,7 +6,7 @@ use Rattle.semantic_syntax.specs.Tables.{Tables}
 use Rattle.semantic_walk.specs.Begun.{IsAnalysis, BelongsToNodes}
 use Rattle.module_set.specs.declared.modules.Module.{Module}
 use Rattle.semantic.specs.Shown.{shown}
-use Rattle.semantic.proofs.Lookups.{shows}
+use Rattle.semantic_queries.proofs.Lookups.{shows}
 use Rattle.link_model.specs.Module.{Analysed, analysed}
 
 abbrev pub seen_by : Module → Tables → NodeEntries → Analysed
