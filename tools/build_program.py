@@ -8,6 +8,7 @@ for that holds proofs too, so that a crate over many of them takes up to three t
 and another program's takes it. A build that fails ends with its log, and with status 1."""
 
 import contextlib
+import fcntl
 import hashlib
 import os
 import re
@@ -271,13 +272,25 @@ class Build:
             it.end()
 
 
+@contextlib.contextmanager
+def alone():
+    """Waits until no other build works in this repository, and keeps others out until it is left."""
+    with open(f"{TOP}/crates.txt", encoding="utf-8") as held:
+        fcntl.flock(held, fcntl.LOCK_EX)
+        yield
+
+
 def main(name):
     try:
         kit = Kit()
     except FileNotFoundError:
         print("rt is not on the path: its kit proves and builds the crates", flush=True)
         return 1
-    build = Build(name, kit)
+    with alone():
+        return build_in_turn(Build(name, kit), name)
+
+
+def build_in_turn(build, name):
     if build.last.is_done:
         os.utime(build.last.made())
         return 0
