@@ -30,11 +30,14 @@ LOOKS_EVERY = 0.2
 # The memory that a proof may take, in bytes.
 MEMORY_OF_PROOF = 3_000_000_000
 
-# What a crate's proof takes, reckoned in functions: what it stands on is read, and the answers for some functions are long.
+# What a crate takes, reckoned in functions: the answers for some functions are long, what the crate stands on is read, and some
+# of that is written into its own library.
 FUNCTION = re.compile(rb"\bfn \w")
-FUNCTIONS_FOR_CRATE = 50
-LINES_FOR_FUNCTION = 6
-FUNCTIONS_FOR_JOB = 100
+FUNCTIONS_FOR_CRATE = 10
+FUNCTIONS_FOR_CRATE_BELOW = 2
+LINES_FOR_FUNCTION = 9
+FUNCTIONS_FOR_JOB = 40
+MOST_JOBS = 2
 ANSWERS = "Answers.antt", "Invariants.antt", "Proof.antt"
 
 # How rattle ends what it says of a crate that is proved.
@@ -103,15 +106,15 @@ def bytes_in(path):
         return file.read()
 
 
-def work_of(crate):
-    """What a proof of the crate takes, reckoned in functions."""
+def proofs_of(crate):
+    """What the proofs of the crate's functions take, reckoned in functions."""
     functions, lines = 0, 0
     for path in files_of(crate):
         if path.endswith(".rt"):
             functions += len(FUNCTION.findall(bytes_in(path)))
         elif path.endswith(ANSWERS):
             lines += bytes_in(path).count(b"\n")
-    return FUNCTIONS_FOR_CRATE + functions + lines // LINES_FOR_FUNCTION
+    return functions + lines // LINES_FOR_FUNCTION
 
 
 class Crate:
@@ -123,7 +126,8 @@ class Crate:
         self.below = below
         self.at = f"{TOP}/crates/{name}"
         self.is_program = os.path.isfile(f"{self.at}/src/main.rt")
-        self.work = work_of(name)
+        self.proofs = proofs_of(name)
+        self.work = FUNCTIONS_FOR_CRATE + FUNCTIONS_FOR_CRATE_BELOW * len(below) + self.proofs
         # The work of the longest chain of crates from this one on.
         self.chain = self.work
         self.wanted = self.checksum()
@@ -233,26 +237,15 @@ class Build:
         return [it for it in self.crates if it.running]
 
     def start_ready(self):
-        """Starts the crates that wait for none, that with the longest chain above first, at most one for each processor."""
+        """Starts the crates that wait for none, that with the longest chain above first, as long as a processor is idle. A large
+        one gets a second that is idle. Each job reads what the crate stands on, so a small one gets no second, and none a third."""
         idle = self.processors - sum(it.jobs for it in self.at_work())
-        ready = sorted((it for it in self.crates if it.is_ready()), key=lambda it: -it.chain)
-        places = self.processors - len(self.at_work())
-        for others, crate in zip(reversed(range(len(ready))), ready[:places]):
-            jobs = self.jobs_for(crate, idle - others)
-            crate.start(jobs)
-            self.say(f"proving {crate.name}")
-            idle -= jobs
-
-    def jobs_for(self, crate, idle):
-        """How many jobs a crate gets: one for each processor that is idle, or that the others can do without while the longest
-        chain from the crate on is proved, whichever is more; all, if all that waits stands on it. Each job reads what the crate
-        stands on, so a small crate gets fewer. Of a crate that runs half is taken to be left."""
-        waiting = [it for it in self.crates if not it.is_done and not it.running and it is not crate]
-        above = crate.chain - crate.work
-        beside = sum(it.work for it in waiting) - above + sum(it.work for it in self.at_work()) / 2
-        is_awaited = all(crate in it.below for it in waiting)
-        wanted = self.processors if is_awaited else max(idle, int(self.processors - beside / crate.chain))
-        return max(min(wanted, crate.work // FUNCTIONS_FOR_JOB), 1)
+        for crate in sorted((it for it in self.crates if it.is_ready()), key=lambda it: -it.chain):
+            if idle > 0:
+                jobs = max(min(idle, MOST_JOBS, crate.proofs // FUNCTIONS_FOR_JOB), 1)
+                crate.start(jobs)
+                self.say(f"proving {crate.name}")
+                idle -= jobs
 
     def run(self):
         """Proves all that is left, and gives the crate of one that can't be, if there is one."""

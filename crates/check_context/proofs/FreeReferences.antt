@@ -7,7 +7,7 @@ use Rattle.std.proofs.lemmas.Bool.{cases_eq, eq-eqb, ne_eqb, eqb-false, lt-ltb, 
 use Rattle.std.proofs.lemmas.Map.Keys.{IsDistinct-head, IsDistinct-tail}
 use Rattle.semantic_syntax.specs.Tables.{Tables}
 use Rattle.semantic_syntax.specs.Reading.{reference_of}
-use Rattle.scoping.specs.NodeEntries.{NodeEntries}
+use Rattle.semantic_syntax.specs.NodeEntries.{NodeEntries}
 use Rattle.check_model.specs.Context.{free_entry, unresolved_by}
 use Rattle.check_model.specs.SightOf.{free_by}
 

@@ -5,3 +5,4 @@ pub mod CurrentClass
 pub mod SoundSpans
 pub mod FreeReferences
 pub mod Stopping
+pub mod GoodChildren

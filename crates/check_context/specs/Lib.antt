@@ -2,3 +2,5 @@ pub mod Handed
 pub mod Tells
 pub mod Shown
 pub mod Grandchildren
+pub mod Sound
+pub mod Leavable

@@ -1,4 +1,5 @@
-//! What a check of early errors is handed beside the node, and questions that several checks ask of it.
+//! What a check of early errors is handed beside the node, questions that several checks ask of it, and what a walk asks of
+//! the rules.
 #![tactic(auto)]
 
 pub mod context;
@@ -9,6 +10,7 @@ mod grandchildren;
 mod links;
 mod nodes;
 mod outer_class;
+mod rules;
 mod source_text;
 mod told;
 
@@ -18,4 +20,5 @@ pub use entries::one_before_last;
 pub use grandchildren::Grandchildren;
 pub use links::Links;
 pub use nodes::{first_bytes, has_child, is_child_in, is_same, node_of};
+pub use rules::Rules;
 pub use told::tell;

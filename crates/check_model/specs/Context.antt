@@ -7,7 +7,7 @@ use Rattle.semantic_syntax.specs.Sets.{meets}
 use Rattle.semantic_syntax.specs.Tables.{Tables}
 use Rattle.semantic_tree.specs.declared.node.Node.{Node}
 use Rattle.semantic_model.specs.Class.{PrivateUse}
-use Rattle.scoping.specs.NodeEntries.{NodeEntries}
+use Rattle.semantic_syntax.specs.NodeEntries.{NodeEntries}
 use Rattle.semantic_syntax.specs.Reading.{scope_of, reference_of, bindings_of, chain}
 use Rattle.class_table.specs.Lists.{ClassLists, elements_in, uses_in}
 use Rattle.class_table.specs.Outward.{outward_from}

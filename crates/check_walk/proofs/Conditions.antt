@@ -31,7 +31,8 @@ use Rattle.semantic_model.specs.Class.{uses_under}
 use Rattle.class_table.specs.Noted.{entered, left, noted_below}
 use Rattle.class_table.specs.NotedSteps.{entered_under}
 use Rattle.class_table.specs.declared.builder.ClassTableBuilder.{ClassTableBuilder}
-use Rattle.check_walk.specs.Sound.{HaveGoodSpans, IsInSource, AreAllSound}
+use Rattle.check_context.specs.Sound.{HaveGoodSpans, IsInSource, AreAllSound}
+use Rattle.check_context.proofs.GoodChildren.{child_good}
 
 module _ (P : Place → Node → Type 0) where
   each_first : (xs ys : List (Place × Node)) → OfEach P (xs ++ ys) → OfEach P xs
@@ -61,15 +62,6 @@ module _ (source : List ℕ) where
       let inner : Place = child_place place k r in
       (h.0, (spans_below inner own below (each_first IsGood (placed_below inner own below) (placed_below place k after) h.1), spans_below place k after (each_later IsGood (placed_below inner own below) (placed_below place k after) h.1)))
 
-  -- a child in a role, if there is one
-  pub child_good : (r : Role) (f : Forest) → HaveGoodSpans source f → IfSome (first_of (nodes_in r (trees f))) (λ child. has_good_span source child ≡ true)
-  child_good r nothing h = tt
-  child_good r (tree r2 k span text marks below id after) h = by (same_role r2 r) (child_good r after h.1.1)
-    where
-      by : (b : Bool) → IfSome (first_of (nodes_in r (trees after))) (λ child. has_good_span source child ≡ true) → IfSome (first_of (if b then (record { kind = k; span = span; text = text; marks = marks; children = below; node_id = id }) ∷ nodes_in r (trees after) else nodes_in r (trees after))) (λ child. has_good_span source child ≡ true)
-      by true rest = h.0
-      by false rest = rest
-
   abbrev IsSoundElement : Element → Type 0
   IsSoundElement e = is_sound source e.span ≡ true
 
@@ -85,7 +77,7 @@ module _ (source : List ℕ) where
   with_sound what member h =
       and_then _ (λ (key : Node). has_good_span source key ≡ true) IsSoundElement
       (λ key good. of_map _ IsSoundElement (λ name. and_first (is_sound source key.span) (shows_sign source key.kind key) good) (key_name key))
-      (child_of role.Key member) (child_good role.Key member.children h)
+      (child_of role.Key member) (child_good source role.Key member.children h)
 
   unless : (b : Bool) (o : Option Element) → IfSome o IsSoundElement → IfSome (cond b o None) IsSoundElement
   unless true o h = h

@@ -9,7 +9,7 @@ use Rattle.check_model.specs.SightOf.{classes_around}
 use Rattle.check_walk.specs.Apart.{HasApart}
 use Rattle.check_walk.specs.Shaped.{is_class_shape, are_class_shapes}
 use Rattle.check_walk.specs.Showing.{IsInClasses, ShowsBetween}
-use Rattle.check_walk.specs.Sound.{HaveGoodSpans, IsInSource, AreAllSound}
+use Rattle.check_context.specs.Sound.{HaveGoodSpans, IsInSource, AreAllSound}
 
 -- it has come to a place: the classes are those around it, and the node and all below it are as they should be
 pub record IsReadyAt (source : List ℕ) (w : WalkState) (b : ClassTableBuilder) (p : Place) : Type 0 where

@@ -34,7 +34,7 @@ ghost use Rattle.check_walk.specs.Shaped.{is_class_shape, are_class_shapes};
 ghost use Rattle.check_walk.specs.Showing.{ShowsClasses, IsInClasses, ShowsAround, ShowsBetween};
 ghost use Rattle.check_walk.specs.SoFar.{Telling, so_far, IsCounted, telling};
 ghost use Rattle.check_walk.specs.Apart.{HasApart};
-ghost use Rattle.check_walk.specs.Sound.{HaveGoodSpans, IsInSource, AreAllSound};
+ghost use Rattle.check_context.specs.Sound.{HaveGoodSpans, IsInSource, AreAllSound};
 ghost use Rattle.check_walk.specs.TellingAlong.{telling_past, telling_left, telling_along, making, telling_over, telling_whole};
 ghost use Rattle.check_walk.specs.Telling.{IsQuiet, rows_in, steps_within, told_over, told_walking};
 ghost use Rattle.check_walk.specs.WalkSight.{sight_in, unresolved_in};

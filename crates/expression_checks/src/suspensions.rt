@@ -1,7 +1,7 @@
 //! Early errors of `await` and `yield`.
 ghost use Rattle.std.specs.Prelude.{◌≡◌, ◌||◌, IsTrue, option_map, find, codes};
 ghost use Rattle.semantic_tree.specs.declared.node.Node.{Node};
-ghost use Rattle.semantic_syntax.specs.Ascii.{is_ascii};
+ghost use Rattle.semantic_kinds.specs.Ascii.{is_ascii};
 ghost use Rattle.semantic_diagnostics.specs.Functions as tell;
 ghost use Rattle.semantic_diagnostics.specs.Names as tell_of;
 ghost use Rattle.check_model.specs.Expressions as rows;

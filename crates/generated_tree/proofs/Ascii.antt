@@ -4,8 +4,8 @@ use Rattle.std.specs.Str.{IsAscii}
 use Rattle.std.proofs.lemmas.Bool.{lt-ltb}
 use Rattle.std.proofs.lemmas.Str.{IsAscii-append}
 use Rattle.std.proofs.lemmas.Fmt.{IsAscii-decimal}
-use Rattle.semantic_syntax.specs.Ascii.{is_ascii}
-use Rattle.semantic_syntax.proofs.Ascii.{ascii_text}
+use Rattle.semantic_kinds.specs.Ascii.{is_ascii}
+use Rattle.semantic_kinds.proofs.Ascii.{ascii_text}
 use Rattle.generated_tree.specs.Generated.{function_name}
 
 tested : (text : List ℕ) → IsAscii text → IsTrue (is_ascii text)

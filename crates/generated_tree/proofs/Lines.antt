@@ -5,7 +5,7 @@ use Rattle.std.proofs.lemmas.Bool.Decides.{leb_tells}
 use Rattle.std.proofs.lemmas.Str.{IsAscii-append, chars-IsAscii}
 use Rattle.std.proofs.lemmas.Fmt.{length-decimal-le}
 use Rattle.std.proofs.Math.Numerals.{add-one}
-use Rattle.semantic_syntax.proofs.Ascii.{ascii_text}
+use Rattle.semantic_kinds.proofs.Ascii.{ascii_text}
 use Rattle.semantic_kinds.specs.declared.role.Role.TheVariants as role
 use Rattle.semantic_tree.specs.Children.{single}
 use Rattle.semantic_tree.specs.Forest.{join}

@@ -1,7 +1,7 @@
 //! The parts of a function.
 ghost use Rattle.std.specs.Prelude.{◌≡◌, ◌+◌, ◌<◌, ◌^◌, IsTrue, IfOk, length};
 ghost use Rattle.std.specs.Str.{chars};
-ghost use Rattle.semantic_syntax.specs.Ascii.{is_ascii};
+ghost use Rattle.semantic_kinds.specs.Ascii.{is_ascii};
 ghost use Rattle.semantic_tree.specs.Children.{single};
 ghost use Rattle.semantic_tree.specs.Forest.{join};
 ghost use Rattle.generated_tree.specs.Generated as made;
@@ -11,7 +11,7 @@ use semantic_tree::{AstType, Marks, Node, Role};
 use std::alloc::{AllocError, Global};
 
 /// A node without children.
-#[tactic(auto, using(semantic_syntax::proofs::Ascii::ascii_texts))]
+#[tactic(auto, using(semantic_kinds::proofs::Ascii::ascii_texts))]
 pub fn leaf(
     alloc: Global,
     kind: AstType,

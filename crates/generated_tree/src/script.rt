@@ -1,6 +1,6 @@
 //! The whole script.
 ghost use Rattle.std.specs.Prelude.{◌≡◌, [], ◌++◌, ◌+◌, ◌*◌, ◌<◌, ◌≤◌, None, length, string_bytes, IfOk, OnOk, IsTrue};
-ghost use Rattle.semantic_syntax.specs.Ascii.{is_ascii};
+ghost use Rattle.semantic_kinds.specs.Ascii.{is_ascii};
 ghost use Rattle.semantic_kinds.specs.declared.kind.AstType.TheVariants.{Program as program_kind};
 ghost use Rattle.semantic_tree.specs.Faults.{first_fault};
 ghost use Rattle.generated_tree.specs.Generated as made;

@@ -1,6 +1,6 @@
 -- The analysis of a module is what its tables show.
 use Rattle.std.proofs.Common.{◌≡◌, List, Bool, ap, ◌∙◌}
-use Rattle.scoping.specs.NodeEntries.{NodeEntries}
+use Rattle.semantic_syntax.specs.NodeEntries.{NodeEntries}
 use Rattle.semantic_diagnostics.specs.declared.diagnostic.Diagnostic.{Diagnostic}
 use Rattle.semantic_syntax.specs.Tables.{Tables}
 use Rattle.semantic_walk.specs.Begun.{IsAnalysis, BelongsToNodes}

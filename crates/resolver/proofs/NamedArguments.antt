@@ -2,7 +2,7 @@
 use Rattle.std.proofs.Common.{◌≡◌, ℕ, List, ap, sym, ◌∙◌, refl, codes}
 use Rattle.std.specs.Str.{chars, IsUtf8, bytes_eq}
 use Rattle.std.proofs.lemmas.Str.{IsUtf8-from_ascii}
-use Rattle.semantic_syntax.proofs.Ascii.{ascii_text, ascii_chars}
+use Rattle.semantic_kinds.proofs.Ascii.{ascii_text, ascii_chars}
 use Rattle.semantic_syntax.proofs.SameTexts.{same_texts}
 
 pub named_arguments : (text : List ℕ) → IsUtf8 text → bytes_eq (chars text) (codes "arguments") ≡ bytes_eq text (codes "arguments")

@@ -6,7 +6,7 @@ use Rattle.std.proofs.lemmas.List.{length-set, get_or-set_same, get_or_default}
 use Rattle.semantic_syntax.specs.Tables.{Name}
 use Rattle.scoping.specs.Names.{name_at}
 use Rattle.scoping.specs.Row.{Row, symbol_of_row, no_row, row_named, row_moved}
-use Rattle.scoping.specs.Writing.{with_name, with_home}
+use Rattle.semantic_syntax.specs.Writing.{with_name, with_home}
 use Rattle.std.specs.Map.{values_of}
 use Rattle.scoping.specs.Flat.{Numbered}
 use Rattle.scoping.specs.View.{IsBoundWithin}

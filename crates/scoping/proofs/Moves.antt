@@ -12,7 +12,7 @@ use Rattle.semantic_syntax.specs.Tables.{Name, Tables}
 use Rattle.scoping.specs.Flat.{Numbered, put, cut, moved_number, renumbered}
 use Rattle.scoping.specs.Names.{named, IsUnknown, IsNumberOf}
 use Rattle.scoping.specs.View.{IsBoundWithin}
-use Rattle.scoping.specs.Writing.{bound, unbound, moved, renamed}
+use Rattle.semantic_syntax.specs.Writing.{bound, unbound, moved, renamed}
 use Rattle.scoping.proofs.Shown.{AreBound, bound_at, bound_insert, bound_remove, shown_insert, shown_remove, shown_lookup, shown_lookup_unknown}
 
 -- another number's removal and an insertion come to the same in either order

@@ -8,7 +8,7 @@ use Rattle.scoping.specs.Flat.{renumbered}
 use Rattle.scoping.specs.Names.{name_at, IsNumberOf, IsInterned}
 use Rattle.scoping.specs.Row.{Row, symbol_of_row, no_row}
 use Rattle.scoping.specs.View.{IsSound, tables}
-use Rattle.scoping.specs.Writing.{with_symbol, with_name, renamed}
+use Rattle.semantic_syntax.specs.Writing.{with_symbol, with_name, renamed}
 use Rattle.scoping.proofs.Moves.{bound_renumbered, length_renumbered, renumbered_is}
 use Rattle.scoping.proofs.Shown.{scope_within, symbol_within, sound_bindings, sound_interned, tables_interned, symbols_interned, shown_number}
 

@@ -10,7 +10,7 @@ use Rattle.std.proofs.lemmas.Cmp.{ranked}
 use Rattle.std.proofs.lemmas.List.Sorted.{IsNonDecreasingBy-from_default}
 use Rattle.std.proofs.lemmas.Option.{get_or_from_slice_get}
 use Rattle.indexmap.specs.IndexMap.{insert_entry}
-use Rattle.scoping.specs.NodeEntries.{node_at, AreRising, AreBefore, HasNone, IsPositionOf}
+use Rattle.semantic_syntax.specs.NodeEntries.{node_at, AreRising, AreBefore, HasNone, IsPositionOf}
 
 module _ {X : Type 0} where
   -- what isn't in front is told by the rest alone

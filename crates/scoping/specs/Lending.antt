@@ -10,7 +10,7 @@ use Rattle.semantic_syntax.specs.contracts.scope_flags.ScopeFlags as scope_flags
 use Rattle.semantic_syntax.specs.contracts.symbol_flags.SymbolFlags as symbol_flags
 use Rattle.scoping.specs.contracts.scoping.Scoping as scoping
 use Rattle.semantic_syntax.specs.Reading.{scope_of, symbol_of}
-use Rattle.scoping.specs.Writing.{with_scope, with_symbol, with_reference}
+use Rattle.semantic_syntax.specs.Writing.{with_scope, with_symbol, with_reference}
 
 -- the tables end with the last reference that was written through the loan
 abbrev pub LendsReference : MutBor Tables → ℕ → MutBor Reference → Fml

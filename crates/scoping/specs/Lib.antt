@@ -2,9 +2,7 @@ pub mod Names
 pub mod Flat
 pub mod Tabled
 pub mod Row
-pub mod Writing
 pub mod View
-pub mod NodeEntries
 pub mod Lending
 pub mod RowLending
 pub mod Numbering

@@ -2,7 +2,7 @@
 ghost use Rattle.std.specs.Prelude.{◌≡◌, [], true, nat_eq, MatchOption, OnOk, OnErr};
 ghost use Rattle.std.specs.Map.{lookup};
 ghost use Rattle.indexmap.specs.IndexMap.{insert_entry};
-ghost use Rattle.scoping.specs.NodeEntries.{AreRising, AreBefore, HasNone, IsPositionOf};
+ghost use Rattle.semantic_syntax.specs.NodeEntries.{AreRising, AreBefore, HasNone, IsPositionOf};
 
 use indexmap::IndexMap;
 use semantic_syntax::NodeId;
@@ -20,7 +20,7 @@ pub struct NodeMap<T> {
 
 impl<T> Model for NodeMap<T> {
     ghost use Rattle.std.specs.Prelude.{ℕ, List, ◌++◌};
-    ghost use Rattle.scoping.specs.NodeEntries.{AreRising};
+    ghost use Rattle.semantic_syntax.specs.NodeEntries.{AreRising};
 
     ghost Value = { List (ℕ × T) };
 

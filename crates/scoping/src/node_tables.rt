@@ -18,7 +18,7 @@ pub struct NodeTables {
 }
 
 impl Model for NodeTables {
-    ghost use Rattle.scoping.specs.NodeEntries.{NodeEntries};
+    ghost use Rattle.semantic_syntax.specs.NodeEntries.{NodeEntries};
 
     ghost Value = { NodeEntries };
 

@@ -1,7 +1,7 @@
 -- Two names swapped in a program that was analysed.
 use Rattle.std.proofs.Common.{◌≡◌, sym, ap, ◌∙◌}
 use Rattle.semantic_syntax.specs.Tables.{Tables}
-use Rattle.scoping.specs.NodeEntries.{NodeEntries}
+use Rattle.semantic_syntax.specs.NodeEntries.{NodeEntries}
 use Rattle.semantic_tree.specs.Renamed.{swap, swapped_tree}
 use Rattle.semantic_tree.specs.Tree.{Tree}
 use Rattle.semantic_model.specs.NodeTable.{NodeTables, node_tables}

@@ -1,7 +1,7 @@
 -- What an analysis of a program says of the program with two names swapped.
 use Rattle.std.specs.Prelude.{◌≡◌}
 use Rattle.semantic_syntax.specs.Tables.{Name, Tables}
-use Rattle.scoping.specs.NodeEntries.{NodeEntries}
+use Rattle.semantic_syntax.specs.NodeEntries.{NodeEntries}
 use Rattle.semantic_tree.specs.Renamed.{swapped_tree}
 use Rattle.semantic_tree.specs.Tree.{Tree}
 use Rattle.semantic_model.specs.Swap.{IsSwappable, swapped_tables}

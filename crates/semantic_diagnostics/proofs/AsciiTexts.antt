@@ -5,8 +5,8 @@ use Rattle.std.specs.Char.{IsScalar}
 use Rattle.std.specs.List.{concat}
 use Rattle.std.specs.Str.{chars, IsUtf8}
 use Rattle.std.proofs.lemmas.Str.{chars-append, chars_past_char, IsUtf8-from_ascii, IsUtf8-append, IsUtf8-encode}
-use Rattle.semantic_syntax.proofs.Ascii.{ascii_text, ascii_chars}
-use Rattle.semantic_syntax.specs.Ascii.{is_ascii}
+use Rattle.semantic_kinds.proofs.Ascii.{ascii_text, ascii_chars}
+use Rattle.semantic_kinds.specs.Ascii.{is_ascii}
 
 utf8_text : (text : List ℕ) → IsTrue (is_ascii text) → IsUtf8 text
 utf8_text text h = IsUtf8-from_ascii text (ascii_text text h)

@@ -1,7 +1,7 @@
 //! The parts of which diagnostics are made.
 ghost use Rattle.std.specs.Prelude.{◌≡◌, [], ◌∷◌, IsTrue, IfOk};
 ghost use Rattle.std.specs.Str.{chars};
-ghost use Rattle.semantic_syntax.specs.Ascii.{is_ascii};
+ghost use Rattle.semantic_kinds.specs.Ascii.{is_ascii};
 ghost use Rattle.semantic_diagnostics.specs.Parts as parts;
 
 use crate::diagnostic::{Diagnostic, Label, Labels};

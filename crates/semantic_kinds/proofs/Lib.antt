@@ -1,3 +1,4 @@
+pub mod Ascii
 pub mod Words
 mod Named
 pub mod KindNames

@@ -2,7 +2,7 @@
 
 ghost use Rattle.std.specs.Prelude.{◌≡◌, ℕ, List, true, map};
 ghost use Rattle.std.specs.List.{list_any, list_all};
-ghost use Rattle.semantic_syntax.specs.Ascii.{is_ascii};
+ghost use Rattle.semantic_kinds.specs.Ascii.{is_ascii};
 ghost use Rattle.semantic_kinds.specs.Texts.{text_rule, is_word_of, may_have_text};
 ghost use Rattle.std.specs.Str.{bytes_eq, chars};
 ghost use Rattle.semantic_kinds.specs.Allowed.{allowed_marks};

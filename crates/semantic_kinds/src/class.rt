@@ -4,7 +4,7 @@ ghost use Rattle.std.specs.Prelude.{◌≡◌};
 ghost use Rattle.std.specs.Str.{chars};
 ghost use Rattle.std.specs.Prelude.{true};
 ghost use Rattle.std.specs.Str.{bytes_eq};
-ghost use Rattle.semantic_syntax.specs.Ascii.{is_ascii};
+ghost use Rattle.semantic_kinds.specs.Ascii.{is_ascii};
 ghost use Rattle.semantic_kinds.specs.Classes.{expression_kinds, type_kinds, declaration_kinds, statement_kinds, holds_kind, is_of, is_statement, is_declaration, is_expression, is_member, is_literal, is_module_name, is_key, is_type_name, is_pattern, is_simple_target, is_target, is_target_or_default, is_signature, is_jsx_child, is_jsx_name, is_for_init, is_loop_left, is_class_element, is_import_clause, is_default_export, is_export_local, is_array_item, is_object_item, is_argument, is_callee, is_chain_element, is_arrow_body, is_target_property, is_jsx_attribute_item, is_jsx_attribute_name, is_jsx_attribute_value, is_jsx_content, is_jsx_object, is_import_qualifier, is_type_literal_value, is_tuple_item, is_rest_item, is_predicate_name, is_query_name, is_enum_member_name, is_namespace_body, is_import_equals_target};
 
 use crate::kind::AstType;

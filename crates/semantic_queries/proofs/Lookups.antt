@@ -3,7 +3,7 @@ use Rattle.std.proofs.Common.{◌≡◌, ℕ, zero, suc, ◌<◌, ◌≤◌, ◌
 use Rattle.std.specs.Prelude.{slice_get, option_and_then}
 use Rattle.std.specs.Map.{lookup}
 use Rattle.std.proofs.lemmas.Option.{slice_get-get_or}
-use Rattle.scoping.specs.NodeEntries.{NodeEntries}
+use Rattle.semantic_syntax.specs.NodeEntries.{NodeEntries}
 use Rattle.semantic_syntax.specs.Reading.{no_reference, reference_of}
 use Rattle.semantic_syntax.specs.Tables.{Tables}
 use Rattle.semantic_syntax.specs.declared.references.Reference.{Reference}

@@ -5,7 +5,7 @@ use Rattle.std.specs.Map.{lookup}
 use Rattle.semantic_kinds.specs.declared.kind.AstType.TheVariants as kind
 use Rattle.semantic_syntax.specs.Tables.{Name, Tables}
 use Rattle.semantic_tree.specs.declared.node.Node.{Node}
-use Rattle.scoping.specs.NodeEntries.{NodeEntries}
+use Rattle.semantic_syntax.specs.NodeEntries.{NodeEntries}
 use Rattle.semantic_syntax.specs.Reading.{reference_of}
 use Rattle.semantic_tree.specs.Views.{is, has_text}
 

@@ -1,6 +1,6 @@
 -- The analysis that tables show.
 use Rattle.std.specs.Prelude.{ℕ, List, map}
-use Rattle.scoping.specs.NodeEntries.{NodeEntries}
+use Rattle.semantic_syntax.specs.NodeEntries.{NodeEntries}
 use Rattle.semantic_syntax.specs.Tables.{Tables}
 use Rattle.semantic_model.specs.NodeTable.{Belongs}
 use Rattle.semantic_model.specs.Analysis.{Analysis}

@@ -11,4 +11,5 @@ pub mod Told
 pub mod Lookup
 pub mod Members
 pub mod Outcome
-pub mod Ascii
+pub mod Writing
+pub mod NodeEntries

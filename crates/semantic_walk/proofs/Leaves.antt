@@ -18,7 +18,7 @@ use Rattle.walk_model.proofs.turns.ChainsShown.{chain_after_all}
 use Rattle.check_walk.specs.Leaving.{IsHandedAt}
 use Rattle.check_walk.specs.Ready.{IsReadyAt}
 use Rattle.check_walk.specs.SoFar.{Telling}
-use Rattle.check_walk.specs.Sound.{IsInSource}
+use Rattle.check_context.specs.Sound.{IsInSource}
 use Rattle.check_walk.specs.TellingAlong.{telling_left}
 use Rattle.check_walk.proofs.Handing.{rows_inside}
 use Rattle.check_walk.proofs.WalkConditions.{steps_apart}

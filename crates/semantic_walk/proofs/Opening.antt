@@ -13,7 +13,7 @@ use Rattle.semantic_syntax.specs.Sets.{meets, union}
 use Rattle.semantic_syntax.specs.Tables.{Bindings, Tables}
 use Rattle.semantic_tree.specs.declared.node.Node.{Node}
 use Rattle.semantic_syntax.specs.Reading.{scope_of, bindings_of}
-use Rattle.scoping.specs.Writing as writing
+use Rattle.semantic_syntax.specs.Writing as writing
 use Rattle.semantic_tree.specs.Views.{is, has_use_strict}
 use Rattle.semantic_model.specs.Place.{Place, OpenScope, innermost, parent_holds}
 use Rattle.semantic_model.specs.ScopeKind.{strict_if, strict_by_body, method_flags, flags_of_kind, opened_scope}

@@ -3,7 +3,7 @@ use Rattle.std.specs.Prelude.{◌≡◌, ℕ, List, [], Bool, ◌&&◌, ◌||◌
 use Rattle.std.specs.Str.{encode_utf8_all}
 use Rattle.semantic_syntax.specs.SourceTypes.{is_typescript_definition}
 use Rattle.semantic_syntax.specs.Tables.{Name, Tables}
-use Rattle.scoping.specs.NodeEntries.{NodeEntries}
+use Rattle.semantic_syntax.specs.NodeEntries.{NodeEntries}
 use Rattle.semantic_tree.specs.Tree.{Tree}
 use Rattle.semantic_model.specs.Namespace.{InstanceState}
 use Rattle.semantic_model.specs.Place.{Place}

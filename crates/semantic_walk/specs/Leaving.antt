@@ -10,7 +10,7 @@ use Rattle.check_model.specs.Context.{Context, sight_shown}
 use Rattle.check_model.specs.Rows.{rows_of}
 use Rattle.check_walk.specs.Apart.{HasApart}
 use Rattle.check_walk.specs.Showing.{ShowsClasses}
-use Rattle.check_walk.specs.Sound.{IsInSource, AreAllSound}
+use Rattle.check_context.specs.Sound.{IsInSource, AreAllSound}
 use Rattle.check_walk.specs.WalkSight.{sight_in}
 use Rattle.semantic_walk.specs.AtPlace.{IsWithin}
 use Rattle.semantic_walk.specs.Walker.{Walker}

@@ -9,7 +9,7 @@ use Rattle.semantic_model.specs.Place.{Place}
 use Rattle.semantic_syntax.specs.declared.scope_flags.TheConstants.ScopeFlags as scope
 use Rattle.semantic_syntax.specs.Sets.{meets, union}
 use Rattle.semantic_syntax.specs.Reading.{scope_of}
-use Rattle.scoping.specs.Writing.{taken_over}
+use Rattle.semantic_syntax.specs.Writing.{taken_over}
 use Rattle.node_store.specs.Entered.{Entered, entering}
 use Rattle.semantic_model.specs.Cursor.{way_of}
 use Rattle.semantic_model.specs.ScopeKind.{flags_of_kind, strict_if}

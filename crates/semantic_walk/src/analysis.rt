@@ -10,7 +10,7 @@ ghost use Rattle.walk_notes.specs.NoteLists.{classes_noted};
 
 use crate::settings::Settings;
 use crate::walk::Walk;
-use check_walk::Rules;
+use check_context::Rules;
 use class_table::ClassTable;
 use node_store::AstNodes;
 use scoping::{NodeTables, Scoping};

@@ -3,10 +3,9 @@ ghost use Rattle.std.specs.Prelude.{◌≡◌, ◌++◌, map, drop, OnOk};
 ghost use Rattle.check_model.specs.DiagnosticsOf.{told};
 ghost use Rattle.check_model.specs.Rows.{rows_of};
 ghost use Rattle.check_context.specs.Handed.{sight};
-ghost use Rattle.check_walk.specs.Leavable.{IsLeavable};
+ghost use Rattle.check_context.specs.Leavable.{IsLeavable};
 
-use check_context::CheckContext;
-use check_walk::Rules;
+use check_context::{CheckContext, Rules};
 use semantic_diagnostics::Diagnostics;
 use semantic_tree::AstKind;
 use std::alloc::{AllocError, Global};

@@ -31,7 +31,7 @@ ghost use Rattle.semantic_walk.specs.Ids.{MayOpen};
 ghost use Rattle.semantic_walk.specs.Leaving.{IsLeaving};
 
 use crate::walk::Walk;
-use check_walk::Rules;
+use check_context::Rules;
 use node_rules::ambient::{is_ambient_in_child, is_ambient_inside};
 use node_rules::cursor::{before_child, behind_child};
 use node_rules::even::{acts_between, is_leaf, is_passing, stands_alike};

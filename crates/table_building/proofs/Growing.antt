@@ -5,7 +5,7 @@ use Rattle.std.proofs.lemmas.List.{map-append}
 use Rattle.std.specs.Map.{values_of}
 use Rattle.semantic_syntax.specs.Tables.{Tables, Name}
 use Rattle.semantic_syntax.specs.Reading.{bindings_of}
-use Rattle.scoping.specs.Writing.{taken_over}
+use Rattle.semantic_syntax.specs.Writing.{taken_over}
 use Rattle.walk_model.proofs.sizes.Growth.{homes_count}
 use Rattle.semantic_model.specs.Binding.{Binding, is_of, get, put}
 use Rattle.semantic_syntax.specs.Outcome.{Pending}

@@ -4,7 +4,7 @@ ghost use Rattle.std.specs.Prelude.{◌≡◌, ◌==◌, ◌<◌, ◌≤◌, ◌
 ghost use Rattle.semantic_kinds.specs.declared.kind.AstType.TheVariants.{TemplateElement as template_element};
 ghost use Rattle.semantic_kinds.specs.declared.role.Role.TheVariants.{Pattern as pattern_role, Id as id_role, Quasis as quasis_role};
 ghost use Rattle.semantic_syntax.specs.Reading.{bindings_of};
-ghost use Rattle.scoping.specs.Writing.{taken_over};
+ghost use Rattle.semantic_syntax.specs.Writing.{taken_over};
 ghost use Rattle.semantic_tree.specs.Views.{all_in, is};
 ghost use Rattle.semantic_model.specs.Names.{bound_names, names_at};
 ghost use Rattle.semantic_model.specs.Binder.{member_names};

@@ -6,7 +6,7 @@ use Rattle.std.specs.BTreeSet.{insert_key}
 use Rattle.indexmap.specs.IndexMap.{insert_entry}
 use Rattle.semantic_syntax.specs.Tables.{Name, Tables}
 use Rattle.semantic_syntax.specs.Reading.{bound_in, symbol_of, symbol_flags}
-use Rattle.scoping.specs.Writing.{bound, with_symbol}
+use Rattle.semantic_syntax.specs.Writing.{bound, with_symbol}
 use Rattle.semantic_model.specs.Naming.{Naming}
 use Rattle.semantic_model.specs.Binding.{get}
 use Rattle.semantic_model.specs.Fold.{or_else, unless_expression, conflict_of, new_symbol, redeclared, united}

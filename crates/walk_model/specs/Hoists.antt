@@ -4,7 +4,7 @@ use Rattle.semantic_syntax.specs.declared.symbol_flags.TheConstants.SymbolFlags 
 use Rattle.semantic_syntax.specs.Sets.{meets}
 use Rattle.semantic_syntax.specs.Tables.{Name, Tables}
 use Rattle.semantic_syntax.specs.Reading.{bound_in, symbol_of}
-use Rattle.scoping.specs.Writing.{bound, unbound, with_symbol}
+use Rattle.semantic_syntax.specs.Writing.{bound, unbound, with_symbol}
 use Rattle.semantic_model.specs.Naming.{Naming}
 use Rattle.semantic_model.specs.Binding.{put}
 use Rattle.semantic_model.specs.Hoist.{PassedSymbol}

@@ -7,7 +7,7 @@ use Rattle.semantic_syntax.specs.declared.scope_flags.TheConstants.ScopeFlags as
 use Rattle.semantic_syntax.specs.Sets.{meets, union}
 use Rattle.semantic_syntax.specs.Tables.{Name, Scope}
 use Rattle.semantic_syntax.specs.Reading.{scope_of}
-use Rattle.scoping.specs.Writing.{with_scope}
+use Rattle.semantic_syntax.specs.Writing.{with_scope}
 use Rattle.semantic_tree.specs.Views.{is}
 use Rattle.semantic_model.specs.Place.{Place, OpenScope, at}
 use Rattle.semantic_model.specs.Cursor.{way_of}

@@ -7,7 +7,7 @@ use Rattle.semantic_syntax.specs.declared.references.Reference.{Reference}
 use Rattle.semantic_syntax.specs.Tables.{Tables, Symbol}
 use Rattle.semantic_syntax.specs.Reading.{symbol_of, reference_of, uses_of, free_of}
 use Rattle.semantic_syntax.specs.Told.{source_of}
-use Rattle.scoping.specs.Writing.{with_uses, with_reference}
+use Rattle.semantic_syntax.specs.Writing.{with_uses, with_reference}
 use Rattle.semantic_syntax.specs.Outcome.{Pending, Outcome, means, is_free, waits, header_outcome, last_outcome, staying}
 use Rattle.walk_model.specs.WalkState.{WalkState}
 

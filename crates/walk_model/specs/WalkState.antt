@@ -1,7 +1,7 @@
 -- What a walk has made so far.
 use Rattle.std.specs.Prelude.{List, []}
 use Rattle.semantic_syntax.specs.Tables.{Tables}
-use Rattle.scoping.specs.NodeEntries.{NodeEntries}
+use Rattle.semantic_syntax.specs.NodeEntries.{NodeEntries}
 use Rattle.semantic_model.specs.Binding.{Binding}
 use Rattle.semantic_model.specs.Fold.{Conflict}
 use Rattle.semantic_syntax.specs.Outcome.{Pending}

@@ -1,6 +1,6 @@
 -- What each step of the walk does, and the whole walk.
 use Rattle.std.specs.Prelude.{ℕ, List, [], ◌∷◌, map}
-use Rattle.scoping.specs.Writing.{taken_over}
+use Rattle.semantic_syntax.specs.Writing.{taken_over}
 use Rattle.semantic_tree.specs.Tree.{Tree}
 use Rattle.semantic_model.specs.Place.{OpenScope}
 use Rattle.semantic_model.specs.Declaration.{How, plain, hoisted, moved, caught, Declaration, stands_in}

@@ -5,7 +5,7 @@ ghost use Rattle.std.specs.Map.{lookup, values_of};
 ghost use Rattle.scoping.specs.Numbering.{numbered_from};
 ghost use Rattle.scoping.specs.Names.{name_of};
 ghost use Rattle.semantic_syntax.specs.Reading.{bindings_of, chain, first_bound};
-ghost use Rattle.scoping.specs.Writing.{bound, unbound};
+ghost use Rattle.semantic_syntax.specs.Writing.{bound, unbound};
 
 use super::Scoping;
 use super::room::{push_symbol, reserve_symbol};

@@ -3,7 +3,7 @@ ghost use Rattle.std.specs.Prelude.{◌≡◌, ◌<◌, length, map, IfSome};
 ghost use Rattle.std.specs.Str.{bytes_eq};
 ghost use Rattle.std.specs.Option.{option_map_or};
 ghost use Rattle.semantic_syntax.specs.Reading.{reference_of};
-ghost use Rattle.scoping.specs.Writing.{without_use};
+ghost use Rattle.semantic_syntax.specs.Writing.{without_use};
 ghost use Rattle.scoping.specs.Names.{name_of};
 ghost use Rattle.scoping.specs.Kept.{without_marked, without_typescript, delisted};
 

@@ -4,7 +4,7 @@ ghost use Rattle.std.specs.List.{AllByRecursion};
 ghost use Rattle.scoping.specs.Row.{row_moved};
 ghost use Rattle.scoping.specs.Names.{name_of};
 ghost use Rattle.semantic_syntax.specs.Reading.{symbol_of, bindings_of};
-ghost use Rattle.scoping.specs.Writing.{with_symbol, moved, taken_over};
+ghost use Rattle.semantic_syntax.specs.Writing.{with_symbol, moved, taken_over};
 
 use super::Scoping;
 use super::rows::{own_number, set_home};

@@ -2,7 +2,7 @@
 ghost use Rattle.std.specs.Prelude.{◌≡◌, ◌<◌, length, nat_eq, false, IfSome};
 ghost use Rattle.std.specs.List.{list_any};
 ghost use Rattle.semantic_syntax.specs.Reading.{scope_of, chain};
-ghost use Rattle.scoping.specs.Writing.{with_scope};
+ghost use Rattle.semantic_syntax.specs.Writing.{with_scope};
 
 use super::Scoping;
 use semantic_syntax::ScopeId;

@@ -3,7 +3,7 @@ ghost use Rattle.std.specs.Prelude.{◌≡◌, ◌<◌, ◌++◌, [], ◌∷◌,
 ghost use Rattle.std.specs.Str.{chars};
 ghost use Rattle.semantic_syntax.specs.Reading.{symbol_of, reference_of, uses_of};
 ghost use Rattle.scoping.specs.Kept.{is_mutated};
-ghost use Rattle.scoping.specs.Writing.{with_uses};
+ghost use Rattle.semantic_syntax.specs.Writing.{with_uses};
 
 use super::Scoping;
 use crate::reference_iterators::{ReferencesIter, UseLists};

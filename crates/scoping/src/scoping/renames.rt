@@ -6,7 +6,7 @@ ghost use Rattle.std.specs.Map.{lookup};
 ghost use Rattle.scoping.specs.Names.{name_of};
 ghost use Rattle.scoping.specs.Row.{row_named};
 ghost use Rattle.semantic_syntax.specs.Reading.{symbol_of, bindings_of};
-ghost use Rattle.scoping.specs.Writing.{with_symbol, with_name, renamed};
+ghost use Rattle.semantic_syntax.specs.Writing.{with_symbol, with_name, renamed};
 
 use super::Scoping;
 use super::rows::{own_number, set_name};

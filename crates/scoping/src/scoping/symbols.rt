@@ -6,7 +6,7 @@ ghost use Rattle.scoping.specs.Names.{name_of};
 ghost use Rattle.semantic_syntax.specs.Reading.{symbol_of, own_entry, redeclarations_of, declarations_of};
 ghost use Rattle.std.specs.List.{range_with_len};
 ghost use Rattle.semantic_syntax.specs.Tables.{Symbol};
-ghost use Rattle.scoping.specs.Writing.{with_symbol, bound};
+ghost use Rattle.semantic_syntax.specs.Writing.{with_symbol, bound};
 ghost use Rattle.scoping.specs.Redeclared.{without_declaration};
 
 use super::Scoping;

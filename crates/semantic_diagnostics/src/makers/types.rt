@@ -2,7 +2,7 @@
 ghost use Rattle.std.specs.Prelude.{◌≡◌, [], ◌∷◌, codes, IsTrue, IfOk};
 ghost use Rattle.std.specs.List.{concat};
 ghost use Rattle.std.specs.Str.{chars};
-ghost use Rattle.semantic_syntax.specs.Ascii.{is_ascii};
+ghost use Rattle.semantic_kinds.specs.Ascii.{is_ascii};
 ghost use Rattle.semantic_diagnostics.specs.Types as specs;
 
 use crate::diagnostic::Diagnostic;

@@ -1,6 +1,6 @@
 //! Laws over what is asked of nodes.
 ghost use Rattle.std.specs.Prelude.{◌≡◌};
-ghost use Rattle.scoping.specs.NodeEntries.{NodeEntries};
+ghost use Rattle.semantic_syntax.specs.NodeEntries.{NodeEntries};
 ghost use Rattle.semantic_syntax.specs.Tables.{Tables};
 ghost use Rattle.semantic_tree.specs.Tree.{Tree};
 ghost use Rattle.semantic_model.specs.Step.{steps};

@@ -10,7 +10,7 @@ use Rattle.semantic_syntax.specs.Sets.{meets}
 use Rattle.semantic_syntax.specs.declared.scope_flags.TheConstants.ScopeFlags as scope
 use Rattle.semantic_syntax.specs.Tables.{Bindings, Tables}
 use Rattle.semantic_syntax.specs.Reading.{scope_of}
-use Rattle.scoping.specs.Writing.{taken_over, with_home}
+use Rattle.semantic_syntax.specs.Writing.{taken_over, with_home}
 use Rattle.semantic_tree.specs.Views.{is}
 use Rattle.semantic_model.specs.Place.{Place, OpenScope, at}
 use Rattle.semantic_model.specs.Binding.{Binding, take_over, bound_by}

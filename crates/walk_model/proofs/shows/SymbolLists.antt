@@ -4,7 +4,7 @@ use Rattle.std.specs.Prelude.{slice_get, slice_set}
 use Rattle.std.specs.Map.{values_of}
 use Rattle.semantic_syntax.specs.Tables.{Symbol, Bindings}
 use Rattle.semantic_syntax.specs.Reading.{no_symbol}
-use Rattle.scoping.specs.Writing.{with_home}
+use Rattle.semantic_syntax.specs.Writing.{with_home}
 use Rattle.semantic_model.specs.Naming.{Naming}
 use Rattle.semantic_model.specs.Fold.{update, conflict_of, conflict_with, redeclared, united, in_scope}
 use Rattle.semantic_model.specs.Hoist.{rescoped}

@@ -9,8 +9,8 @@ use Rattle.semantic_syntax.specs.declared.scope_flags.TheConstants.ScopeFlags as
 use Rattle.semantic_syntax.specs.Tables.{Name, Symbol, Tables}
 use Rattle.semantic_syntax.specs.Reading.{bindings_of, bound_in, no_symbol, reference_of, scope_of, symbol_of, uses_of}
 use Rattle.semantic_syntax.specs.Told.{source_of}
-use Rattle.scoping.specs.Writing.{with_symbol, with_uses, with_home}
-use Rattle.scoping.specs.Writing as writing
+use Rattle.semantic_syntax.specs.Writing.{with_symbol, with_uses, with_home}
+use Rattle.semantic_syntax.specs.Writing as writing
 use Rattle.semantic_tree.specs.Views.{is}
 use Rattle.semantic_model.specs.Naming.{Naming}
 use Rattle.semantic_model.specs.Place.{Place, OpenScope, at, innermost}

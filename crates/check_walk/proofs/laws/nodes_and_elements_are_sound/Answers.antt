@@ -1,4 +1,5 @@
-use Rattle.check_walk.proofs.Conditions.{program_in_source, child_good, entered_sound, below_sound, left_sound}
+use Rattle.check_context.proofs.GoodChildren.{child_good}
+use Rattle.check_walk.proofs.Conditions.{program_in_source, entered_sound, below_sound, left_sound}
 use Rattle.check_walk.proofs.laws.nodes_and_elements_are_sound.Goals as goal
 
 pub returns-clause-program : goal.returns-clause-program

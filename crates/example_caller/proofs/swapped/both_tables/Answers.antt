@@ -1,6 +1,6 @@
 use Rattle.std.proofs.Common.{◌≡◌, ap, refl, codes, ◌∙◌}
 use Rattle.std.specs.Str.{chars}
-use Rattle.semantic_syntax.proofs.Ascii.{ascii_chars}
+use Rattle.semantic_kinds.proofs.Ascii.{ascii_chars}
 use Rattle.semantic_tree.specs.Renamed.{swapped_tree}
 use Rattle.semantic_tree.specs.Tree.{Tree}
 use Rattle.semantic_model.specs.TablesOf.{tables_of}

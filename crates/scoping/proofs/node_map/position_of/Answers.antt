@@ -1,7 +1,7 @@
 use Rattle.std.proofs.Common.{rules, subst}
 use Rattle.std.specs.Prelude.{MatchResult}
 use Rattle.std.proofs.lemmas.List.Sorted.{answers_always}
-use Rattle.scoping.specs.NodeEntries.{HasNone, IsPositionOf}
+use Rattle.semantic_syntax.specs.NodeEntries.{HasNone, IsPositionOf}
 use Rattle.scoping.proofs.Rising.{searched}
 use Rattle.scoping.proofs.node_map.position_of.Goals as goal
 

@@ -1,6 +1,6 @@
 use Rattle.std.proofs.Common.{◌≡◌, Bool, Result, Ok, List, OnOk, subst, sym, ◌∙◌}
 use Rattle.semantic_syntax.specs.Tables.{Tables}
-use Rattle.scoping.specs.NodeEntries.{NodeEntries}
+use Rattle.semantic_syntax.specs.NodeEntries.{NodeEntries}
 use Rattle.semantic_diagnostics.specs.declared.diagnostic.Diagnostic.{Diagnostic}
 use Rattle.semantic_walk.specs.Begun.{BelongsToNodes, IsAnalysis}
 use Rattle.semantic_walk.proofs.analysis.analyse.Goals as goal

@@ -1,7 +1,7 @@
 use Rattle.std.proofs.Common.{◌≡◌, ℕ, List, IfOk, true, codes, refl, sym, ap, subst, ◌∙◌}
 use Rattle.semantic_kinds.specs.Kinds.{same_kind}
 use Rattle.semantic_kinds.specs.declared.kind.AstType.TheVariants as kinds
-use Rattle.semantic_syntax.proofs.Ascii.{ascii_chars}
+use Rattle.semantic_kinds.proofs.Ascii.{ascii_chars}
 use Rattle.semantic_diagnostics.specs.declared.diagnostic.Diagnostic.{Diagnostic}
 use Rattle.semantic_diagnostics.specs.Names.{unexpected_arguments}
 use Rattle.check_context.specs.Tells.{Tells}

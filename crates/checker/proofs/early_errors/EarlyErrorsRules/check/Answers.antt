@@ -1,8 +1,8 @@
 use Rattle.semantic_syntax.proofs.Truth.{and_first}
 use Rattle.semantic_kinds.specs.declared.role.Role.TheVariants as roles
 use Rattle.semantic_tree.specs.Sound.{is_sound, shows_sign}
-use Rattle.check_walk.proofs.Conditions.{child_good}
-use Rattle.check_walk.specs.Leavable.{IsLeavable}
+use Rattle.check_context.proofs.GoodChildren.{child_good}
+use Rattle.check_context.specs.Leavable.{IsLeavable}
 use Rattle.checker.proofs.early_errors.EarlyErrorsRules.check.Goals as goal
 
 pub check-requires : goal.check-requires

@@ -1,6 +1,6 @@
 use Rattle.std.proofs.Common.{ℕ, Some, subst, sym, ap, ◌∙◌, nat_eq}
 use Rattle.std.specs.Map.{lookup}
-use Rattle.scoping.specs.NodeEntries.{HasNone, IsPositionOf}
+use Rattle.semantic_syntax.specs.NodeEntries.{HasNone, IsPositionOf}
 use Rattle.scoping.proofs.Rising.{lookup_at, lookup_behind}
 use Rattle.scoping.proofs.node_map.NodeMap.get.Goals as goal
 

@@ -1,7 +1,7 @@
 use Rattle.std.proofs.Common.{◌≡◌, ℕ, ◌++◌, set, length, subst, sym, ap, ◌∙◌, nat_eq, arith}
 use Rattle.indexmap.specs.IndexMap.{insert_entry}
 use Rattle.semantic_syntax.proofs.Results.{on_err}
-use Rattle.scoping.specs.NodeEntries.{AreBefore, AreRising, HasNone, IsPositionOf}
+use Rattle.semantic_syntax.specs.NodeEntries.{AreBefore, AreRising, HasNone, IsPositionOf}
 use Rattle.scoping.proofs.Rising.{insert_at, insert_behind, rise_behind, rise_set, pushed}
 use Rattle.scoping.proofs.node_map.NodeMap.insert.Goals as goal
 

@@ -1,7 +1,7 @@
 use Rattle.std.proofs.Common.{refl, ap, ◌∙◌, [], ◌∷◌, length}
 use Rattle.semantic_syntax.specs.Reading.{symbol_of}
 use Rattle.scoping.specs.View.{tables}
-use Rattle.scoping.specs.Writing.{with_symbol}
+use Rattle.semantic_syntax.specs.Writing.{with_symbol}
 use Rattle.semantic_syntax.proofs.Results.{on_err}
 use Rattle.scoping.proofs.Clones.{sound_same}
 use Rattle.scoping.proofs.Folds.{length_homes, named_homes, shown_homes}

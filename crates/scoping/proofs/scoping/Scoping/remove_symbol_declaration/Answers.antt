@@ -3,7 +3,7 @@ use Rattle.std.proofs.lemmas.List.{length-set}
 use Rattle.scoping.specs.Row.{symbol_of_row}
 use Rattle.semantic_syntax.specs.Reading.{symbol_of}
 use Rattle.scoping.specs.View.{tables}
-use Rattle.scoping.specs.Writing.{with_symbol}
+use Rattle.semantic_syntax.specs.Writing.{with_symbol}
 use Rattle.scoping.specs.Redeclared.{without_declaration}
 use Rattle.scoping.proofs.Redeclared.{shown_without, name_kept}
 use Rattle.scoping.proofs.Shown.{tables_eq, symbol_changed, symbol_within, sound_rows, named_set, read_named}

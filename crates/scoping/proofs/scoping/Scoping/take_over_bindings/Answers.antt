@@ -6,7 +6,7 @@ use Rattle.std.proofs.lemmas.List.{length-set, map-set}
 use Rattle.scoping.specs.Names.{named}
 use Rattle.scoping.specs.Row.{symbol_of_row}
 use Rattle.scoping.specs.View.{IsBoundWithin}
-use Rattle.scoping.specs.Writing.{with_home}
+use Rattle.semantic_syntax.specs.Writing.{with_home}
 use Rattle.semantic_syntax.proofs.Every.{every-set}
 use Rattle.scoping.proofs.Named.{values-named, empty-named}
 use Rattle.scoping.proofs.Folds.{length_homes, named_homes, shown_homes, rows_bound, ids_taken_over, rows_taken_over}

@@ -8,7 +8,7 @@ use Rattle.semantic_tree.specs.declared.node.Node.{Node}
 use Rattle.node_store.specs.PathOf.{IsInStore}
 use Rattle.class_table.specs.Building.{IsCurrent}
 use Rattle.check_context.specs.declared.context.CheckContext.{CheckContext}
-use Rattle.check_walk.specs.Sound.{IsInSource, AreAllSound}
+use Rattle.check_context.specs.Sound.{IsInSource, AreAllSound}
 
 pub record IsLeavable (node : Node) (ctx : CheckContext) : Type 0 where
   -- the current node is in its store, scope and class are in their tables, and the source keeps its limit

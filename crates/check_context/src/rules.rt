@@ -2,9 +2,9 @@
 ghost use Rattle.check_model.specs.Rows.{rows_of};
 ghost use Rattle.check_context.specs.Handed.{sight};
 ghost use Rattle.check_context.specs.Tells.{Tells};
-ghost use Rattle.check_walk.specs.Leavable.{IsLeavable};
+ghost use Rattle.check_context.specs.Leavable.{IsLeavable};
 
-use check_context::CheckContext;
+use crate::context::CheckContext;
 use semantic_diagnostics::Diagnostics;
 use semantic_tree::AstKind;
 use std::alloc::{AllocError, Global};

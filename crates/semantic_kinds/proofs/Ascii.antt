@@ -4,7 +4,7 @@ use Rattle.std.specs.Str.{chars, IsAscii}
 use Rattle.std.proofs.lemmas.Bool.{and_parts}
 use Rattle.std.proofs.lemmas.Str.{chars-IsAscii}
 use Rattle.std.proofs.lemmas.Str.Ascii.{IsAscii-nil, IsAscii-cons}
-use Rattle.semantic_syntax.specs.Ascii.{is_ascii}
+use Rattle.semantic_kinds.specs.Ascii.{is_ascii}
 
 pub ascii_text : (text : List ℕ) → IsTrue (is_ascii text) → IsAscii text
 ascii_text [] h = IsAscii-nil
