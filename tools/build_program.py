@@ -238,11 +238,13 @@ class Build:
 
     def start_ready(self):
         """Starts the crates that wait for none, that with the longest chain above first, as long as a processor is idle. A large
-        one gets a second that is idle. Each job reads what the crate stands on, so a small one gets no second, and none a third."""
+        one gets a second that would stay idle. Each job reads what the crate stands on, so a small one gets no second, and none a
+        third."""
         idle = self.processors - sum(it.jobs for it in self.at_work())
-        for crate in sorted((it for it in self.crates if it.is_ready()), key=lambda it: -it.chain):
+        ready = sorted((it for it in self.crates if it.is_ready()), key=lambda it: -it.chain)
+        for behind, crate in zip(reversed(range(len(ready))), ready):
             if idle > 0:
-                jobs = max(min(idle, MOST_JOBS, crate.proofs // FUNCTIONS_FOR_JOB), 1)
+                jobs = max(min(idle - behind, MOST_JOBS, crate.proofs // FUNCTIONS_FOR_JOB), 1)
                 crate.start(jobs)
                 self.say(f"proving {crate.name}")
                 idle -= jobs

@@ -1,5 +1,5 @@
 //! What builders keep and tell, and the state of a namespace.
-use semantic::{ModuleInstanceState, SemanticBuilder, Stats, module_instance_state};
+use semantic::{ModuleInstanceState, SemanticBuilder, Stats, drop_analysis, module_instance_state};
 use semantic_syntax::NodeId;
 use semantic_tree::Program;
 use std::alloc::{AllocError, Global};
@@ -22,11 +22,13 @@ fn kept(
 ) -> Result<[usize; 3], AllocError> {
     let ret = builder.build(alloc, program)?;
     Stats::count(program).assert_accurate(ret.semantic.stats());
-    Ok([
+    let kept = [
         ret.semantic.nodes().len(),
         ret.semantic.classes().len(),
         ret.diagnostics.len(),
-    ])
+    ];
+    drop_analysis(ret);
+    Ok(kept)
 }
 
 #[test]

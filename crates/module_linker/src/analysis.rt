@@ -12,7 +12,7 @@ use crate::module_targets::{ModuleTargets, targets_of};
 use module_entries::module_names::ModuleNames;
 use module_entries::texts::Texts;
 use module_set::Module;
-use semantic::SemanticBuilder;
+use semantic::{SemanticBuilder, drop_analysis};
 use std::alloc::{AllocError, Global};
 
 /// Where the imports and exports of a module lead that has this number. Its program is analysed for it, and the
@@ -38,6 +38,6 @@ pub(crate) fn module_targets<'a>(
         tables: semantic.tables(),
     };
     let made = targets_of(alloc, names, texts, &analysed);
-    drop(analysis);
+    drop_analysis(analysis);
     made
 }

@@ -5,12 +5,9 @@ ghost use Rattle.name_lint.specs.Live.{AreUnused};
 ghost use Rattle.name_lint.specs.Undeclared.{undeclared};
 
 use crate::found_names::{NameReport, names_in};
-use semantic::{SemanticBuilder, SemanticBuilderReturn};
+use semantic::{SemanticBuilder, drop_analysis};
 use semantic_tree::Program;
 use std::alloc::{AllocError, Global};
-
-/// Drops an analysis, out of line: each function that drops one itself is proved anew to drop each of its parts.
-pub(crate) fn drop_analysis(_analysis: SemanticBuilderReturn<'_>) {}
 
 /// The symbols of the program that nothing in use uses, and its free references to names that are neither declared nor
 /// known. A symbol is in use where a reference that does more than write it stands outside of function and class

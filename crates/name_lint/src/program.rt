@@ -19,14 +19,13 @@ ghost use Rattle.name_lint.specs.Telling.{usage_line};
 ghost use Rattle.name_lint.specs.Words.{AreNames};
 
 use crate::NamesStatus;
-use crate::finding::drop_analysis;
 use crate::found_names::{NameReport, names_by};
 use crate::name_lines::write_names;
 use crate::tree_pass::TreePass;
 use program_ends::{Stop, read_program_from, refuse, tell};
 use report_ends::{ReportError, Sink, Source};
 use scoping::{NodeTables, Scoping};
-use semantic::SemanticBuilder;
+use semantic::{SemanticBuilder, drop_analysis};
 use semantic_tree::{AstKind, Program};
 use std::alloc::Global;
 

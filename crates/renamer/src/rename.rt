@@ -19,15 +19,12 @@ use crate::fixing::first_fixed;
 use crate::refusal::{Refusal, RequestError};
 use crate::renaming::renamed;
 use crate::request::Request;
-use semantic::{SemanticBuilder, SemanticBuilderReturn};
+use semantic::{SemanticBuilder, SemanticBuilderReturn, drop_analysis};
 use semantic_syntax::{NodeId, SymbolId};
 use semantic_tree::Program;
 use std::alloc::{AllocError, Global};
 
-/// Drops an analysis, out of line: each function that drops one itself is proved anew to drop each of its parts.
-fn drop_analysis(_analysis: SemanticBuilderReturn<'_>) {}
-
-/// Drops a program, out of line too.
+/// Drops a program, out of line: each function that drops one itself is proved anew to drop each of its parts.
 pub(crate) fn drop_program(_program: Program) {}
 
 /// What an analysis tells of nodes.

@@ -15,7 +15,7 @@ use generated_tree::generated;
 use program_ends::{Stop, read_program_from, refuse, tell};
 use report_answers::{ReportStatus, Request, finish_answer, read_words};
 use report_ends::{ReportError, Sink, Source};
-use semantic::SemanticBuilder;
+use semantic::{SemanticBuilder, drop_analysis};
 use semantic_tree::Program;
 use std::alloc::Global;
 
@@ -41,7 +41,9 @@ fn answer<K: Sink>(
     ensures { GivesAnswer K.held K.faults out.old out.new request program.now result }
 {
     let ret = settings(request).build(alloc, program)?;
-    finish_answer(alloc, request, &ret, out)
+    let answered = finish_answer(alloc, request, &ret, out);
+    drop_analysis(ret);
+    answered
 }
 
 /// Reads a program, and writes the answer to a request about it.

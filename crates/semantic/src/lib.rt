@@ -8,7 +8,7 @@ pub use builder::SemanticBuilder;
 pub use namespace_states::{ModuleInstanceState, module_instance_state};
 pub use semantic_queries::{
     IsGlobalReference, IsGlobalReferenceName, Semantic, SemanticBuilderReturn, Stats,
-    global_reference, node_queries, node_symbols, semantic, stats,
+    drop_analysis, global_reference, node_queries, node_symbols, semantic, stats,
 };
 pub use semantic_walk::{Binder, Walk};
 pub use unused_labels::{LabeledScope, UnusedLabels};

@@ -8,5 +8,5 @@ pub mod semantic;
 pub mod stats;
 
 pub use global_reference::{IsGlobalReference, IsGlobalReferenceName};
-pub use semantic::{Semantic, SemanticBuilderReturn, put_together};
+pub use semantic::{Semantic, SemanticBuilderReturn, drop_analysis, put_together};
 pub use stats::Stats;

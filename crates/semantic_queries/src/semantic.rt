@@ -74,6 +74,15 @@ pub fn put_together<'a>(
     }
 }
 
+/// Drops tables, out of line.
+fn drop_scoping(_scoping: Scoping) {}
+
+/// Drops an analysis, as the end of its scope does. A function in which a scope of an analysis ends is proved anew to drop
+/// each part of it, which takes longer than the most of proofs; one that calls this isn't.
+pub fn drop_analysis(analysis: SemanticBuilderReturn<'_>) {
+    drop_scoping(analysis.semantic.into_scoping());
+}
+
 impl<'a> Semantic<'a> {
     /// Scopes, symbols, bindings and references.
     pub fn scoping(&self) -> &Scoping
@@ -94,7 +103,8 @@ impl<'a> Semantic<'a> {
     pub fn into_scoping(self) -> Scoping
         ensures { result ≡ self.entry.scoping }
     {
-        self.scoping
+        let (scoping, _nodes) = self.into_scoping_and_nodes();
+        scoping
     }
 
     /// What belongs to each node.

@@ -14,7 +14,7 @@ returns-in_err-ret g c = gives_none g.K.Sink.held g.K.Sink.faults end_of (Answer
 
 pub returns : goal.returns
 returns g c =
-    gives g.K.Sink.held g.K.Sink.faults end_of (Answers c.args.request) c.args.program.now _ _ (answer_text c.args.request (found_in c.in_ok-ret.ret)) (status_for c.in_ok-ret.ret.diagnostics) c.finish_answer.result
+    gives g.K.Sink.held g.K.Sink.faults end_of (Answers c.args.request) c.args.program.now _ _ (answer_text c.args.request (found_in c.in_ok-ret.ret)) (status_for c.in_ok-ret.ret.diagnostics) c.finish_answer-answered.result
     (record {
       tables = c.in_ok-ret.ret.semantic.scoping;
       diagnostics = c.in_ok-ret.ret.diagnostics;
@@ -24,4 +24,4 @@ returns g c =
           (ap (λ (t : Tree). node_count t.root) c.in_ok-ret.ensures.program);
       ends = refl;
     })
-    c.finish_answer.ensures
+    c.finish_answer-answered.ensures
