@@ -1,0 +1,8 @@
+'use strict';
+// The commands, in the order in which help tells them. `add(program, name)` adds a command to commander's program; its action sets
+// process.exitCode, or throws a UsageFault or a RunFault.
+
+const COMMANDS = [
+];
+
+module.exports = { COMMANDS };

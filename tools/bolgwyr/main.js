@@ -1,0 +1,52 @@
+#!/usr/bin/env node
+'use strict';
+// bolgwyr: one command, with a module for each of its commands in commands/.
+
+const { load } = require('../source-to-tree/load.js');
+const { tell } = require('../analyse/output.js');
+const { COMMANDS } = require('./commands/index.js');
+const { STATUS } = require('./faults.js');
+const { version } = require('../../package.json');
+
+const { Command, CommanderError } = load('commander');
+
+const STATUSES = `
+Status: 0 nothing found; 1 findings; 2 words that aren't known; 3 something could not be read or run.`;
+
+function programOf() {
+  const program = new Command('bolgwyr')
+    .description('Scopes, names and early errors of JavaScript and TypeScript, by an analysis that is proved.')
+    .version(version, '--version', 'tell the version')
+    .showHelpAfterError('(bolgwyr --help tells the words)')
+    .exitOverride()
+    .addHelpText('after', STATUSES);
+  for (const { name, add } of COMMANDS) {
+    add(program, name);
+  }
+  for (const command of program.commands) {
+    command.exitOverride().addHelpText('after', STATUSES);
+  }
+  return program;
+}
+
+// Help and the version are answers; all else that commander ends with is a fault of the words.
+function statusOf(error) {
+  if (error instanceof CommanderError) {
+    return error.exitCode === 0 ? STATUS.CLEAN : STATUS.USAGE;
+  }
+  if (error.status === undefined) {
+    throw error;
+  }
+  tell(`bolgwyr: ${error.message}`);
+  return error.status;
+}
+
+async function main(words) {
+  try {
+    await programOf().parseAsync(words, { from: 'user' });
+  } catch (error) {
+    process.exitCode = statusOf(error);
+  }
+}
+
+main(process.argv.slice(2));
