@@ -17,6 +17,7 @@ function programOf() {
   const program = new Command('bolgwyr')
     .description('Scopes, names and early errors of JavaScript and TypeScript, by an analysis that is proved.')
     .version(version, '--version', 'tell the version')
+    .option('--no-color', 'no colours, also in a terminal')
     .showHelpAfterError('(bolgwyr --help tells the words)')
     .exitOverride()
     .addHelpText('after', STATUSES);

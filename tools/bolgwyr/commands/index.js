@@ -3,6 +3,7 @@
 // process.exitCode, or throws a UsageFault or a RunFault.
 
 const COMMANDS = [
+  { name: 'check', add: require('./check.js').add },
 ];
 
 module.exports = { COMMANDS };
