@@ -1,7 +1,7 @@
 'use strict';
 // One text's way: source, tree, report.
 
-const { checkSize } = require('./files.js');
+const { checkSize, readText } = require('./files.js');
 const { Positions } = require('./positions.js');
 const { RefusedTree, ask } = require('./program.js');
 const { Refusal } = require('./refusal.js');
@@ -57,6 +57,15 @@ function analyseText(text, settings) {
   return { file: settings.file, tree, words: settings.words, bytes: stdout, diagnosed: status === 1, times };
 }
 
+// The same of a file. Its reading counts, too.
+function analyseFile(file, settings) {
+  const started = performance.now();
+  const text = readText(file);
+  const reading = performance.now() - started;
+  const found = analyseText(text, { file, ...settings });
+  return { ...found, times: { reading, ...found.times } };
+}
+
 // The same with the report read, and the places of its nodes.
 function readAnalysis(analysis) {
   const { file, tree, words } = analysis;
@@ -75,4 +84,4 @@ function readAnalysis(analysis) {
   };
 }
 
-module.exports = { analyseText, askAbout, explain, readAnalysis };
+module.exports = { analyseFile, analyseText, askAbout, explain, readAnalysis };

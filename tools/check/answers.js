@@ -20,6 +20,11 @@ function readNames(text) {
   return text.split('\n').slice(0, -1).map(readNameLine);
 }
 
+// The numbers of the symbols that nothing in use uses.
+function unusedSymbols(nameText) {
+  return new Set(readNames(nameText).filter(({ kind }) => kind === 'unused').map(({ id }) => id));
+}
+
 const SEPARATOR = '+';
 
 // The answers of the lint of names and of the report on a tree. Either may be absent where no rule needs it.
@@ -72,4 +77,4 @@ class Answers {
   }
 }
 
-module.exports = { Answers };
+module.exports = { Answers, unusedSymbols };

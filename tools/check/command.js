@@ -4,6 +4,7 @@
 const { printable } = require('../analyse/refusal.js');
 const { say, tell } = require('../analyse/output.js');
 const { hasColour } = require('../bolgwyr/colour.js');
+const { nameOf } = require('../bolgwyr/commands/sources.js');
 const { STATUS, UsageFault } = require('../bolgwyr/faults.js');
 const { Configs } = require('./config.js');
 const { formatOf } = require('./formats/index.js');
@@ -50,10 +51,10 @@ function worded(options) {
   try {
     return {
       ...NOTHING,
-      rules: Object.fromEntries(options.rule.map(wordedRule)),
+      rules: Object.fromEntries((options.rule ?? []).map(wordedRule)),
       only: options.only === undefined ? null : wordedOnly(options.only),
       env: options.env === undefined ? null : readEnvironments(listOf(options.env), '--env'),
-      globals: wordedGlobals(options.global),
+      globals: wordedGlobals(options.global ?? []),
     };
   } catch (error) {
     throw error instanceof SettingFault ? new UsageFault(error.message) : error;
@@ -77,7 +78,7 @@ function jobsOf(words, options) {
   const { parser, goal } = options;
   const jobs = [];
   for (const { file, isNamed } of sourcesOf(words.length === 0 ? ['.'] : words)) {
-    const name = file === '-' ? options.stdinName ?? '-' : file;
+    const name = nameOf(file, options);
     const config = configs.of(name);
     if (isNamed || !config.ignores(name)) {
       jobs.push({ file, name, settings: { ...settingsOf(config, fromWords), file: name, parser, goal } });

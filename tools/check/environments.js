@@ -6,11 +6,12 @@ const { load } = require('../source-to-tree/load.js');
 // The names of the language, which each file knows.
 const LANGUAGE = 'es2021';
 
-// Where nobody names an environment: what Node and browsers share, and of the two the one that a file is made for.
+// Where nobody names an environment: what Node and browsers share, and those of which a file has one of these names, free.
 const SHARED = 'shared-node-browser';
 const MARKS = [
   ['node', ['require', 'module', 'exports', 'process', '__dirname', '__filename', 'Buffer', 'global']],
-  ['browser', ['window', 'document']],
+  ['browser', ['window', 'document', 'self', 'navigator']],
+  ['amd', ['define']],
 ];
 
 const sets = new Map();
@@ -24,10 +25,10 @@ function namesOf(environment) {
   return sets.get(environment);
 }
 
-// The environment that a file is made for, by the names that are free in it.
+// The environments that a file is made for, by the names that are free in it.
 function guessed(free) {
-  const found = MARKS.find(([, marks]) => marks.some((mark) => free.has(mark)));
-  return found === undefined ? [SHARED] : [SHARED, found[0]];
+  const found = MARKS.filter(([, marks]) => marks.some((mark) => free.has(mark)));
+  return [SHARED, ...found.map(([environment]) => environment)];
 }
 
 // Sets of names that are known in a file; `named` is null where nobody names an environment.

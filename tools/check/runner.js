@@ -41,8 +41,21 @@ function nameOfSignal(number) {
   return Object.keys(os.constants.signals).find((name) => os.constants.signals[name] === number) ?? `signal ${number}`;
 }
 
+// The programs of the script, in its order; without one of them no file gets an answer.
+function programs() {
+  return ['report', 'name_lint'].map((tool) => programPath(TOOLS[tool].crate)).map((program) => {
+    try {
+      fs.accessSync(program, fs.constants.X_OK);
+      return program;
+    } catch (error) {
+      throw new RunFault(`${program} can't be run: ${error.message}`);
+    }
+  });
+}
+
 class Runner {
   constructor(shells) {
+    this.programs = programs();
     this.folder = scratchFolder();
     this.removal = () => fs.rmSync(this.folder, { recursive: true, force: true });
     process.on('exit', this.removal);
@@ -52,8 +65,7 @@ class Runner {
   }
 
   start() {
-    const programs = ['report', 'name_lint'].map((tool) => programPath(TOOLS[tool].crate));
-    const shell = spawn('/bin/sh', ['-c', SCRIPT, 'sh', ...programs], { cwd: this.folder, stdio: ['pipe', 'pipe', 'inherit'] });
+    const shell = spawn('/bin/sh', ['-c', SCRIPT, 'sh', ...this.programs], { cwd: this.folder, stdio: ['pipe', 'pipe', 'inherit'] });
     readline.createInterface({ input: shell.stdout }).on('line', (line) => this.take(line));
     shell.on('error', (error) => this.end(new RunFault(`/bin/sh can't be run: ${error.message}`)));
     shell.on('close', () => this.end(new RunFault('a shell ended before its time')));
@@ -83,10 +95,13 @@ class Runner {
     });
   }
 
-  // An answer of one tool.
+  // An answer of one tool. What nobody waits for any more is passed over.
   take(line) {
     const [id, tool, status] = line.split(' ');
     const job = this.jobs.get(Number(id));
+    if (job === undefined) {
+      return;
+    }
     job.runs[tool] = this.readRun(id, tool, Number(status));
     job.left -= 1;
     if (job.left === 0) {
@@ -116,6 +131,7 @@ class Runner {
   }
 
   close() {
+    this.jobs.clear();
     for (const shell of this.shells) {
       shell.stdin.end();
     }

@@ -87,4 +87,4 @@ function sourcesOf(words) {
   return [...seen.values()];
 }
 
-module.exports = { sourcesOf };
+module.exports = { isFolder, sourcesOf };

@@ -5,10 +5,11 @@ const counted = (number, what) => `${number.toLocaleString('en-US')} ${what}${nu
 
 function sumOf(results) {
   const findings = results.flatMap((result) => result.findings);
+  const failed = results.filter((result) => result.failure !== undefined).length;
   const errors = findings.filter(({ severity }) => severity === 'error').length;
   return {
-    files: results.length,
-    failed: results.filter((result) => result.failure !== undefined).length,
+    files: results.length - failed,
+    failed,
     found: results.filter((result) => result.findings.length > 0).length,
     errors,
     warnings: findings.length - errors,
