@@ -10,9 +10,8 @@ const { Configs } = require('./config.js');
 const { formatOf } = require('./formats/index.js');
 const { sumOf } = require('./formats/sum.js');
 const { Progress } = require('./progress.js');
-const { RULES } = require('./rules.js');
 const { checkFiles } = require('./run.js');
-const { NOTHING, SettingFault, readEnvironments, readGlobals, readRule, settingsOf } = require('./settings.js');
+const { NOTHING, SettingFault, readEnvironments, readGlobals, readOnly, readRule, settingsOf } = require('./settings.js');
 const { sourcesOf } = require('./sources.js');
 
 const listOf = (text) => text.split(',').map((word) => word.trim()).filter((word) => word !== '');
@@ -31,15 +30,6 @@ function wordedRule(word) {
   return [name, readRule(name, rest.length === 0 ? 'error' : readSeverity(rest.join('=')), `--rule ${name}`)];
 }
 
-function wordedOnly(text) {
-  const names = listOf(text);
-  const stranger = names.find((name) => !Object.hasOwn(RULES, name));
-  if (stranger !== undefined || names.length === 0) {
-    throw new SettingFault(`--only: there is no rule ${JSON.stringify(stranger ?? '')}; there are ${Object.keys(RULES).join(', ')}`);
-  }
-  return names;
-}
-
 // `NAME` or `NAME:off`.
 function wordedGlobals(words) {
   const entries = words.flatMap(listOf).map((word) => word.split(':')).map(([name, use = 'readonly']) => [name, use]);
@@ -48,17 +38,13 @@ function wordedGlobals(words) {
 
 // What the words set, in the form of a configuration.
 function worded(options) {
-  try {
-    return {
-      ...NOTHING,
-      rules: Object.fromEntries((options.rule ?? []).map(wordedRule)),
-      only: options.only === undefined ? null : wordedOnly(options.only),
-      env: options.env === undefined ? null : readEnvironments(listOf(options.env), '--env'),
-      globals: wordedGlobals(options.global ?? []),
-    };
-  } catch (error) {
-    throw error instanceof SettingFault ? new UsageFault(error.message) : error;
-  }
+  return {
+    ...NOTHING,
+    rules: Object.fromEntries((options.rule ?? []).map(wordedRule)),
+    only: options.only === undefined ? null : readOnly(listOf(options.only), '--only'),
+    env: options.env === undefined ? null : readEnvironments(listOf(options.env), '--env'),
+    globals: wordedGlobals(options.global ?? []),
+  };
 }
 
 function mostWarnings(text) {

@@ -19,9 +19,8 @@ function parse(text) {
   }
 }
 
-// Helpers of editors may say in `$schema` what the file is.
-function readConfig(text) {
-  const value = parse(text);
+// The configuration that an object stands for. Helpers of editors may say in `$schema` what a file is.
+function readConfig(value) {
   if (!isObject(value)) {
     throw new SettingFault('an object is wanted');
   }
@@ -44,7 +43,7 @@ function withIgnores(config, folder) {
 // The configuration of this file; one that is wrong ends the command.
 function loadConfig(file) {
   try {
-    return withIgnores(readConfig(fs.readFileSync(file, 'utf8')), path.dirname(file));
+    return withIgnores(readConfig(parse(fs.readFileSync(file, 'utf8'))), path.dirname(file));
   } catch (error) {
     if (error instanceof SettingFault || error.code !== undefined) {
       throw new UsageFault(`${file}: ${error.message.replace(/\s*[\r\n]+\s*/g, ' ')}`);
@@ -83,4 +82,4 @@ class Configs {
   }
 }
 
-module.exports = { Configs };
+module.exports = { Configs, readConfig };

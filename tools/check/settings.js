@@ -1,6 +1,7 @@
 'use strict';
 // The settings by which a file is checked: defaults, what a bolgwyr.json says, and what the words of the command say.
 
+const { UsageFault } = require('../bolgwyr/faults.js');
 const { RULES, SEVERITIES, defaultRules } = require('./rules.js');
 const { environments } = require('./environments.js');
 
@@ -8,7 +9,7 @@ const NAME = /^[\p{ID_Start}$_][\p{ID_Continue}$\u200c\u200d]*$/u;
 const KNOWN = new Map([[true, true], [false, true], ['readonly', true], ['readable', true], ['writable', true], ['writeable', true], ['off', false]]);
 
 // What is wrong with a setting; who knows where it stands says so.
-class SettingFault extends Error {}
+class SettingFault extends UsageFault {}
 
 function oneOf(value, known, what) {
   if (!known.includes(value)) {
@@ -115,6 +116,14 @@ function mergedRules(base, more) {
   return Object.fromEntries(names.map((name) => [name, { ...base[name], ...more[name] }]));
 }
 
+function readOnly(names, what = 'only') {
+  const stranger = Array.isArray(names) ? names.find((name) => !Object.hasOwn(RULES, name)) : String(names);
+  if (stranger !== undefined || names.length === 0) {
+    throw new SettingFault(`${what}: there is no rule ${JSON.stringify(stranger ?? '')}; there are ${Object.keys(RULES).join(', ')}`);
+  }
+  return names;
+}
+
 // Of the rules only those named, which are errors where they were off.
 function onlyRules(rules, only) {
   return Object.fromEntries(Object.entries(rules).map(([name, rule]) => {
@@ -134,4 +143,4 @@ function settingsOf(configured, worded) {
   };
 }
 
-module.exports = { NOTHING, SettingFault, isObject, readEnvironments, readGlobals, readIgnore, readRule, readRules, settingsOf };
+module.exports = { NOTHING, SettingFault, isObject, readEnvironments, readGlobals, readIgnore, readOnly, readRule, readRules, settingsOf };
