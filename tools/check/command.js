@@ -1,11 +1,13 @@
 'use strict';
 // What bolgwyr check does with its words.
 
+const os = require('os');
 const { printable } = require('../analyse/refusal.js');
 const { say, tell } = require('../analyse/output.js');
 const { hasColour } = require('../bolgwyr/colour.js');
 const { nameOf } = require('../bolgwyr/commands/sources.js');
 const { STATUS, UsageFault } = require('../bolgwyr/faults.js');
+const { Cache, NO_CACHE, cacheFolder } = require('./cache.js');
 const { Configs } = require('./config.js');
 const { formatOf } = require('./formats/index.js');
 const { sumOf } = require('./formats/sum.js');
@@ -13,6 +15,10 @@ const { Progress } = require('./progress.js');
 const { checkFiles } = require('./run.js');
 const { NOTHING, SettingFault, readEnvironments, readGlobals, readOnly, readRule, settingsOf } = require('./settings.js');
 const { sourcesOf } = require('./sources.js');
+const { stamp } = require('./stamp.js');
+
+// A process that a signal ends has this status and the signal's number.
+const SIGNALS = 128;
 
 const listOf = (text) => text.split(',').map((word) => word.trim()).filter((word) => word !== '');
 
@@ -85,9 +91,15 @@ function statusOf({ failed, errors, warnings }, most) {
   return errors > 0 || warnings > most ? STATUS.FOUND : STATUS.CLEAN;
 }
 
-async function resultsOf(jobs) {
+function cacheOf(options) {
+  return options.cache === false ? NO_CACHE : new Cache(options.cacheFolder ?? cacheFolder('.'), stamp());
+}
+
+async function resultsOf(jobs, options) {
   const progress = new Progress(jobs.length);
-  const results = await checkFiles(jobs, () => progress.step()).finally(() => progress.end());
+  const cache = cacheOf(options);
+  const results = await checkFiles(jobs, cache, () => progress.step()).finally(() => progress.end());
+  cache.save();
   return results.map((result, place) => ({ ...result, file: jobs[place].name }));
 }
 
@@ -97,9 +109,17 @@ function tellFailures(results) {
   }
 }
 
+// Ends in the midst of a run; what it has made goes with it.
+function endOnSignals() {
+  for (const name of ['SIGINT', 'SIGTERM', 'SIGHUP']) {
+    process.once(name, () => process.exit(SIGNALS + os.constants.signals[name]));
+  }
+}
+
 async function run(words, options) {
+  endOnSignals();
   const most = mostWarnings(options.maxWarnings);
-  const results = await resultsOf(jobsOf(words, options));
+  const results = await resultsOf(jobsOf(words, options), options);
   tellFailures(results);
   say(formatOf(options.format)(options.quiet ? quietened(results) : results, { colour: hasColour(process.stdout, options) }));
   process.exitCode = statusOf(sumOf(results), most);

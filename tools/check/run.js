@@ -35,11 +35,28 @@ function failed(file, error) {
   return { file, text: null, findings: [], failure: error.message };
 }
 
-// The result of a file: `check` gives the findings of a text.
-async function resultOf({ file, settings }, check) {
+// What the bytes of a file come to: `check` gives the findings of a text.
+async function findingsOf(bytes, settings, check) {
+  const { text, findings } = textOf(bytes);
+  return { text, findings: findings ?? await check(text, settings) };
+}
+
+// The same, from the cache where it has them.
+async function keptFindings(bytes, settings, check, cache) {
+  const key = cache.keyOf(bytes, settings);
+  const findings = cache.get(key);
+  if (findings !== undefined) {
+    return { findings, text: findings.length === 0 ? null : textOf(bytes).text };
+  }
+  const found = await findingsOf(bytes, settings, check);
+  cache.set(key, found.findings);
+  return found;
+}
+
+async function resultOf({ file, settings }, check, cache) {
   try {
-    const { text, findings } = textOf(bytesOf(file));
-    return { file, text, findings: findings ?? await check(text, settings) };
+    const { text, findings } = await keptFindings(bytesOf(file), settings, check, cache);
+    return { file, text: findings.length === 0 ? null : text, findings };
   } catch (error) {
     return failed(file, error);
   }
@@ -57,13 +74,13 @@ function largestFirst(jobs) {
 const breath = () => new Promise((resolve) => { setImmediate(resolve); });
 
 // Converts here while shells run the programs.
-async function checkMany(jobs, told) {
+async function checkMany(jobs, cache, told) {
   const runner = new Runner(Math.min(os.availableParallelism(), jobs.length));
   const results = [];
   const waiting = new Set();
   const faults = [];
   const begin = (job) => {
-    const done = resultOf(job, (text, settings) => checkBy(runner, text, settings)).then((result) => {
+    const done = resultOf(job, (text, settings) => checkBy(runner, text, settings), cache).then((result) => {
       results[job.place] = result;
       told(result);
     }).catch((fault) => faults.push(fault)).finally(() => waiting.delete(done));
@@ -72,7 +89,7 @@ async function checkMany(jobs, told) {
   try {
     for (const job of largestFirst(jobs)) {
       begin(job);
-      await (waiting.size >= WAITING * runner.shells.length ? Promise.race(waiting) : breath());
+      await (waiting.size >= WAITING * runner.size ? Promise.race(waiting) : breath());
       if (faults.length > 0) {
         throw faults[0];
       }
@@ -88,11 +105,11 @@ async function checkMany(jobs, told) {
 }
 
 // The results of files, in their order. Jobs: `{ file, settings }`; `told` hears each result as it comes.
-async function checkFiles(jobs, told) {
+async function checkFiles(jobs, cache, told) {
   if (jobs.length !== 1) {
-    return checkMany(jobs, told);
+    return checkMany(jobs, cache, told);
   }
-  const result = await resultOf(jobs[0], checkText);
+  const result = await resultOf(jobs[0], checkText, cache);
   told(result);
   return [result];
 }

@@ -54,14 +54,21 @@ function programs() {
 }
 
 class Runner {
-  constructor(shells) {
+  // `size` is how many shells there are once there is something to run.
+  constructor(size) {
+    this.size = size;
+    this.shells = [];
+    this.jobs = new Map();
+    this.next = 0;
+    this.removal = () => {};
+  }
+
+  begin() {
     this.programs = programs();
     this.folder = scratchFolder();
     this.removal = () => fs.rmSync(this.folder, { recursive: true, force: true });
     process.on('exit', this.removal);
-    this.jobs = new Map();
-    this.shells = Array.from({ length: shells }, () => this.start());
-    this.next = 0;
+    this.shells = Array.from({ length: this.size }, () => this.start());
   }
 
   start() {
@@ -80,6 +87,9 @@ class Runner {
 
   // The runs of these tools on a tree, by their names.
   run(tools, json) {
+    if (this.shells.length === 0) {
+      this.begin();
+    }
     const id = this.next;
     this.next += 1;
     try {

@@ -30,6 +30,8 @@ function add(program, name) {
     .option('--global <names>', 'names that are known, with commas between them; may be given again', gather)
     .option('--max-warnings <number>', 'status 1 for more warnings than these')
     .option('--quiet', 'tell errors alone, no warnings')
+    .option('--no-cache', 'analyse each file anew')
+    .option('--cache-folder <folder>', "where findings are kept, else the project's node_modules/.cache, else the user's cache")
     .option('--config <file>', 'this file in place of each bolgwyr.json');
   addReading(command)
     .addHelpText('after', EXAMPLES)
