@@ -40,7 +40,8 @@ function sharedPair(rows, path, node) {
   }
   const { role, rowOf, written } = PAIRS[rows[pair][KIND]];
   const kept = rows[rowOf(pair, node)];
-  const isShared = kept !== undefined && kept[ROLE] === role && kept[START] === rows[node][START];
+  const isOther = kept !== undefined && kept !== rows[node] && kept[ROLE] === role;
+  const isShared = isOther && kept[START] === rows[node][START];
   return isShared ? { pair, written } : null;
 }
 

@@ -36,9 +36,8 @@ function isAmbient(analysis, node) {
 
 // What stands directly in an ambient namespace or module is exported without a word.
 function ambientMember(analysis, symbol) {
-  const { rows, report } = analysis;
-  const { node } = report.scopes[symbol.scope];
-  if (rows[node][KIND] !== 'TSModuleBlock' || !isAmbient(analysis, node)) {
+  const { node, flags } = analysis.report.scopes[symbol.scope];
+  if (!flags.includes('TsModuleBlock') || !isAmbient(analysis, node)) {
     return null;
   }
   return { message: 'what an ambient namespace or module declares is exported', node: analysis.occurrencesOf(symbol)[0] };

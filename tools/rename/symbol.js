@@ -30,7 +30,7 @@ function refuseReserved(analysis, symbol, name) {
 function refuseTangled(analysis, name) {
   const tangled = analysis.once('tangled', () => tangledNames(analysis.tree, analysis.report)).get(name);
   if (tangled !== undefined) {
-    throw new RenameRefusal(`\`${name}\` can't be followed: ${tangled.reason}`, analysis.spanOf(tangled.node));
+    throw new RenameRefusal(`\`${name}\` can't be followed: ${tangled.reason}`, tangled.span);
   }
 }
 
@@ -90,7 +90,8 @@ function renameUnplaced(analysis, symbol, name, { map }) {
   refuseNewErrors(analysis, renamed, placeBefore);
   const tangled = tangledNames(renamed.tree, renamed.report).get(name);
   if (tangled !== undefined) {
-    throw new RenameRefusal(`\`${name}\` couldn't be followed: ${tangled.reason}`, analysis.spanOf(tangled.node));
+    const start = placeBefore(tangled.span.start);
+    throw new RenameRefusal(`\`${name}\` couldn't be followed: ${tangled.reason}`, { start, end: start });
   }
   return { text, edits, map: sourceMap, symbol, name, renamed, warnings: warningsFor(analysis, symbol, name) };
 }

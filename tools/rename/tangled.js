@@ -4,7 +4,7 @@
 //
 // One pass over the rows and one over the tables.
 
-const { DEPTH, KIND, TEXT, endsOf, parentsOf } = require('../edits/rows.js');
+const { DEPTH, END, KIND, ROLE, START, TEXT, endsOf, parentsOf } = require('../edits/rows.js');
 const { eachDeclaration } = require('./declarations.js');
 
 // Why names are tangled, with the section of ECMAScript.
@@ -18,6 +18,8 @@ const REASONS = {
   loose: 'TypeScript may tie this use to a declaration of the file, which the analysis leaves undeclared',
   merged: 'it is declared in one of several namespaces or enums that are merged',
 };
+
+const spanOf = (row) => ({ start: row[START], end: row[END] });
 
 const isBlockFunction = ({ way }) => way === 'block function' || way === 'if function';
 
@@ -63,20 +65,20 @@ function tangledByRows({ rows, parents, report, inWith }, note) {
     if (way === 'catch') {
       catches.add(key);
     } else if (way === 'var' && catches.has(key)) {
-      note(name, 'catchName', node);
+      note(name, 'catchName', spanOf(rows[node]));
     }
     if (way === 'var' && scope !== null && inWith[scope.id]) {
-      note(name, 'with', node);
+      note(name, 'with', spanOf(rows[node]));
     }
     if (name === 'arguments' || name === '__proto__') {
-      note(name, name === 'arguments' ? 'arguments' : 'proto', node);
+      note(name, name === 'arguments' ? 'arguments' : 'proto', spanOf(rows[node]));
     }
   };
   eachDeclaration({ rows, parents, report, enter: (row) => catches.enter(row), visit });
   for (const group of groups.values()) {
     const moved = group.length > 1 ? group.find(isBlockFunction) : undefined;
     if (moved !== undefined) {
-      note(moved.name, 'blockFunction', moved.node);
+      note(moved.name, 'blockFunction', spanOf(rows[moved.node]));
     }
   }
 }
@@ -89,25 +91,25 @@ function scopesInWith(scopes) {
   return inWith;
 }
 
-function tangledByTables({ report, inWith }, note) {
+function tangledByTables({ rows, report, inWith }, note) {
   for (const reference of report.references) {
     if (inWith[reference.scope]) {
-      note(reference.name, 'with', reference.node);
+      note(reference.name, 'with', spanOf(rows[reference.node]));
     }
   }
   for (const symbol of report.symbols) {
     if (report.scopes[symbol.scope].flags.includes('DirectEval')) {
-      note(symbol.name, 'eval', symbol.node);
+      note(symbol.name, 'eval', symbol.span);
     }
   }
 }
 
 // TypeScript ties some references that the tables leave free: through qualified names, imports and exports of types, augmentations.
-function looseNames({ report }, note) {
+function looseNames({ rows, report }, note) {
   const declared = new Set(report.symbols.map(({ name }) => name));
   for (const reference of report.references) {
     if (reference.symbol === null && declared.has(reference.name)) {
-      note(reference.name, 'loose', reference.node);
+      note(reference.name, 'loose', spanOf(rows[reference.node]));
     }
   }
 }
@@ -116,12 +118,15 @@ const MERGED_KINDS = new Set(['TSNamespaceDeclaration', 'TSExternalModuleDeclara
 const NAME_KINDS = new Set(['BindingIdentifier', 'IdentifierName', 'StringLiteral']);
 
 // The last name of a namespace, module or enum: of `A.B` it is `B`.
-function lastName({ rows, ends }, declaration, body) {
+function lastName({ rows, parents, ends }, declaration) {
   if (rows[declaration][KIND] === 'TSGlobalDeclaration') {
     return 'global';
   }
   let found = null;
-  for (let node = declaration + 1; node < Math.min(body, ends[declaration]); node += 1) {
+  for (let node = declaration + 1; node < ends[declaration]; node += 1) {
+    if (parents[node] === declaration && rows[node][ROLE] === 'body') {
+      break;
+    }
     found = NAME_KINDS.has(rows[node][KIND]) ? rows[node][TEXT] : found;
   }
   return found;
@@ -135,7 +140,7 @@ function mergedNames({ rows, parents, ends, report }, note) {
     const isBody = rows[scope.node][KIND] === 'TSEnumBody' || rows[scope.node][KIND] === 'TSModuleBlock';
     const declaration = isBody ? parents[scope.node] : scope.node;
     if (MERGED_KINDS.has(rows[declaration][KIND])) {
-      const name = lastName({ rows, ends }, declaration, isBody ? scope.node : ends[declaration]);
+      const name = lastName({ rows, parents, ends }, declaration);
       blocks.set(name, (blocks.get(name) || 0) + 1);
       owners.push({ scope, name });
     }
@@ -147,19 +152,19 @@ function mergedNames({ rows, parents, ends, report }, note) {
   for (const { scope, name } of owners.filter((owner) => blocks.get(owner.name) > 1)) {
     for (const binding of scope.bindings) {
       if (symbolsOf.get(binding.name) > 1) {
-        note(binding.name, 'merged', report.symbols[binding.symbol].node);
+        note(binding.name, 'merged', report.symbols[binding.symbol].span);
       }
     }
   }
 }
 
-// The tangled names of a tree with its tables, each with a reason in words and the row that shows it.
+// The tangled names of a tree with its tables, each with a reason in words and the span that shows it.
 function tangledNames(tree, report) {
   const { rows, lang } = tree;
   const found = new Map();
-  const note = (name, reason, node) => {
+  const note = (name, reason, span) => {
     if (!found.has(name)) {
-      found.set(name, { reason: REASONS[reason], node });
+      found.set(name, { reason: REASONS[reason], span });
     }
   };
   const parents = parentsOf(rows);

@@ -13,9 +13,7 @@ const { Option } = load('commander');
 
 const HELP = `
 PLACE is FILE:LINE:COLUMN of a declaration or a use, both from 1, or FILE:NAME where just one symbol has the name. Without --write a
-unified diff is shown. A renaming after which any name would mean something else is refused.
-
-Status: 0 renamed; 1 refused, with what is in the way; 2 words that aren't known; 3 something could not be read, run or written.`;
+unified diff is shown. A renaming after which any name would mean something else is refused with what is in the way (status 1).`;
 
 const BY_PLACE = /^(.+):(\d+):(\d+)$/s;
 const BY_NAME = /^(.+):([^:\d][^:]*)$/s;
