@@ -1,7 +1,7 @@
 'use strict';
 // Names that are seen by more than the tables tie to the symbol: a renaming of it alone would change what others see.
 
-const { KIND, MARKS, TEXT } = require('../edits/rows.js');
+const { KIND, MARKS, ROLE, TEXT } = require('../edits/rows.js');
 
 const isTyped = ({ tree }) => tree.lang !== 'js' && tree.lang !== 'jsx';
 
@@ -14,6 +14,19 @@ function parameterProperty(analysis, symbol) {
     const above = rows[parents[node]];
     if (above[KIND] === 'FormalParameter' && MEMBER_MARKS.some((mark) => above[MARKS].includes(mark))) {
       return { message: 'this parameter is a property of its class, too', node };
+    }
+  }
+  return null;
+}
+
+// Of `namespace A.B {}` the second name is a member of the first.
+function dottedNamespace(analysis, symbol) {
+  const { rows, parents } = analysis;
+  for (const node of analysis.occurrencesOf(symbol)) {
+    const above = parents[node];
+    const isName = rows[above][KIND] === 'TSNamespaceDeclaration' && rows[node][ROLE] === 'id';
+    if (isName && rows[parents[above]][KIND] === 'TSNamespaceDeclaration') {
+      return { message: 'a namespace with a dot in its name exports it', node };
     }
   }
   return null;
@@ -76,7 +89,7 @@ function predicate(analysis, symbol) {
   return null;
 }
 
-const TYPED_WAYS = [parameterProperty, ambientMember, declaredModule, predicate];
+const TYPED_WAYS = [parameterProperty, dottedNamespace, ambientMember, declaredModule, predicate];
 
 // What else sees the symbol's name: a message and the row that shows it, or null.
 function seenByOthers(analysis, symbol) {

@@ -91,6 +91,7 @@ function add(program, name) {
     .option('--json', 'one object: the edits with bytes, lines and columns')
     .addOption(new Option('--parser <parser>', "in place of the one that the file's name tells").choices(['acorn', 'typescript']))
     .addOption(new Option('--goal <goal>', "in place of the one that the file's name tells").choices(['script', 'module', 'commonjs']))
+    .allowExcessArguments(false)
     .addHelpText('after', HELP)
     .action(run);
 }
