@@ -2,6 +2,7 @@
 // The renaming of one symbol of an analysed text.
 
 const { RunFault } = require('../bolgwyr/faults.js');
+const { Positions } = require('../analyse/positions.js');
 const { EditFault, edited } = require('../edits/index.js');
 const { runTool } = require('../programs/index.js');
 const { withTables } = require('./analysed.js');
@@ -86,14 +87,14 @@ function renameUnplaced(analysis, symbol, name, { map }) {
   refuseSeen(analysis, symbol);
   const tree = provedTree(analysis, symbol, name);
   const { text, edits, map: sourceMap, placeBefore, tree: newTree, json } = changedText(analysis, tree, map);
-  const renamed = withTables({ ...analysis, source: text, json, tree: newTree });
+  const renamed = withTables({ options: analysis.options, source: text, positions: new Positions(text), json, tree: newTree });
   refuseNewErrors(analysis, renamed, placeBefore);
   const tangled = tangledNames(renamed.tree, renamed.report).get(name);
   if (tangled !== undefined) {
     const start = placeBefore(tangled.span.start);
     throw new RenameRefusal(`\`${name}\` couldn't be followed: ${tangled.reason}`, { start, end: start });
   }
-  return { text, edits, map: sourceMap, symbol, name, renamed, warnings: warningsFor(analysis, symbol, name) };
+  return { text, edits, map: sourceMap, placeBefore, renamed, warnings: warningsFor(analysis, symbol, name) };
 }
 
 // The text in which the symbol has the name: `{ text, edits, map, warnings, .. }`, or a RenameRefusal that is placed in the source.
