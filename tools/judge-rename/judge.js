@@ -23,7 +23,8 @@ function secondOpinion(analysis, symbol, done) {
   if (isTyped(analysis)) {
     const opinion = analysis.once('TypeScript', () => new TypeScriptOpinion(analysis.options.filename, analysis.source));
     const places = done.edits.map(({ start }) => analysis.positions.indexOf(start));
-    return opinion.differsFrom(analysis.positions.indexOf(symbol.span.start), places);
+    const comments = analysis.tree.comments.map(([start, end]) => [analysis.positions.indexOf(start), analysis.positions.indexOf(end)]);
+    return opinion.differsFrom(analysis.positions.indexOf(symbol.span.start), places, comments);
   }
   return analysis.tree.lang === 'js' ? tiedOtherwise(analysis.source, done.text, analysis.tree.goal, done.placeBefore) : undefined;
 }

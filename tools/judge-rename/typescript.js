@@ -32,12 +32,14 @@ class TypeScriptOpinion {
     return found === undefined ? null : found.map(({ textSpan }) => textSpan.start + this.mark).sort((a, b) => a - b);
   }
 
-  // What differs from the places of edits, in words, or null; undefined where there is no second opinion.
-  differsFrom(index, ours) {
-    const theirs = this.places(index);
-    if (theirs === null) {
+  // What differs from the places of edits, in words, or null; undefined where there is no second opinion. The service renames in
+  // comments of JSDoc, too.
+  differsFrom(index, ours, comments) {
+    const all = this.places(index);
+    if (all === null) {
       return undefined;
     }
+    const theirs = all.filter((place) => !comments.some(([start, end]) => start <= place && place < end));
     const alone = ours.filter((place) => !theirs.includes(place));
     const missing = theirs.filter((place) => !ours.includes(place));
     return alone.length + missing.length === 0 ? null : `TypeScript: here alone ${alone}, there alone ${missing}`;

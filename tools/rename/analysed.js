@@ -6,7 +6,7 @@ const { RunFault } = require('../bolgwyr/faults.js');
 const { runTool } = require('../programs/index.js');
 const { Positions } = require('../analyse/positions.js');
 const { parseReport } = require('../analyse/report-parser.js');
-const { KIND, START, endsOf, parentsOf } = require('../edits/rows.js');
+const { KIND, ROLE, START, endsOf, parentsOf } = require('../edits/rows.js');
 
 // The tables and early errors of a tree.
 function reportOf(json) {
@@ -92,6 +92,16 @@ class Analysed {
     const declarations = declarationsOf(symbol).map(({ start }) => this.bindings.get(start)).filter((node) => node !== undefined);
     const uses = symbol.references.map((reference) => this.report.references[reference].node);
     return [...declarations, ...uses].sort((a, b) => a - b);
+  }
+
+  // The row of the name that a declaration binds, or -1.
+  nameOf(declaration) {
+    for (let node = declaration + 1; node < this.ends[declaration]; node += 1) {
+      if (this.parents[node] === declaration && this.rows[node][ROLE] === 'id') {
+        return node;
+      }
+    }
+    return -1;
   }
 
   spanOf(node) {

@@ -32,6 +32,24 @@ function dottedNamespace(analysis, symbol) {
   return null;
 }
 
+const GENERIC = new Set(['TSInterfaceDeclaration', 'Class']);
+
+// The declarations of an interface that are merged have the same type parameters. In a namespace or module, others may be elsewhere.
+function mergedParameter(analysis, symbol) {
+  const { rows, parents, report } = analysis;
+  if (!symbol.flags.includes('TypeParameter')) {
+    return null;
+  }
+  const [node] = analysis.occurrencesOf(symbol);
+  const owner = parents[parents[parents[node]]];
+  const name = GENERIC.has(rows[owner][KIND]) ? analysis.nameOf(owner) : -1;
+  const merged = name < 0 ? null : analysis.symbolOf(name);
+  if (merged === null || (merged.redeclarations.length < 2 && !report.scopes[merged.scope].flags.includes('TsModuleBlock'))) {
+    return null;
+  }
+  return { message: `declarations of \`${merged.name}\` that are merged have the same type parameters`, node };
+}
+
 const AMBIENT = new Set(['TSGlobalDeclaration', 'TSExternalModuleDeclaration']);
 
 function isAmbient(analysis, node) {
@@ -89,7 +107,7 @@ function predicate(analysis, symbol) {
   return null;
 }
 
-const TYPED_WAYS = [parameterProperty, dottedNamespace, ambientMember, declaredModule, predicate];
+const TYPED_WAYS = [parameterProperty, dottedNamespace, mergedParameter, ambientMember, declaredModule, predicate];
 
 // What else sees the symbol's name: a message and the row that shows it, or null.
 function seenByOthers(analysis, symbol) {

@@ -35,6 +35,10 @@ module.exports = [
   ['a.ts', 'export {}; declare global { var §a; }', 'b', '1:33', 'the name `a` is seen by others: what an ambient namespace or module declares is exported'],
   ['a.d.ts', 'import "m"; declare let §a;', 'b', '1:25', 'the name `a` is seen by others: a module of declarations exports all that it declares'],
   ['a.ts', 'function f(§a: any): a is string { return a; }', 'b', '1:21', 'the name `a` is seen by others: a type predicate names this parameter'],
+  ['a.ts', 'export {}; interface I<§T> { a: T } interface I<T> { b: T }', 'U', '1:24',
+    'the name `T` is seen by others: declarations of `I` that are merged have the same type parameters'],
+  ['a.ts', 'declare global { interface I<§T> { a: T } }', 'U', '1:30',
+    'the name `T` is seen by others: declarations of `I` that are merged have the same type parameters'],
   ['a.ts', 'namespace A.§B { let x; }', 'C', '1:13', 'the name `B` is seen by others: a namespace with a dot in its name exports it'],
   ['a.ts', 'namespace N { export let §a; }', 'b', '1:26', 'the name is seen by others: exported at 1:15'],
   // words that are no names where they stand
