@@ -1,6 +1,8 @@
 'use strict';
 // One renaming in a real file, and what is wrong with it.
 
+const { declarationsOf } = require('../rename/analysed.js');
+const { isSpecial } = require('../rename/identifier.js');
 const { RenameRefusal } = require('../rename/refusal.js');
 const { renameSymbol } = require('../rename/symbol.js');
 const { tiedOtherwise } = require('./eslint.js');
@@ -24,7 +26,8 @@ function secondOpinion(analysis, symbol, done) {
     const opinion = analysis.once('TypeScript', () => new TypeScriptOpinion(analysis.options.filename, analysis.source));
     const places = done.edits.map(({ start }) => analysis.positions.indexOf(start));
     const comments = analysis.tree.comments.map(([start, end]) => [analysis.positions.indexOf(start), analysis.positions.indexOf(end)]);
-    return opinion.differsFrom(analysis.positions.indexOf(symbol.span.start), places, comments);
+    const declarations = declarationsOf(symbol).map(({ start }) => analysis.positions.indexOf(start));
+    return opinion.differsFrom(declarations, places, comments);
   }
   return analysis.tree.lang === 'js' ? tiedOtherwise(analysis.source, done.text, analysis.tree.goal, done.placeBefore) : undefined;
 }
@@ -32,6 +35,9 @@ function secondOpinion(analysis, symbol, done) {
 // The text that comes of renaming back is the first one, where nothing was written out.
 function renamedBack(analysis, symbol, name, done) {
   const back = attempt(done.renamed, done.renamed.report.symbols[symbol.id], symbol.name);
+  if (back.refused !== undefined && isSpecial(symbol.name)) {
+    return null; // TypeScript's parser takes names that the language doesn't
+  }
   if (back.refused !== undefined) {
     return `not renamed back: ${back.refused.message}`;
   }

@@ -19,11 +19,15 @@ function serviceFor(file, text) {
   return ts.createLanguageService(host);
 }
 
+// Errors of names, namespaces and modules that aren't there, since there is one file and no library.
+const MISSING = new Set([2304, 2305, 2307, 2318, 2339, 2503, 2552, 2580, 2583, 2584, 2694, 2792]);
+
 class TypeScriptOpinion {
   constructor(file, text) {
     this.file = `/${file.replace(/^.*\//, '')}`;
     this.mark = text.startsWith('\ufeff') ? 1 : 0;
     this.service = serviceFor(this.file, text.slice(this.mark));
+    this.isFaultless = this.service.getSemanticDiagnostics(this.file).every(({ code }) => MISSING.has(code));
   }
 
   // The places in the string at which the name at a place is renamed, or null where the service doesn't rename it.
@@ -32,13 +36,14 @@ class TypeScriptOpinion {
     return found === undefined ? null : found.map(({ textSpan }) => textSpan.start + this.mark).sort((a, b) => a - b);
   }
 
-  // What differs from the places of edits, in words, or null; undefined where there is no second opinion. The service renames in
-  // comments of JSDoc, too.
-  differsFrom(index, ours, comments) {
-    const all = this.places(index);
-    if (all === null) {
+  // What differs from the places of edits, in words, or null; undefined where there is no second opinion: also in a file with errors,
+  // such as names that are declared twice. The service renames in comments of JSDoc, too, and a type apart from a variable of its name.
+  differsFrom(declarations, ours, comments) {
+    const found = this.isFaultless ? declarations.map((index) => this.places(index)) : [null];
+    if (found.includes(null)) {
       return undefined;
     }
+    const all = [...new Set(found.flat())];
     const theirs = all.filter((place) => !comments.some(([start, end]) => start <= place && place < end));
     const alone = ours.filter((place) => !theirs.includes(place));
     const missing = theirs.filter((place) => !ours.includes(place));

@@ -1,7 +1,7 @@
 'use strict';
 // The renamer's refusals in words.
 
-const { KIND, ROLE, TEXT } = require('../edits/rows.js');
+const { KIND, TEXT } = require('../edits/rows.js');
 const { declarationsOf, withTables } = require('./analysed.js');
 const { RenameRefusal } = require('./refusal.js');
 
@@ -71,9 +71,6 @@ function fixed({ analysis, node }) {
   const { rows, parents } = analysis;
   if (rows[node][KIND] === 'TSEnumMember' || rows[parents[node]][KIND] === 'TSEnumMember') {
     return new RenameRefusal('the name is seen by others: a member of an enum', analysis.spanOf(node));
-  }
-  if (rows[node][ROLE] === 'binding') {
-    return new RenameRefusal('the name is that of a property, too, to which this assigns', analysis.spanOf(node));
   }
   const at = rowAround(analysis, node, 'ExportDeclaration');
   const place = at < 0 ? '' : ` at ${analysis.placeOf(at)}`;

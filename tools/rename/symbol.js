@@ -13,6 +13,7 @@ const { placeKind } = require('./place-kind.js');
 const { RenameRefusal } = require('./refusal.js');
 const { seenByOthers, warningsFor } = require('./seen.js');
 const { tangledNames } = require('./tangled.js');
+const { writtenOut } = require('./written-out.js');
 
 const REFUSED = 8;
 
@@ -81,10 +82,13 @@ function refuseNewErrors(analysis, renamed, placeBefore) {
 }
 
 // A tangled name is refused before and after: the tables of either text may part from the language at it.
-function renameUnplaced(analysis, symbol, name, { map }) {
-  refuseReserved(analysis, symbol, name);
-  refuseTangled(analysis, symbol.name);
-  refuseSeen(analysis, symbol);
+function renameUnplaced(given, { id }, name, { map }) {
+  const symbolGiven = given.report.symbols[id];
+  refuseReserved(given, symbolGiven, name);
+  refuseTangled(given, symbolGiven.name);
+  refuseSeen(given, symbolGiven);
+  const analysis = writtenOut(given, symbolGiven);
+  const symbol = analysis.report.symbols[id];
   const tree = provedTree(analysis, symbol, name);
   const { text, edits, map: sourceMap, placeBefore, tree: newTree, json } = changedText(analysis, tree, map);
   const renamed = withTables({ options: analysis.options, source: text, positions: new Positions(text), json, tree: newTree });

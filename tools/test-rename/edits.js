@@ -30,6 +30,10 @@ module.exports = [
   ['a.js', 'let §get; ({ get, set: get, get get() { return get; } });', 'g', 'let g; ({ get: g, set: g, get get() { return g; } });'],
   ['a.js', 'let §async; ({ async });', 'a', 'let a; ({ async: a });'],
   ['a.js', 'let §a, k; ({ x: a, y: [a] } = k);', 'b', 'let b, k; ({ x: b, y: [b] } = k);'],
+  ['a.js', 'let §a; ({ a } = o);', 'b', 'let b; ({ a: b } = o);'],
+  ['a.js', 'let §a, c; [{ a = { a, c } = a, c, ...o.p }] = a;', 'b', 'let b, c; [{ a: b = { a: b, c } = b, c, ...o.p }] = b;'],
+  ['a.js', 'let §a; for ({ \\u0061 = () => ({ a } = a) } of a) a;', 'b', 'let b; for ({ \\u0061: b = () => ({ a: b } = b) } of b) b;'],
+  ['a.ts', 'let §a: 1; ({ a = 1 as any } = a);', 'b', 'let b: 1; ({ a: b = 1 as any } = b);'],
   // renaming back doesn't write in short again
   ['a.js', 'const { a: §c } = o; f({ a: c });', 'a', 'const { a: a } = o; f({ a: a });'],
   // imports and exports
