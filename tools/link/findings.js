@@ -30,11 +30,16 @@ function namesOf(context, module) {
   return context.names.get(module);
 }
 
-const steps = (way) => way.map(({ module, span, isStar }) => ({
-  module,
-  span,
-  message: isStar ? `${named(module)} passes on all names here` : `${named(module)} exports it here`,
-}));
+// What a step of a way does, told at its place.
+function stepMessage({ to, name, isStar }) {
+  if (to.end !== undefined) {
+    return `'${name}' is exported here`;
+  }
+  const source = to.module === undefined ? to.unknown : named(to.module);
+  return isStar ? `all names of ${source} are passed on here` : `'${name}' is '${to.name}' of ${source}`;
+}
+
+const steps = (way) => way.map((step) => ({ module: step.module, span: step.span, message: stepMessage(step) }));
 
 // What to say of a name that a module lacks.
 function lackOf(context, { module, name }, local) {
@@ -109,16 +114,29 @@ function exportFindings(context, exports) {
 
 const isImported = (module, entry) => module.outline.imports.some((one) => one.local === entry.local);
 
-// The file of the folder whose name is nearest, as the specifier would have it.
+const ENDING = /(?:\.d)?\.[a-z]+$/i;
+const stemOf = (file) => file.replace(ENDING, '');
+const endingOf = (file) => (ENDING.exec(file) || [''])[0];
+
+// The file of the folder that the specifier may mean: the same name with another ending, or else a name that is near.
+function nearFile(context, wanted, files) {
+  const ending = endingOf(wanted);
+  const stem = stemOf(wanted);
+  const same = files.find((file) => stemOf(file) === stem && file !== wanted);
+  if (same !== undefined) {
+    return same;
+  }
+  const near = context.nearest(stem, files.filter((file) => ending === '' || endingOf(file) === ending).map(stemOf));
+  return near === undefined ? undefined : `${near}${ending}`;
+}
+
 function nearPath(context, module, text) {
-  const folder = path.resolve(path.dirname(module.file), path.dirname(text));
   const wanted = path.basename(text);
+  const folder = path.resolve(path.dirname(module.file), path.dirname(text));
   if (!context.folders.has(folder)) {
     context.folders.set(folder, listed(folder));
   }
-  const files = context.folders.get(folder);
-  const ending = /\.[a-z]+$/i.test(wanted);
-  const near = context.nearest(wanted, ending ? files : files.map((file) => file.replace(/(?:\.d)?\.[a-z]+$/i, '')));
+  const near = text.endsWith(wanted) ? nearFile(context, wanted, context.folders.get(folder)) : undefined;
   return near === undefined ? undefined : `${text.slice(0, text.length - wanted.length)}${near}`;
 }
 

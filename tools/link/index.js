@@ -3,7 +3,8 @@
 //
 // For index.d.ts:
 //
-//   export interface LinkPlace { file: string; line: number; column: number; start: number; end: number }
+//   export interface LinkPlace {
+//     file: string; line: number; column: number; endLine: number; endColumn: number; span: { start: number; end: number } }
 //   export interface LinkRelated extends LinkPlace { message: string }
 //   export type LinkRule = 'unresolved-import' | 'uninstalled-package' | 'missing-export' | 'circular-export' |
 //     'ambiguous-export' | 'duplicate-export' | 'unreadable-module' | 'unparsable-module';
@@ -25,9 +26,10 @@ const { outcomes } = require('./linker.js');
 const { findingsOf } = require('./findings.js');
 const { moduleSet } = require('./set.js');
 
+// Of a file that isn't read the beginning is the place.
 function placeOf(module, span) {
-  const { line, column } = module.text === null ? { line: 1, column: 1 } : module.positions.placeOf(span.start);
-  return { file: module.shown, line, column, ...span };
+  const [from, to] = [span.start, span.end].map((byte) => (module.text === null ? { line: 1, column: 1 } : module.positions.placeOf(byte)));
+  return { file: module.shown, line: from.line, column: from.column, endLine: to.line, endColumn: to.column, span };
 }
 
 // Which modules others add names to: what such a module exports isn't known whole.
@@ -45,7 +47,7 @@ function noteAugmented(modules) {
 function linkSet(entries, options = {}) {
   const set = moduleSet(entries, { cwd: options.cwd });
   noteAugmented(set.modules);
-  const told = outcomes(set.modules);
+  const told = set.modules.length === 0 ? { imports: [], exports: [] } : outcomes(set.modules);
   return { set, outcomes: told, ...findingsOf(set, told, options) };
 }
 

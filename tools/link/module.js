@@ -9,9 +9,9 @@ const { Positions } = require('../analyse/positions.js');
 const { goalOfName, isDeclarations, isInPackage, isTyped, kindOf } = require('./kinds.js');
 const { outlineOf } = require('./outline.js');
 
-// A line that can begin an import or export statement, and a word without which there is none.
+// A line that can begin an import or export statement, and the words without which a file is no module.
 const STATEMENT = /^[ \t]*(?:import|export)\b[ \t]*(?![ \t.(])/m;
-const WORD = /\b(?:import|export)\b/;
+const WORD = /\b(?:import|export|await)\b/;
 
 // Which kinds stand in the linked set with what they export; of others nothing is known.
 const LINKED = new Set(['module', 'json', 'script']);
@@ -116,8 +116,18 @@ function readContent(module, { type, keepTree }) {
   }
 }
 
-// Reads a file of source. What has neither the word import nor export is no module, unless its package or its name says so:
-// then, but for an entry, it isn't parsed.
+const COMMON = /\b(?:module|exports|require|define)\b/;
+
+// What has none of the words is no module, unless its package or its name says so, and then it need not be parsed.
+function kindByWords(module, type) {
+  const goal = goalOfName(module.file);
+  if (type === 'module' || goal === 'module' || isTyped(module.file) || WORD.test(module.text)) {
+    return undefined;
+  }
+  return goal === 'commonjs' || type === 'commonjs' || COMMON.test(module.text) ? 'commonjs' : 'script';
+}
+
+// Reads a file of source. An entry is always parsed.
 function readModule(module, { typeOf, isEntry, keepTree }) {
   try {
     module.text = readText(module.file);
@@ -130,11 +140,12 @@ function readModule(module, { typeOf, isEntry, keepTree }) {
     return;
   }
   const type = typeOf(path.dirname(module.file));
-  if (!isEntry && type !== 'module' && goalOfName(module.file) !== 'module' && !isTyped(module.file) && !WORD.test(module.text)) {
-    module.kind = /\b(?:module|exports|require|define)\b/.test(module.text) || type === 'commonjs' ? 'commonjs' : 'script';
-    return;
+  const kind = isEntry ? undefined : kindByWords(module, type);
+  if (kind === undefined) {
+    readContent(module, { type, keepTree });
+  } else {
+    module.kind = kind;
   }
-  readContent(module, { type, keepTree });
 }
 
 module.exports = { SourceModule, packageTypes, readModule };

@@ -117,6 +117,9 @@ class Resolver {
   }
 
   find(folder, lang, text, way) {
+    if (text === '') {
+      return { nowhere: "'' leads to no file" };
+    }
     if (text.startsWith('file:')) {
       return this.fileOfUrl(folder, lang, text, way);
     }

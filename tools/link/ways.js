@@ -1,8 +1,9 @@
 'use strict';
 // The ways by which a name leads through the modules of a set, to be shown where the linker found no one answer.
 //
-// A step leads from a name that a module exports to the next: {to, module, span}, where the place is that of the export
-// which leads on, and `to` is {module, name}, an end, or what isn't known. Each look is linear in what it reaches.
+// A step leads from a name that a module exports to the next: {to, module, name, span, isStar}, where the place is that of
+// the export which leads on, and `to` is {module, name}, {end} or, where nothing is known, {unknown}. Each look is linear in
+// what it reaches.
 
 const keyOf = ({ module, name }) => `${module.number} ${name}`;
 
@@ -43,20 +44,21 @@ const TARGETS = {
   default: (module, entry) => [{ end: entry.local === null ? `default of ${module.number}` : `${module.number} ${entry.local}` }],
 };
 
+const BEGINNING = { start: 0, end: 0 };
+
 // The steps from a name that a module exports.
 function stepsFrom({ module, name }) {
+  const step = (to, span, isStar = false) => ({ to, module, name, span, isStar });
   if (module.kind !== 'module') {
-    return name === 'default' ? [{ to: { end: `default of ${module.number}` }, module, span: { start: 0, end: 0 } }] : [];
+    return name === 'default' ? [step({ end: `default of ${module.number}` }, BEGINNING)] : [];
   }
   const entry = module.outline.exports.get(name);
   if (entry !== undefined) {
-    return TARGETS[entry.what](module, entry).map((to) => ({ to, module, span: entry.span }));
+    return TARGETS[entry.what](module, entry).map((to) => step(to, entry.span));
   }
-  const steps = module.isAugmented ? [{ to: { unknown: 'a module that adds to it' }, module, span: { start: 0, end: 0 } }] : [];
-  if (name === 'default') {
-    return steps;
-  }
-  return [...steps, ...module.outline.stars.map((star) => ({ to: wantedOf(star.specifier, name), module, span: star.span, isStar: true }))];
+  const added = module.isAugmented ? [step({ unknown: 'a module that adds to it' }, BEGINNING)] : [];
+  const stars = name === 'default' ? [] : module.outline.stars;
+  return [...added, ...stars.map((star) => step(wantedOf(star.specifier, name), star.span, true))];
 }
 
 // All that a name reaches, nearest first: {names, ends, unknown}. Each has `before`, by which the way there is found.

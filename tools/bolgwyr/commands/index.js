@@ -3,6 +3,7 @@
 // process.exitCode, or throws a UsageFault or a RunFault.
 
 const COMMANDS = [
+  { name: 'link', add: require('./link.js').add },
 ];
 
 module.exports = { COMMANDS };
