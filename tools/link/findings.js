@@ -60,17 +60,17 @@ function lackOf(context, { module, name }, local) {
   return `'${name}' is not exported by ${named(module)}${only}`;
 }
 
-// A name that nothing exports; null where a module of which nothing is known may export it.
 function missing(context, from, { local }) {
-  if (reached(from).unknown.length > 0) {
-    return null;
-  }
   const { last, steps: way } = followed(from);
   return { rule: 'missing-export', message: lackOf(context, last, way.length === 0 ? local : undefined), related: steps(way) };
 }
 
-function circular(context, from) {
+// Where the ring is one of `export *` alone, none of its modules names what is wanted: they don't export it.
+function circular(context, from, wanted) {
   const way = ringFrom(from);
+  if (way.every(({ isStar }) => isStar)) {
+    return missing(context, from, wanted);
+  }
   return { rule: 'circular-export', message: `'${from.name}' leads only to itself`, related: steps(way) };
 }
 
@@ -83,14 +83,13 @@ function ambiguous(context, from) {
 
 const FAULTS = { missing, ring: circular, ambiguous };
 
-// The finding on a name that is wanted of a module, if its outcome is one.
+// The finding on a name that is wanted of a module. There is none where a module of which nothing is known may export it.
 function nameFinding(context, { module, span, from, local, word }) {
-  const found = FAULTS[word](context, from, { local });
-  if (found === null) {
+  if (word !== 'ambiguous' && reached(from).unknown.length > 0) {
     context.notes.push({ kind: 'unknown', module, span, name: from.name });
     return [];
   }
-  return [{ ...found, module, span }];
+  return [{ ...FAULTS[word](context, from, { local }), module, span }];
 }
 
 const hasFault = ({ outcome }) => Object.hasOwn(FAULTS, outcome.word);
