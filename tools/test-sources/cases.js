@@ -39,6 +39,8 @@ const JS = [
   ['redeclarations are the analysis\' to tell', 'x.js', 'let a; let a; const b = (c, c) => 1;', ['id BindingIdentifier "a" «a»']],
   ['functions in branches and old loops', 'x.cjs', 'if (a) function b() {} else ; for (var c = 1 in d); with (e) f; return', ['consequent Function "declaration" «function b() {}»', 'body WithStatement «with (e) f;»', 'body ReturnStatement «return»']],
   ['an update of a name in parentheses', 'x.js', 'b = ++(a); ((a))++', ['argument IdentifierReference "a" «a»']],
+  ['elements in a file of JavaScript', 'x.js', 'a = <b c="&lt;">// e{f}<G.h/></b>; // g', ['children JSXText "// e" «// e»', 'object IdentifierReference "G" «G»']],
+  ['elements in a module of JavaScript', 'x.mjs', 'export default () => <><a-b/></>', ['body JSXFragment «<><a-b/></>»', 'name JSXIdentifier "a-b" «a-b»']],
   ['classes', 'x.js', 'a = class B extends (C, D) { static #e = 1; f; "g" = 2; [h]; };', ['right Class "expression" «class B extends (C, D) { static #e = 1; f; "g" = 2; [h]; }»', 'heritage ParenthesizedExpression «(C, D)»', 'body PropertyDefinition [static] «static #e = 1;»', 'body PropertyDefinition [computed] «[h];»']],
 ];
 
@@ -80,6 +82,9 @@ const REFUSED = [
   ['what stands in no tree', 'x.ts', 'enum A { 1 }', 'x.ts:1:10: An enum member cannot have a numeric name.'],
   ['a target that is none', 'x.ts', 'a() = 1', 'x.ts:1:1: The left-hand side of an assignment expression must be a variable or a property access.'],
   ['a modifier in a wrong place', 'x.ts', 'class A { async b: C }', "x.ts:1:11: 'async' modifier cannot be used here"],
+  ['a place before what might be an element', 'x.js', 'a = b +\n<c>d</e>', 'x.js:2:1: Unexpected token', 'acorn'],
+  ['a place in an element', 'x.js', 'a = b + + * <c></c>', 'x.js:1:11: Unexpected token', 'acorn'],
+  ['a name of import that is none', 'x.mjs', 'import.source("a")', "x.mjs:1:8: 'source' is not a valid meta-property for keyword 'import'. Did you mean 'meta'?", 'typescript'],
   ['depth', 'x.js', '['.repeat(1100) + ']'.repeat(1100), 'x.js: too deep'],
   ['depth in TypeScript', 'x.ts', '{'.repeat(1100) + '}'.repeat(1100), 'x.ts: too deep'],
   ['a long chain of operators', 'x.js', `a = ${'1 + '.repeat(1100)}1`, 'x.js: too deep'],

@@ -4,6 +4,7 @@
 
 const { load } = require('../source-to-tree/load');
 const { languageOf, goalOf } = require('../source-to-tree/languages');
+const { parsersFor } = require('../source-to-tree/parsers');
 const acorn = require('../source-to-tree/ways/acorn');
 const { convert, checkRows } = require('./small');
 const { JS, ONE_WAY, NEWER } = require('./cases');
@@ -58,8 +59,9 @@ function withRanges(node, text) {
 }
 
 function checkRanges(tally) {
+  const [parser] = parsersFor('acorn', __dirname);
   for (const one of JS.filter(([, filename, source]) => filename === 'x.js' && !/^\ufeff|import|export/.test(source))) {
-    const { ast, comments } = acorn.read(one[2], { lang: 'js' });
+    const { ast, comments } = acorn.read(one[2], { lang: 'js', folder: __dirname, parser });
     checkTree(tally, withRanges({ ...ast, comments: comments.map(commentNode) }, one[2]), [`${one[0]} with ranges`, ...one.slice(1)]);
   }
 }

@@ -91,6 +91,7 @@ function exportDefault(c, role, node) {
 
 Object.assign(STATEMENTS, {
   ImportDeclaration(c, role, node) {
+    if (node.phase) c.refuse(node, `the tree has no kind for \`import ${node.phase}\``);
     c.open(role, 'ImportDeclaration', node, '', typeMark(node.importKind));
     each(c, 'specifiers', node.specifiers, 'importSpecifier');
     source(c, node);

@@ -178,10 +178,13 @@ function yieldExpression(c, role, node) {
 }
 
 const META = { NewKeyword: 'new', ImportKeyword: 'import' };
+const META_NAMES = { new: 'target', import: 'meta' };
 
 function metaProperty(c, role, node) {
   const word = META[c.kindName({ kind: node.keywordToken })];
   const start = c.start(node);
+  const property = c.ts.idText(node.name);
+  if (property !== META_NAMES[word]) c.refuse(node.name, `'${property}' is not a valid meta-property for keyword '${word}'. Did you mean '${META_NAMES[word]}'?`);
   c.open(role, 'MetaProperty', node);
   c.writer.leaf('meta', 'IdentifierName', start, start + word.length, word);
   visit.name(c, 'property', node.name);

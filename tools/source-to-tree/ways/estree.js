@@ -29,4 +29,4 @@ function write(parsed, text, writer, annotations) {
   return commentsOf(parsed).filter(({ start }) => start > 0 || !text.startsWith('#!'));
 }
 
-module.exports = { read, write };
+module.exports = { parsersIn: () => [null], read, write };
