@@ -19,6 +19,7 @@ const SYNTAX = [
   { what: '`accessor`', before: words('[^.]$'), from: words(`^accessor${SPACE}(?:${NAME}|["'#[\\d])`), by: ['typescript'] },
   { what: '`satisfies`', before: words(`[^.\\s]\\s*$`), from: words(`^satisfies\\s`), by: ['typescript'] },
   { what: '`satisfies`', before: words('(?:^|[^.])$'), from: words(`^[\\p{ID_Continue}$]+${SPACE}satisfies\\s`), by: ['typescript'] },
+  { what: 'private names that begin with an escape', before: words(''), from: words('^#\\\\u'), by: ['typescript'] },
   { what: 'attributes of imports', before: words(`["']\\s*$`), from: words('^with\\s*\\{') },
   { what: 'attributes of imported types', before: words(`\\(\\s*["'][^"']*["']\\s*,\\s*\\{\\s*$`), from: words('^with\\s*:'), by: ['typescript'] },
   { what: '`const` type parameters', before: words('[<,]\\s*$'), from: words(`^const\\s+${NAME}`), by: ['typescript'] },

@@ -24,6 +24,7 @@ function commentTexts(comments, offsets) {
 // JavaScript with elements is JSX.
 const languageIn = (lang, writer) => (lang === 'js' && writer.hasJsx ? 'jsx' : lang);
 
+// Null where the text was read as a script and is found to be a module.
 function write(way, parsed, { source, text, lang, goal }) {
   const offsets = new ByteOffsets(text, source.startsWith(MARK));
   const writer = new TreeWriter(offsets, lang);
@@ -31,6 +32,7 @@ function write(way, parsed, { source, text, lang, goal }) {
   hashbang(writer, text);
   const comments = way.write(parsed, text, writer, new Annotations(text));
   writer.close();
+  if (writer.isModule && parsed.asScript) return null;
   return writer.finish({
     source,
     lang: languageIn(lang, writer),
@@ -43,12 +45,14 @@ function write(way, parsed, { source, text, lang, goal }) {
 const isOverflow = (error) => error instanceof RangeError && /call stack/.test(error.message);
 
 // Reads and writes with one parser, and tells how long each took.
-function attempt({ way, parser, folder }, request) {
+function attempt(turn, request) {
+  const { way, parser, folder } = turn;
   const { text, clock } = request;
   const started = performance.now();
   const parsed = way.read(text, { ...request, parser, folder });
   const read = performance.now();
   const json = write(way, parsed, request);
+  if (json === null) return attempt(turn, { ...request, goal: 'module' });
   clock.parser = read - started;
   clock.conversion = performance.now() - read;
   return { json, source: request.source };

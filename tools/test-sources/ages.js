@@ -30,6 +30,7 @@ const OLD = [
   ['typescript', '4.9', 'x.ts', '(a) satisfies B', '1:5', '`satisfies`', NEWER],
   ['typescript', '5.0', 'x.ts', 'function f<const T>() {}', '1:12', '`const` type parameters', NEWER],
   ['typescript', '5.0', 'x.ts', 'export default @a class B {}', '1:16', 'decorators here', NEWER],
+  ['typescript', '5.0', 'x.js', 'class A { #\\u0061 }', '1:11', 'private names that begin with an escape', NEWER],
   ['typescript', '5.3', 'x.mts', 'import a from "b" with { type: "json" }', '1:19', 'attributes of imports', NEWER],
   ['typescript', '5.3', 'x.ts', 'type A = import("b", { with: { c: "d" } })', '1:24', 'attributes of imported types', NEWER],
   ['typescript', NEVER, 'x.mts', 'import source a from "b"', '1:15', '`import source`', KINDLESS],

@@ -39,6 +39,7 @@ function source(c, node) {
   visit.literal(c, 'source', node.source);
   const entries = node.attributes && node.attributes.length ? node.attributes : node.assertions;
   const start = skipTrivia(c.text, c.end(node.source));
+  if (start >= c.end(node)) return;
   if (!/^(with|assert)$/.test(c.text.slice(start, nameEnd(c.text, start)))) return;
   const last = entries && entries[entries.length - 1];
   const brace = skipTrivia(c.text, nameEnd(c.text, start));

@@ -26,6 +26,7 @@ function objectMember(c, role, node, { kind = 'init', more = {}, allowed = [] })
 }
 
 const accessor = (kind) => (c, role, node) => {
+  if (!node.body) c.refuse(node, "'{' expected.");
   objectMember(c, role, node, { kind });
   visit.methodValue(c, 'value', node, false);
   c.close();
@@ -196,7 +197,7 @@ function tagged(c, role, node) {
   c.open(role, 'TaggedTemplateExpression', node);
   visit.expression(c, 'tag', node.tag);
   each(c, 'typeArguments', node.typeArguments && [node.typeArguments], 'typeArguments');
-  visit.template(c, 'quasi', node.template);
+  visit.template(c, 'quasi', node.template, true);
   c.close();
 }
 
