@@ -36,11 +36,13 @@ function statusOf(error) {
   if (error instanceof CommanderError) {
     return error.exitCode === 0 ? STATUS.CLEAN : STATUS.USAGE;
   }
-  if (error.status === undefined) {
+  // A module that isn't installed is a refusal of the converter's.
+  const status = error.name === 'Refusal' ? STATUS.FAILED : error.status;
+  if (status === undefined) {
     throw error;
   }
   tell(`bolgwyr: ${error.message}`);
-  return error.status;
+  return status;
 }
 
 async function main(words) {

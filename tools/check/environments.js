@@ -31,9 +31,15 @@ function guessed(free) {
   return [SHARED, ...found.map(([environment]) => environment)];
 }
 
+// Node runs a file that is no module as the body of a function.
+const WRAPPERS = ['node', 'commonjs'];
+const WRAPPED = new Set(['arguments']);
+
 // Sets of names that are known in a file; `named` is null where nobody names an environment.
-function knownSets(named, free) {
-  return [LANGUAGE, ...(named === null ? guessed(free) : named)].map(namesOf);
+function knownSets(named, free, goal) {
+  const environments = named === null ? guessed(free) : named;
+  const isWrapped = goal !== 'module' && environments.some((environment) => WRAPPERS.includes(environment));
+  return [...[LANGUAGE, ...environments].map(namesOf), ...(isWrapped ? [WRAPPED] : [])];
 }
 
 module.exports = { environments, knownSets };
