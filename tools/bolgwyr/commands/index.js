@@ -3,6 +3,7 @@
 // process.exitCode, or throws a UsageFault or a RunFault.
 
 const COMMANDS = [
+  { name: 'link', add: require('./link.js').add },
   { name: 'rename', add: require('./rename.js').add },
 ];
 
