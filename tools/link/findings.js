@@ -158,7 +158,7 @@ function specifierFindings(context, module) {
       context.notes.push({ kind: 'absent', module, span, name: text });
       return context.strict ? [{ rule: 'uninstalled-package', module, span, message: `'${text}' is not installed`, related: [] }] : [];
     }
-    if (to.module !== undefined && to.module.kind === 'unreadable') {
+    if (to.module !== undefined && to.module.kind === 'unreadable' && !to.module.isPackaged) {
       return [{ rule: 'unreadable-module', module, span, message: `'${text}' leads to ${named(to.module)}: ${to.module.refusal.message}`, related: [] }];
     }
     return [];

@@ -93,8 +93,9 @@ function outcomesOf(stdout) {
   const lines = stdout.toString('utf8').split('\n');
   return lines.filter((line) => line.startsWith('import ')).map((line) => {
     const [, module, node] = line.split(' ', 3);
-    const [word, number] = line.slice(line.lastIndexOf('"') + 2).split(' ');
-    return { module: Number(module), node: Number(node), word, number: number === undefined ? null : Number(number) };
+    const [word, ...numbers] = line.slice(line.lastIndexOf('"') + 2).split(' ');
+    const [number = null, symbol = null] = numbers.map(Number);
+    return { module: Number(module), node: Number(node), word, number, symbol };
   });
 }
 
@@ -110,11 +111,12 @@ function run(linked, asked) {
   throw new RunFault(FAILURES.get(status) || `the linker ended with ${signal || status}: ${line}`);
 }
 
-// {imports: [{module, wanted, outcome}], exports: [{module, entry, outcome}]}; an outcome has `word` and `module`.
+// {imports: [{module, wanted, outcome}], exports: [{module, entry, outcome}]}; an outcome has `word`, `module` and `symbol`,
+// which counts what the module's outline declares.
 function outcomes(modules) {
   const linked = modules.filter((module) => module.isLinked);
   const asked = leadingExports(modules);
-  const told = run(linked, asked).map(({ module, node, word, number }) => ({ at: module, node, outcome: { word, module: linked[number] || null } }));
+  const told = run(linked, asked).map(({ module, node, word, number, symbol }) => ({ at: module, node, outcome: { word, module: linked[number] || null, symbol } }));
   const byNode = new Map(linked.map((module) => [module, new Map((module.outline === null ? [] : module.outline.imports).map((one) => [one.node, one]))]));
   const own = told.filter(({ at }) => at < linked.length);
   return {

@@ -30,7 +30,7 @@ const REFUSED = `sum.mjs:4:28: \`each\` here would mean the one of 4:14
     |                            ^^^^^
 `;
 
-const SCRIPT_WARNING = "page.js: warning: `a` is a name of a script's top level: other scripts of a page may use it\n";
+const SCRIPT_WARNING = "warning: `a` is a name of a script's top level: other scripts of a page may use it\n";
 
 // Files in a folder of their own, and the command run there.
 function bench(folder) {
@@ -61,8 +61,8 @@ function answers({ put, run, patched }, expect) {
   expect('a refusal', `1||${REFUSED}`, told(run(['sum.mjs:3:7', 'each'])));
   expect('a refusal as an object', '1|{"file":"sum.mjs","refused":{"message":"`each` here would mean the one of 4:14","line":4,"column":28}}\n|',
     told(run(['sum.mjs:3:7', 'each', '--json'])));
-  expect('edits', '0|{"file":"sum.mjs","to":"all","edits":[{"start":66,"end":70,"line":4,"column":14,"old":"each","text":"all"},'
-    + '{"start":89,"end":93,"line":4,"column":37,"old":"each","text":"all"}],"warnings":[],"written":false}\n|', told(run(['sum.mjs:each', 'all', '--json'])));
+  expect('edits', '0|{"to":"all","files":[{"file":"sum.mjs","edits":[{"start":66,"end":70,"line":4,"column":14,"old":"each","text":"all"},'
+    + '{"start":89,"end":93,"line":4,"column":37,"old":"each","text":"all"}]}],"warnings":[],"written":false}\n|', told(run(['sum.mjs:each', 'all', '--json'])));
   expect('a name that it has', '0||', told(run(['sum.mjs:list', 'list'])));
   expect('two of a name', '1||sum.mjs: `total` is declared more than once: name one of the places 1:5, 3:7\n', told(run(['sum.mjs:total', 'all'])));
   put('page.js', 'var a;');

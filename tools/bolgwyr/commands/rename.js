@@ -5,6 +5,7 @@ const { load } = require('../../source-to-tree/load.js');
 const { say, tell } = require('../../analyse/output.js');
 const { printable } = require('../../analyse/refusal.js');
 const { RenameRefusal, checkName, rename } = require('../../rename/index.js');
+const { renameInProject } = require('../../rename/project.js');
 const { coloured, diffLines } = require('../../rename/diff.js');
 const { textOf, writeFiles } = require('../../rename/files.js');
 const { STATUS, UsageFault } = require('../faults.js');
@@ -48,38 +49,49 @@ function refuse(file, refusal, { json }) {
   process.exitCode = STATUS.FOUND;
 }
 
-function show({ file, before, to, found, settings }) {
-  const { text, edits, warnings } = found;
-  if (settings.json) {
-    say(`${JSON.stringify({ file, to, edits, warnings, written: settings.write === true && edits.length > 0 })}\n`);
+// The changes of files, each `{ file, shown, before, after, edits }`, and warnings.
+function found(file, place, to, { parser, goal, project }) {
+  if (project !== undefined) {
+    return renameInProject({ file, ...place, to, entries: project });
+  }
+  const before = textOf(file);
+  const { text, edits, warnings } = rename(before, { filename: file, ...place, to, parser, goal });
+  return { changes: edits.length === 0 ? [] : [{ file, shown: file, before, after: text, edits }], warnings };
+}
+
+function show({ changes, warnings }, to, { json, write }) {
+  if (json) {
+    const files = changes.map(({ shown, edits }) => ({ file: shown, edits }));
+    say(`${JSON.stringify({ to, files, warnings, written: write === true && files.length > 0 })}\n`);
     return;
   }
-  warnings.forEach((warning) => tell(`${printable(file)}: warning: ${warning}`));
-  if (settings.write) {
-    tell(`${printable(file)}: ${edits.length} ${edits.length === 1 ? 'place' : 'places'} renamed`);
-  } else {
-    showDiff(file, before, text);
+  warnings.forEach((warning) => tell(`warning: ${warning}`));
+  for (const { shown, before, after, edits } of changes) {
+    if (write) {
+      tell(`${printable(shown)}: ${edits.length} ${edits.length === 1 ? 'place' : 'places'} renamed`);
+    } else {
+      showDiff(shown, before, after);
+    }
   }
 }
 
 function run(word, to, settings) {
   const { file, ...place } = placeOf(word);
   checkName(to);
-  const before = textOf(file);
-  let found;
+  let answer;
   try {
-    found = rename(before, { filename: file, ...place, to, parser: settings.parser, goal: settings.goal });
+    answer = found(file, place, to, settings);
   } catch (error) {
     if (!(error instanceof RenameRefusal)) {
       throw error;
     }
-    refuse(file, error, settings);
+    refuse(error.file || file, error, settings);
     return;
   }
-  if (settings.write && found.edits.length > 0) {
-    writeFiles([{ file, before, after: found.text }]);
+  if (settings.write) {
+    writeFiles(answer.changes);
   }
-  show({ file, before, to, found, settings });
+  show(answer, to, settings);
 }
 
 function add(program, name) {
@@ -89,6 +101,7 @@ function add(program, name) {
     .argument('<name>', 'the new name')
     .option('--write', 'write the file')
     .option('--json', 'one object: the edits with bytes, lines and columns')
+    .option('--project <entry...>', 'rename what a module exports in all modules that these files or folders reach')
     .addOption(new Option('--parser <parser>', "in place of the one that the file's name tells").choices(['acorn', 'typescript']))
     .addOption(new Option('--goal <goal>', "in place of the one that the file's name tells").choices(['script', 'module', 'commonjs']))
     .allowExcessArguments(false)
