@@ -123,4 +123,4 @@ function outcomes(modules) {
   };
 }
 
-module.exports = { outcomes };
+module.exports = { linkedName, outcomes };
