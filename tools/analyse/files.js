@@ -16,8 +16,9 @@ const CAUSES = {
   ENAMETOOLONG: 'its name is too long',
 };
 
+// With commas between thousands.
 function counted(number) {
-  return number.toLocaleString('en-US');
+  return String(number).replace(/\B(?=(?:\d{3})+$)/g, ',');
 }
 
 // Refuses what is longer than any tree that is taken.
@@ -27,11 +28,19 @@ function checkSize(size, what) {
   }
 }
 
+let input = null;
+
+// Standard input, which can be read once.
+function inputBytes() {
+  input ??= fs.readFileSync(0);
+  return input;
+}
+
 // The bytes of a file; `-` is standard input.
 function bytesOf(file) {
   try {
     if (file === '-') {
-      return fs.readFileSync(0);
+      return inputBytes();
     }
     checkSize(fs.statSync(file).size, 'the file');
     return fs.readFileSync(file);
