@@ -12,7 +12,7 @@ const { checkEngine, runJobs } = require('./engine.js');
 const { sourceFiles } = require('./folder.js');
 const { batchSize, dealt } = require('./jobs.js');
 const { say, tell } = require('./output.js');
-const { ProgramFault, announceBuild, programPath } = require('./program.js');
+const { programPath } = require('./program.js');
 const { WordFault, emptySettings, readWords } = require('./words.js');
 
 const USAGE = 'usage: analyse-all [--json|--text|--report] [--out OUT] [--resume] [--jobs N] [--batch N] [--node-modules] [--sshloginfile FILE [--transfer]] [words of analyse] FOLDER';
@@ -139,18 +139,6 @@ function resume(settings, places) {
   return asked.batch;
 }
 
-// Builds the program where that is still to be done, so that jobs don't all begin with it.
-function buildProgram() {
-  if (!process.env.BOLGWYR_REPORT) {
-    announceBuild();
-    const empty = fs.openSync(path.join(__dirname, '..', '..', 'samples', 'empty.json'));
-    const run = spawnSync(programPath(), [], { stdio: [empty, 'ignore', 'inherit'] });
-    if (run.status !== 0) {
-      throw new ProgramFault(`${programPath()} can't be run`);
-    }
-  }
-}
-
 function runOf(settings, places, batch) {
   const { form, words, parser, goal, transfer } = settings;
   return {
@@ -185,7 +173,8 @@ async function analyseAll(settings) {
   checkEngine();
   const places = placesOf(settings);
   const batch = settings.resume ? resume(settings, places) : begin(settings, places);
-  buildProgram();
+  // It is built here where that is still to be done, so that jobs don't all begin with it.
+  programPath();
   const rows = fs.openSync(places.rows, 'a');
   const ended = await runJobs(runOf(settings, places, batch), rows);
   if (settings.transfer) {

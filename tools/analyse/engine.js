@@ -6,6 +6,7 @@ const path = require('path');
 const { ProgramFault, programPath } = require('./program.js');
 
 const BATCH = path.join(__dirname, 'batch.js');
+const REPORT = path.join(__dirname, '..', '..', 'bin', 'report');
 
 const quoted = (text) => `'${text.replace(/'/g, "'\\''")}'`;
 
@@ -17,10 +18,11 @@ function checkEngine() {
   }
 }
 
-// The command of one job. Other machines get the program's place too.
-function jobCommand(settings) {
+// The command of one job. Another machine gets the place of a program that was named, else that of its own copy's bin/report.
+function jobCommand({ settings, machines }) {
   const words = JSON.stringify(settings);
-  const report = `BOLGWYR_REPORT=${quoted(programPath())}`;
+  const place = machines === null || process.env.BOLGWYR_REPORT ? programPath() : REPORT;
+  const report = `BOLGWYR_REPORT=${quoted(place)}`;
   return `${report} node --max-old-space-size=8192 ${quoted(BATCH)} ${quoted(words)} {}`;
 }
 
@@ -40,7 +42,7 @@ function engineWords(run) {
     ...(run.jobs === null ? [] : ['--jobs', run.jobs]),
     ...(run.bar ? ['--bar'] : []),
     ...machineWords(run),
-    jobCommand(run.settings),
+    jobCommand(run),
   ];
 }
 

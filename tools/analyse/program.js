@@ -1,13 +1,10 @@
 'use strict';
 // Runs the report program on a tree.
 
-const fs = require('fs');
-const path = require('path');
 const { spawnSync } = require('child_process');
-const { tell } = require('./output.js');
+const { RunFault } = require('../bolgwyr/faults.js');
+const programs = require('../programs/index.js');
 const { Refusal } = require('./refusal.js');
-
-const ROOT = path.join(__dirname, '..', '..');
 
 // The program can't be started or doesn't know the words that were asked for: no file would get on.
 class ProgramFault extends Error {
@@ -17,18 +14,12 @@ class ProgramFault extends Error {
   }
 }
 
-// The report program: the one named by BOLGWYR_REPORT, else the repository's own.
+// The report program: the one named by BOLGWYR_REPORT, else the repository's own, which is built first if need be.
 function programPath() {
-  const named = process.env.BOLGWYR_REPORT || path.join(ROOT, 'bin', 'report');
-  return named.includes('/') ? path.resolve(named) : named;
-}
-
-const BUILT = path.join(ROOT, 'crates', 'report_main', 'out', 'report_main');
-
-// Says why nothing is heard for long, where the repository's own program isn't built yet.
-function announceBuild() {
-  if (!process.env.BOLGWYR_REPORT && !fs.existsSync(BUILT)) {
-    tell('the report program is proved and built first, which takes tens of minutes');
+  try {
+    return programs.programPath('report_main');
+  } catch (error) {
+    throw error instanceof RunFault ? new ProgramFault(error.message) : error;
   }
 }
 
@@ -83,7 +74,6 @@ function hasReport(run) {
 // The report of a tree, and whether there are diagnostics.
 function runReport(treeText, words) {
   const program = programPath();
-  announceBuild();
   const run = spawnSync(program, words, { input: treeText, maxBuffer: Infinity });
   if (run.error !== undefined && run.status === null && run.signal === null) {
     throw new ProgramFault(`${program} can't be run: ${run.error.message}`);
@@ -94,4 +84,4 @@ function runReport(treeText, words) {
   return { bytes: run.stdout, diagnosed: run.status === 1 };
 }
 
-module.exports = { ProgramFault, RefusedTree, announceBuild, programPath, runReport };
+module.exports = { ProgramFault, RefusedTree, programPath, runReport };
