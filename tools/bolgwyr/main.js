@@ -17,14 +17,16 @@ function programOf() {
   const program = new Command('bolgwyr')
     .description('Scopes, names and early errors of JavaScript and TypeScript, by an analysis that is proved.')
     .version(version, '--version', 'tell the version')
+    .option('--no-color', 'no colours, also in a terminal')
     .showHelpAfterError('(bolgwyr --help tells the words)')
+    .configureOutput({ outputError: (text, write) => write(text.replace(/^error: /, 'bolgwyr: ')) })
     .exitOverride()
     .addHelpText('after', STATUSES);
   for (const { name, add } of COMMANDS) {
     add(program, name);
   }
   for (const command of program.commands) {
-    command.exitOverride().addHelpText('after', STATUSES);
+    command.exitOverride().showHelpAfterError(`(bolgwyr ${command.name()} --help tells the words)`).addHelpText('after', STATUSES);
   }
   return program;
 }

@@ -3,6 +3,12 @@
 // process.exitCode, or throws a UsageFault or a RunFault.
 
 const COMMANDS = [
+  { name: 'check', add: require('./check.js').add },
+  { name: 'rename', add: require('./rename.js').add },
+  { name: 'link', add: require('./link.js').add },
+  { name: 'tables', add: require('./tables.js').add },
+  { name: 'scopes', add: require('./scopes.js').add },
+  { name: 'lint-names', add: require('./lint-names.js').add },
 ];
 
 module.exports = { COMMANDS };
