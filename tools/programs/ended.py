@@ -30,6 +30,18 @@ def heed_signals():
             signal.signal(number, raise_ended)
 
 
+class Parent:
+    """Whoever started this process, if the build is to end with it."""
+
+    def __init__(self, is_heeded):
+        self.number = os.getppid() if is_heeded else None
+
+    def heed(self):
+        """Raises Ended if it is gone."""
+        if self.number is not None and os.getppid() != self.number:
+            raise Ended(signal.SIGTERM)
+
+
 def end_by(number):
     """Ends this process by the signal."""
     signal.signal(number, signal.SIG_DFL)

@@ -1,6 +1,7 @@
 'use strict';
 // The programs of the crates: where they stand, and how one is run on a tree.
 
+const fs = require('fs');
 const path = require('path');
 const { spawnSync } = require('child_process');
 const { RunFault } = require('../bolgwyr/faults.js');
@@ -14,6 +15,11 @@ const TOOLS = {
 };
 
 const CRATES = ['report_main', 'tools_main'];
+
+// The programs of an installed copy stand here, with a file that notes how each was made. It has no crates.
+const INSTALLED = path.join(__dirname, '..', '..', 'programs');
+const STATES = path.join(INSTALLED, 'states');
+const isInstalled = () => fs.existsSync(INSTALLED);
 
 // The report program that is to run in the place of the repository's own.
 const GIVEN = { report_main: 'BOLGWYR_REPORT' };
@@ -41,18 +47,32 @@ function readyIn(line) {
 
 // Builds programs side by side. What is built, and how far it is, is told on standard error.
 function build(crates) {
-  const words = [path.join(__dirname, 'build.py'), '--with-parent', ...crates];
-  const run = spawnSync('python3', words, { encoding: 'utf8', stdio: ['ignore', 'pipe', 'inherit'] });
-  if (run.error) {
-    throw new RunFault(`Python is wanted to build ${crates.join(' and ')}: ${run.error.message}`);
+  const lines = runPython('build.py', crates, `${crates.join(' and ')} can't be built`).trim().split('\n');
+  lines.forEach((line, at) => places.set(crates[at], readyIn(line).place));
+}
+
+// What a script of this folder prints. It ends with this process, and this process ends as it does where that is by a signal.
+function runPython(script, crates, fault) {
+  const words = [path.join(__dirname, script), '--with-parent', ...crates];
+  const { error, signal, status, stdout } = spawnSync('python3', words, { encoding: 'utf8', stdio: ['ignore', 'pipe', 'inherit'] });
+  if (error) {
+    throw new RunFault(`Python is wanted to build and prove: ${error.message}`);
   }
-  if (run.signal) {
-    process.kill(process.pid, run.signal);
+  if (signal) {
+    process.kill(process.pid, signal);
   }
-  if (run.status !== 0) {
-    throw new RunFault(`${crates.join(' and ')} can't be built`);
+  if (status !== 0) {
+    throw new RunFault(fault);
   }
-  run.stdout.trim().split('\n').forEach((line, at) => places.set(crates[at], readyIn(line).place));
+  return stdout;
+}
+
+// Proves the programs of some crates and builds the proved ones. How far it is, is told on standard error.
+function prove(crates) {
+  if (isInstalled()) {
+    throw new RunFault('an installed copy has no crates to prove: bolgwyr --version tells whether its programs are proved');
+  }
+  runPython('prove.py', crates, `not proved: ${crates.join(' and ')}`);
 }
 
 // Has the programs of some crates stand ready, and builds those that don't, side by side.
@@ -88,4 +108,4 @@ function runTool(tool, words, input) {
   return { status: run.status, signal: run.signal, stdout: run.stdout, stderr: run.stderr.toString('utf8') };
 }
 
-module.exports = { CRATES, TOOLS, prepare, programPath, readyOf, runTool };
+module.exports = { CRATES, STATES, TOOLS, isInstalled, prepare, programPath, prove, readyOf, runTool };

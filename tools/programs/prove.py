@@ -1,12 +1,14 @@
 """Proves and builds programs and static libraries, and says how far it is.
-usage: prove.py CRATE..
+usage: prove.py [--with-parent] CRATE..
 
 The crates that they stand on are proved side by side, each over what those below it state, as the gate proves them, by the
 `rattle` of the kit that `rt` belongs to: rt proves one crate at a time of those that share a library, and a library that it builds
 for that holds proofs too, so that a crate over many of them takes up to three times as long. What is proved stands in
 `crates/NAME/out/proved`, with a checksum of all that it was proved from, so that a build that is broken off goes on from there,
-and another program's takes it. A build that fails ends with its log, and with status 1."""
+and another program's takes it. A build that fails ends with its log, and with status 1. With --with-parent it ends when whoever started
+it is gone."""
 
+import argparse
 import contextlib
 import fcntl
 import hashlib
@@ -22,7 +24,7 @@ import time
 sys.dont_write_bytecode = True
 
 from crates import SOURCES_AND_PROOFS, TOP, Listed, Stamp, add_files, bytes_in, checksum_of, files_of, folder_of
-from ended import Ended, end, end_by, heed_signals, start
+from ended import Ended, Parent, end, end_by, heed_signals, start
 from kit import Kit, Unbuilt
 from progress import Progress
 
@@ -179,7 +181,7 @@ class Crate:
 class Proof:
     """The crates on the way to some programs and static libraries, lowest first, of which some are done."""
 
-    def __init__(self, names, kit, progress):
+    def __init__(self, names, kit, progress, parent):
         listed = Listed()
         made = {}
         for name in names:
@@ -195,7 +197,7 @@ class Proof:
                 below.chain = max(below.chain, below.work + crate.chain)
         memory = os.sysconf("SC_PAGE_SIZE") * os.sysconf("SC_PHYS_PAGES")
         self.processors = min(len(os.sched_getaffinity(0)), max(memory // MEMORY_OF_PROOF, 1))
-        self.progress = progress
+        self.progress, self.parent = progress, parent
 
     def state(self, what):
         minutes = int(self.progress.seconds() / 60)
@@ -223,6 +225,7 @@ class Proof:
         while not all(it.is_done for it in self.crates):
             self.start_ready()
             time.sleep(LOOKS_EVERY)
+            self.parent.heed()
             for crate in [it for it in self.at_work() if it.has_ended()]:
                 crate.finish()
                 if not crate.is_done:
@@ -249,8 +252,8 @@ def alone(progress):
         yield
 
 
-def prove(names, progress):
-    proof = Proof(names, Kit(), progress)
+def prove(names, progress, parent):
+    proof = Proof(names, Kit(), progress, parent)
     try:
         failed = proof.run()
     finally:
@@ -260,12 +263,17 @@ def prove(names, progress):
     progress.say(proof.state("proved"))
 
 
-def main(names):
+def main():
+    words = argparse.ArgumentParser(usage=__doc__.partition("usage: ")[2].partition("\n")[0], add_help=False)
+    words.add_argument("--with-parent", action="store_true")
+    words.add_argument("crates", nargs="+")
+    given = words.parse_args()
+    names = given.crates
     progress = Progress()
     heed_signals()
     try:
         with alone(progress):
-            prove(names, progress)
+            prove(names, progress, Parent(given.with_parent))
     except Ended as ended:
         progress.say(f"{' and '.join(names)}: broken off; the next call goes on from here")
         end_by(ended.number)
@@ -276,4 +284,4 @@ def main(names):
 
 
 if __name__ == "__main__":
-    sys.exit(main(sys.argv[1:]))
+    sys.exit(main())
