@@ -9,6 +9,9 @@ const COMMANDS = [
   { name: 'tables', add: require('./tables.js').add },
   { name: 'scopes', add: require('./scopes.js').add },
   { name: 'lint-names', add: require('./lint-names.js').add },
+  { name: 'report', add: require('./report.js').add },
+  { name: 'tree', add: require('./tree.js').add },
+  { name: 'prove', add: require('./prove.js').add },
 ];
 
 module.exports = { COMMANDS };
