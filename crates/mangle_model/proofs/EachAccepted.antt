@@ -35,8 +35,8 @@ use Rattle.mangle_model.specs.Written.{written}
 use Rattle.mangle_model.proofs.Composed.{none_alike}
 use Rattle.mangle_model.proofs.Decided.{renamed_decides}
 use Rattle.mangle_model.proofs.EachNode.{texts_agree, all_named}
-use Rattle.mangle_model.proofs.EachPair.{clash, IsUnusedName, old_in, new_in, pairs_apart}
-use Rattle.mangle_model.proofs.EachSymbol.{neither, plain_pairs, symbol_not_new, name_of_symbol, given_named, Gets, gets}
+use Rattle.mangle_model.proofs.EachPair.{clash, neither, IsUnusedName, old_in, new_in, pairs_apart}
+use Rattle.mangle_model.proofs.EachSymbol.{plain_pairs, symbol_not_new, name_of_symbol, given_named, Gets, gets}
 use Rattle.mangle_model.proofs.MappedNames.{Pair, IsNotNew, mapped, mapped_is, mapped_keeps, none_found}
 use Rattle.mangle_model.proofs.OneName.{none_is_itself}
 use Rattle.mangle_model.proofs.OneToOne.{one_to_one_alike}

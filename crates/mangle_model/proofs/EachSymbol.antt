@@ -20,12 +20,8 @@ use Rattle.mangle_model.specs.GoodNames.{is_free_name, is_kept_name}
 use Rattle.mangle_model.specs.MayMangle.{Options, is_open_scope, is_global, is_of_wrapper, is_kept_kind, is_predicate, is_kept_symbol, fixes_symbol, may_mangle_symbol, may_mangle}
 use Rattle.mangle_model.specs.Mangling.{may_change}
 use Rattle.mangle_model.specs.OneNameEach.{symbol_names, name_pairs, names_by}
-use Rattle.mangle_model.proofs.EachPair.{turned, clash, IsOld, IsUnusedName, old_in, new_in, words_not_given}
+use Rattle.mangle_model.proofs.EachPair.{turned, clash, neither, other_way, IsOld, IsUnusedName, old_in, new_in, words_not_given}
 use Rattle.mangle_model.proofs.MappedNames.{Pair, Found, found, IsPlain, IsNotNew}
-
-pub neither : (x y : Bool) → (x || y) ≡ false → (x ≡ false) × (y ≡ false)
-neither true y h = absurd cc
-neither false y h = (refl, h)
 
 -- ---- what is listed
 
@@ -131,9 +127,6 @@ module _ (o : Options) (p : Tree) where
       go : (found : Option Symbol) → slice_get symbols s ≡ found → may_mangle_symbol o p walk a s found ≡ true → Changing s
       go None e k = absurd cc
       go (Some y) e k = record { symbol = y; is_there = e; changes = changes s y e h }
-
-  other_way : (t u : Name) → bytes_eq t u ≡ false → bytes_eq u t ≡ false
-  other_way t u h = elim (name_tells u t) [ inr k ↦ k.0 | inl k ↦ elim (name_tells t u) [ inr q ↦ absurd (q.1 (sym k.1)) | inl q ↦ absurd (clash (bytes_eq t u) q.0 h) ] ]
 
   plain_name : (s : ℕ) (y : Symbol) → Changes s y → IsPlain y.name
   plain_name s y c =

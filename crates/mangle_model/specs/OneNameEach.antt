@@ -1,15 +1,14 @@
 -- The simple mangler: a short name for each name that only symbols have which may change, the same for all of them. So it is a
 -- one-to-one map of names, and nothing can be captured.
 --
--- A program finds it in linear time. One walk over the tree gathers the names at nodes that bear no symbol which may change, and
--- a set holds them with the free names and those of symbols that must keep theirs: these are fixed. One loop over symbols puts the
--- names that change into a map, in order, and one over the numbers of short names gives the next of these the name of that number
--- where neither a symbol has it nor the sets hold it. Then each symbol is looked up.
+-- A program finds it in linear time. One walk over the tree gathers the names at nodes that bear no symbol which may change. A set
+-- holds them, the free names and those of symbols that must keep theirs: these are fixed. One loop over symbols puts the other
+-- names into a map, in order. One over the numbers of short names gives the next of them the name of that number, if it is no word,
+-- is not fixed, and no symbol has it. Then each symbol's name is looked up.
 use Rattle.std.specs.Prelude.{ℕ, ◌+◌, List, [], ◌∷◌, ◌++◌, Bool, false, not, ◌&&◌, ◌||◌, Option, Some, None, cond, nat_le, nat_lt, bytes_eq, length, map, filter, fold, zip}
 use Rattle.std.specs.List.{list_any, range_with_len}
 use Rattle.std.specs.Map.{lookup}
 use Rattle.semantic_syntax.specs.Tables.{Name, Symbol, Tables}
-use Rattle.semantic_tree.specs.Children.{node_count}
 use Rattle.semantic_tree.specs.Forest.{Forest, nothing, tree}
 use Rattle.semantic_tree.specs.Renamed.{is_named, setting_below}
 use Rattle.semantic_tree.specs.Tree.{Tree}
@@ -17,7 +16,7 @@ use Rattle.semantic_tree.specs.declared.swap.Setting.{Setting}
 use Rattle.semantic_tree.specs.declared.swap.Setting.TheVariants.{Elsewhere}
 use Rattle.semantic_model.specs.Analysis.{Analysis, symbol_at, tied_at, analysis_of}
 use Rattle.mangle_model.specs.Assignment.{listed}
-use Rattle.mangle_model.specs.GoodNames.{reserved_words, is_reserved, is_free_name, is_kept_name}
+use Rattle.mangle_model.specs.GoodNames.{reserved_words, is_free_name, is_kept_name}
 use Rattle.mangle_model.specs.MayMangle.{Options}
 use Rattle.mangle_model.specs.Mangling.{may_change}
 use Rattle.mangle_model.specs.Renamed.{renamed_by}
@@ -62,20 +61,27 @@ changing_names may a p = fold joining [] (filter (does_change may a p) (symbol_n
 
 -- ---- their new names
 
--- neither a word, nor fixed, nor the name of a symbol
-abbrev pub is_unused_name : (may : ℕ → Bool) → Analysis → Tree → Name → Bool
-is_unused_name may a p name = not (is_reserved name) && (not (is_fixed_name may a p name) && not (list_any (bytes_eq name) (symbol_names a.tables)))
+-- words, free names, the names of symbols, and those at nodes that bear no symbol which may change
+abbrev pub taken_names : (may : ℕ → Bool) → Analysis → Tree → List Name
+taken_names may a p =
+    reserved_words ++ (map (λ f. f.0) a.tables.free ++ (symbol_names a.tables ++ fixed_below (bears_such may a) Elsewhere p.root.children))
 
--- so many short names that there is an unused one for each name: those that are used stand at nodes, or are words
-abbrev pub short_names : Tree → List Name
-short_names p = map short_name (range_with_len 0 (length reserved_words + (node_count p.root + node_count p.root)))
+abbrev pub is_unused_name : (may : ℕ → Bool) → Analysis → Tree → Name → Bool
+is_unused_name may a p name = not (list_any (bytes_eq name) (taken_names may a p))
+
+-- so many short names that there is an unused one for each name that changes
+abbrev pub short_names : (may : ℕ → Bool) → Analysis → Tree → List Name
+short_names may a p = map short_name (range_with_len 0 (length (taken_names may a p) + length a.tables.symbols))
+
+abbrev pub unused_names : (may : ℕ → Bool) → Analysis → Tree → List Name
+unused_names may a p = filter (is_unused_name may a p) (short_names may a p)
 
 abbrev pub is_shorter : Name × Name → Bool
 is_shorter pair = nat_lt (size_of pair.1) (size_of pair.0)
 
 -- the names that change with their new names: the next unused ones in order, where they are shorter
 abbrev pub name_pairs : (may : ℕ → Bool) → Analysis → Tree → List (Name × Name)
-name_pairs may a p = filter is_shorter (zip (changing_names may a p) (filter (is_unused_name may a p) (short_names p)))
+name_pairs may a p = filter is_shorter (zip (changing_names may a p) (unused_names may a p))
 
 -- ---- all together
 
