@@ -1,5 +1,5 @@
 -- The simple mangler is always accepted: its new names come of a one-to-one map of names, and pass the tests one by one.
-use Rattle.std.proofs.Common.{◌≡◌, ℕ, zero, suc, ◌+◌, List, [], ◌∷◌, Bool, true, false, not, ◌&&◌, ◌||◌, inl, inr, ◌⊎◌, Option, Some, None, cond, refl, sym, ap, subst, ◌∙◌, bytes_eq, map, arith}
+use Rattle.std.proofs.Common.{◌≡◌, ℕ, zero, suc, ◌+◌, List, [], ◌∷◌, Bool, true, false, not, ◌&&◌, ◌||◌, inl, inr, ◌⊎◌, Option, Some, None, cond, refl, sym, ap, subst, ◌∙◌, bytes_eq, arith}
 use Rattle.std.specs.Prelude.{nat_le, slice_get, slice_index_or}
 use Rattle.std.specs.List.{list_any}
 use Rattle.std.specs.Map.{lookup}
@@ -23,10 +23,10 @@ use Rattle.rename_model.specs.WithName.{is_identifier}
 use Rattle.rename_model.proofs.Differences.{complete}
 use Rattle.mangle_model.specs.Alike.{Alike}
 use Rattle.mangle_model.specs.Assignment.{Assignment, listed, name_or, first_name, is_new, nothing_new}
-use Rattle.mangle_model.specs.GoodNames.{is_ascii_identifier, is_reserved, is_free_name, is_kept_name, is_good_name}
+use Rattle.mangle_model.specs.GoodNames.{is_free_name, is_kept_name, is_good_name}
 use Rattle.mangle_model.specs.MayMangle.{Options}
 use Rattle.mangle_model.specs.Mangling.{may_change, all_pass, all_identifiers, is_no_node, passes, is_accepted}
-use Rattle.mangle_model.specs.OneNameEach.{is_fixed_name, symbol_names, name_pairs, names_by, each_named, one_name_each}
+use Rattle.mangle_model.specs.OneNameEach.{is_fixed_name, symbol_names, name_pairs, each_named, one_name_each}
 use Rattle.mangle_model.specs.OneToOne.{SymbolsAgree, BoundAgree, BindingsAgree, FreeAgree, ComesOf}
 use Rattle.mangle_model.specs.Renamed.{new_name, given, renamed_by}
 use Rattle.mangle_model.specs.Tests.{are_renamed}

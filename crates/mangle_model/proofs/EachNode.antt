@@ -44,9 +44,9 @@ use Rattle.mangle_model.specs.OneNameEach.{is_such, bears_such, fixed_below, is_
 use Rattle.mangle_model.specs.OneToOne.{AgreeIn}
 use Rattle.mangle_model.specs.Renamed.{new_name, given}
 use Rattle.mangle_model.specs.WithNames.{is_given}
-use Rattle.mangle_model.proofs.EachPair.{clash, IsOld, IsUnusedName, old_in, new_in}
+use Rattle.mangle_model.proofs.EachPair.{clash, old_in, new_in}
 use Rattle.mangle_model.proofs.EachSymbol.{Changes, changes, Changing, changing, symbol_not_new, name_of_symbol, given_named, Gets, gets}
-use Rattle.mangle_model.proofs.MappedNames.{Pair, IsNotNew, mapped, mapped_is, none_found, Found, found}
+use Rattle.mangle_model.proofs.MappedNames.{Pair, IsNotNew, mapped, mapped_is, none_found}
 use Rattle.mangle_model.proofs.EachPair.{pairs_apart}
 use Rattle.mangle_model.proofs.NameLists.{any_among}
 

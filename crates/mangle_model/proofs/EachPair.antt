@@ -1,5 +1,5 @@
 -- The pairs of the simple mangler: old names change, new ones are unused, and no two pairs share a name.
-use Rattle.std.proofs.Common.{◌≡◌, ℕ, zero, suc, ◌+◌, ◌≤◌, List, [], ◌∷◌, ◌++◌, Bool, true, false, not, ◌&&◌, ◌||◌, inl, inr, refl, sym, ap, subst, ◌∙◌, codes, bytes_eq, map, filter, fold, zip, length, nat_lt, arith}
+use Rattle.std.proofs.Common.{◌≡◌, ℕ, zero, suc, ◌+◌, List, [], ◌∷◌, ◌++◌, Bool, true, false, not, ◌||◌, inl, inr, refl, sym, ap, subst, ◌∙◌, codes, bytes_eq, map, filter, zip, length, nat_lt, arith}
 use Rattle.std.specs.List.{list_any, range_with_len}
 use Rattle.std.proofs.lemmas.Bool.{and_parts}
 use Rattle.semantic_syntax.specs.Tables.{Name, Symbol, FreeLists}
@@ -11,7 +11,7 @@ use Rattle.semantic_model.specs.Entries.{Among}
 use Rattle.semantic_model.proofs.once.ListedUnder.{name_tells}
 use Rattle.program_laws.proofs.DeclaredNodes.{among_map}
 use Rattle.mangle_model.specs.GoodNames.{reserved_words, is_ascii_identifier, is_reserved, is_kept_name}
-use Rattle.mangle_model.specs.OneNameEach.{bears_such, fixed_below, is_fixed_name, does_change, joining, symbol_names, changing_names, taken_names, is_unused_name, short_names, unused_names, is_shorter, name_pairs}
+use Rattle.mangle_model.specs.OneNameEach.{bears_such, fixed_below, is_fixed_name, does_change, symbol_names, changing_names, taken_names, is_unused_name, short_names, unused_names, is_shorter, name_pairs}
 use Rattle.mangle_model.specs.ShortNames.{short_name}
 use Rattle.mangle_model.specs.Written.{size_of}
 use Rattle.mangle_model.proofs.MappedNames.{Pair, Apart, zipped_apart, passing_apart, IsPlain}

@@ -1,6 +1,6 @@
 -- What the simple mangler gives to symbols, and which of them may change.
-use Rattle.std.proofs.Common.{◌≡◌, ℕ, zero, suc, ◌+◌, List, [], ◌∷◌, Bool, true, false, not, ◌&&◌, ◌||◌, Option, Some, None, cond, inl, inr, ◌⊎◌, refl, sym, ap, subst, ◌∙◌, codes, bytes_eq, map, arith}
-use Rattle.std.specs.Prelude.{slice_get, option_and_then, option_map}
+use Rattle.std.proofs.Common.{◌≡◌, ℕ, zero, suc, ◌+◌, List, [], ◌∷◌, Bool, true, false, not, ◌&&◌, ◌||◌, Option, Some, None, inl, inr, refl, sym, ap, subst, ◌∙◌, codes, bytes_eq, map, arith}
+use Rattle.std.specs.Prelude.{slice_get, option_and_then}
 use Rattle.std.specs.List.{list_any}
 use Rattle.std.specs.Map.{lookup}
 use Rattle.std.proofs.lemmas.Bool.{and_parts}
@@ -17,7 +17,7 @@ use Rattle.rename_model.specs.Renamed.{bears_name}
 use Rattle.rename_model.proofs.NamedNodes.{some_is}
 use Rattle.mangle_model.specs.Assignment.{listed}
 use Rattle.mangle_model.specs.GoodNames.{is_free_name, is_kept_name}
-use Rattle.mangle_model.specs.MayMangle.{Options, is_open_scope, is_global, is_of_wrapper, is_kept_kind, is_predicate, is_kept_symbol, fixes_symbol, may_mangle_symbol, may_mangle}
+use Rattle.mangle_model.specs.MayMangle.{Options, is_open_scope, is_global, is_of_wrapper, is_kept_kind, is_predicate, is_kept_symbol, fixes_symbol, may_mangle_symbol}
 use Rattle.mangle_model.specs.Mangling.{may_change}
 use Rattle.mangle_model.specs.OneNameEach.{symbol_names, name_pairs, names_by}
 use Rattle.mangle_model.proofs.EachPair.{turned, clash, neither, other_way, IsOld, IsUnusedName, old_in, new_in, words_not_given}

@@ -1,5 +1,5 @@
 -- There are enough short names: of so many, the taken names leave one for each symbol.
-use Rattle.std.proofs.Common.{◌≡◌, ℕ, suc, ◌+◌, ◌≤◌, List, [], ◌∷◌, ◌++◌, Bool, true, false, not, ◌||◌, cond, inl, inr, ◌⊎◌, refl, sym, ap, subst, ◌∙◌, bytes_eq, map, filter, fold, length, arith}
+use Rattle.std.proofs.Common.{◌≡◌, ℕ, suc, ◌+◌, ◌≤◌, List, [], ◌∷◌, ◌++◌, Bool, true, false, not, ◌||◌, cond, inl, inr, ◌⊎◌, refl, sym, ap, ◌∙◌, bytes_eq, filter, fold, length, arith}
 use Rattle.std.specs.List.{list_any, range_with_len}
 use Rattle.std.proofs.lemmas.List.{length-map}
 use Rattle.std.proofs.lemmas.List.FromFn.{length-range_with_len}
@@ -10,7 +10,7 @@ use Rattle.semantic_model.specs.Entries.{Among}
 use Rattle.semantic_model.proofs.once.ListedUnder.{name_tells}
 use Rattle.mangle_model.specs.OneNameEach.{does_change, joining, symbol_names, changing_names, taken_names, is_unused_name, short_names, unused_names}
 use Rattle.mangle_model.specs.ShortNames.{short_name}
-use Rattle.mangle_model.proofs.EachPair.{turned, short_different}
+use Rattle.mangle_model.proofs.EachPair.{short_different}
 use Rattle.mangle_model.proofs.NameLists.{among_passing, Different, passing_different}
 
 -- ---- lengths

@@ -1,5 +1,5 @@
 -- Pairs of names of which no two share one make a one-to-one map of all names: each pair is swapped.
-use Rattle.std.proofs.Common.{◌≡◌, ℕ, List, [], ◌∷◌, Bool, true, false, Option, Some, None, cond, inl, inr, ◌⊎◌, refl, sym, ap, subst, ◌∙◌, codes, bytes_eq, filter, zip}
+use Rattle.std.proofs.Common.{◌≡◌, List, [], ◌∷◌, Bool, true, false, Option, Some, None, cond, inl, inr, ◌⊎◌, refl, sym, ap, ◌∙◌, codes, bytes_eq, filter, zip}
 use Rattle.std.specs.Map.{lookup}
 use Rattle.semantic_syntax.specs.Tables.{Name}
 use Rattle.semantic_tree.specs.Renamed.{swap}

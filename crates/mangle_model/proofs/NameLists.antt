@@ -1,9 +1,9 @@
 -- What stands in lists of names and pairs, and where no two are the same.
-use Rattle.std.proofs.Common.{◌≡◌, ℕ, zero, suc, ◌+◌, ◌≤◌, List, [], ◌∷◌, ◌++◌, ◌||◌, Bool, true, false, Option, Some, None, cond, inl, inr, ◌⊎◌, refl, sym, ap, subst, ◌∙◌, map, filter, fold, zip, bytes_eq, arith}
+use Rattle.std.proofs.Common.{◌≡◌, ℕ, zero, suc, ◌+◌, ◌≤◌, List, [], ◌∷◌, ◌++◌, ◌||◌, Bool, true, false, cond, inl, inr, ◌⊎◌, refl, sym, ap, ◌∙◌, filter, fold, zip, bytes_eq, arith}
 use Rattle.std.specs.List.{list_any, range_with_len}
 use Rattle.semantic_syntax.specs.Tables.{Name}
 use Rattle.semantic_model.specs.Entries.{Among}
-use Rattle.semantic_model.proofs.lists.Members.{among_more, among_left}
+use Rattle.semantic_model.proofs.lists.Members.{among_more}
 use Rattle.semantic_model.proofs.once.ListedUnder.{name_tells}
 use Rattle.mangle_model.specs.OneNameEach.{joining}
 

@@ -1,6 +1,5 @@
 -- What the simple mangler gives for small programs, by computation.
-use Rattle.std.proofs.Common.{◌≡◌, List, [], ◌∷◌, Option, Some, None, codes, refl}
-use Rattle.semantic_syntax.specs.Tables.{Name}
+use Rattle.std.proofs.Common.{◌≡◌, [], ◌∷◌, Some, None, codes, refl}
 use Rattle.mangle_model.proofs.Programs.{told_twice, told_to_eval, in_short}
 use Rattle.mangle_model.proofs.Rows.{usual}
 use Rattle.mangle_model.specs.OneNameEach.{each_named, one_name_each}

@@ -1,5 +1,5 @@
 -- No two short names are the same, and each is an identifier.
-use Rattle.std.proofs.Common.{◌≡◌, ℕ, zero, suc, ◌+◌, ◌-◌, ◌/◌, ◌%◌, ◌*◌, ◌<◌, ◌≤◌, nat_lt, ◌==◌, List, [], ◌∷◌, Bool, true, false, ◌&&◌, cond, inl, inr, refl, sym, ap, subst, ◌∙◌, arith, mod-lt, div-le_self, div-add-mod'}
+use Rattle.std.proofs.Common.{◌≡◌, ℕ, zero, suc, ◌+◌, ◌-◌, ◌/◌, ◌%◌, ◌*◌, ◌<◌, ◌≤◌, nat_lt, ◌==◌, List, ◌∷◌, Bool, true, cond, inl, inr, refl, sym, ap, subst, ◌∙◌, arith, mod-lt, div-le_self, div-add-mod'}
 use Rattle.std.specs.List.{list_all, range_with_len}
 use Rattle.std.proofs.lemmas.Bool.{and_parts, eqb-true}
 use Rattle.std.proofs.lemmas.Bool.Decides.{eqb_tells}
