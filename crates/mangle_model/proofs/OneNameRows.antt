@@ -1,6 +1,6 @@
 -- What the simple mangler gives for small programs, by computation.
 use Rattle.std.proofs.Common.{◌≡◌, [], ◌∷◌, Some, None, codes, refl}
-use Rattle.mangle_model.proofs.Programs.{told_twice, told_to_eval, in_short}
+use Rattle.mangle_model.proofs.Programs.{told_twice, told_to_eval, told_and_free, in_short}
 use Rattle.mangle_model.proofs.Rows.{usual}
 use Rattle.mangle_model.specs.OneNameEach.{each_named, one_name_each}
 use Rattle.mangle_model.specs.ShortNames.{short_name}
@@ -25,3 +25,8 @@ kept_for_one = refl
 none_for_shorthand : (each_named usual in_short ≡ Some (codes "a") ∷ []) × (one_name_each usual in_short ≡ [])
 unfolding lib.Utf8.encode
 none_for_shorthand = (refl, refl)
+
+-- a name that is free elsewhere stays
+kept_for_free : one_name_each usual told_and_free ≡ None ∷ []
+unfolding lib.Utf8.encode
+kept_for_free = refl

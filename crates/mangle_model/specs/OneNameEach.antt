@@ -1,5 +1,5 @@
--- The simple mangler: a short name for each name that only symbols have which may change, the same for all of them. So it is a
--- one-to-one map of names, and nothing can be captured.
+-- The simple mangler: a name that only symbols have which may change becomes one short name, the same for all of them. So new names
+-- come of a one-to-one map of names, and nothing can be captured.
 --
 -- A program finds it in linear time. One walk over the tree gathers the names at nodes that bear no symbol which may change. A set
 -- holds them, the free names and those of symbols that must keep theirs: these are fixed. One loop over symbols puts the other
@@ -44,7 +44,7 @@ abbrev pub is_fixed_name : (may : ℕ → Bool) → Analysis → Tree → Name �
 is_fixed_name may a p name =
     is_free_name a.tables name || (is_kept_name may name 0 a.tables.symbols || list_any (bytes_eq name) (fixed_below (bears_such may a) Elsewhere p.root.children))
 
--- none is shorter than one of a byte
+-- a name of one byte stays too, since none is shorter
 abbrev pub does_change : (may : ℕ → Bool) → Analysis → Tree → Name → Bool
 does_change may a p name = nat_lt 1 (size_of name) && not (is_fixed_name may a p name)
 
