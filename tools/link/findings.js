@@ -1,0 +1,206 @@
+'use strict';
+// What is wrong with a set of modules, each finding at its place.
+//
+// A finding is {rule, module, span, message, related}; `related` are {module, span, message}. The rules:
+//   unresolved-import     a specifier leads to no file
+//   uninstalled-package   a package isn't installed (told with `strict` alone)
+//   missing-export        nothing exports the name
+//   circular-export       a name leads only to itself
+//   ambiguous-export      a name leads to several things that differ
+//   duplicate-export      a module exports a name twice
+//   unreadable-module, unparsable-module
+
+const fs = require('fs');
+const path = require('path');
+const { isRelative } = require('./kinds.js');
+const { nearest } = require('./near.js');
+const { differingWays, exportedNames, followed, reached, ringFrom } = require('./ways.js');
+
+// A module's name in a message: a path that begins with a dot, or with the root.
+function named(module) {
+  return path.isAbsolute(module.shown) ? module.shown : `./${module.shown}`;
+}
+
+const meant = (near) => (near === undefined ? '' : ` (did you mean '${near}'?)`);
+
+function namesOf(context, module) {
+  if (!context.names.has(module)) {
+    context.names.set(module, exportedNames(module));
+  }
+  return context.names.get(module);
+}
+
+// What a step of a way does, told at its place.
+function stepMessage({ to, name, isStar }) {
+  if (to.end !== undefined) {
+    return `'${name}' is exported here`;
+  }
+  const source = to.module === undefined ? to.unknown : named(to.module);
+  return isStar ? `all names of ${source} are passed on here` : `'${name}' is '${to.name}' of ${source}`;
+}
+
+const steps = (way) => way.map((step) => ({ module: step.module, span: step.span, message: stepMessage(step) }));
+
+// What to say of a name that a module lacks.
+function lackOf(context, { module, name }, local) {
+  if (module.kind === 'json' || module.kind === 'script') {
+    return `'${name}' is not exported by ${named(module)}: it has a default export only`;
+  }
+  const entry = module.outline.exports.get(name);
+  if (entry !== undefined) {
+    return `'${name}' is exported by ${named(module)}, but '${entry.local}' is not declared there`;
+  }
+  const names = namesOf(context, module);
+  if (name === 'default') {
+    const braces = names.has(local) ? ` (did you mean '{ ${local} }'?)` : '';
+    return `${named(module)} has no default export${braces}`;
+  }
+  const near = context.nearest(name, names);
+  const only = near === undefined && names.size === 1 && names.has('default') ? ': it has a default export only' : meant(near);
+  return `'${name}' is not exported by ${named(module)}${only}`;
+}
+
+function missing(context, from, { local }) {
+  const { last, steps: way } = followed(from);
+  return { rule: 'missing-export', message: lackOf(context, last, way.length === 0 ? local : undefined), related: steps(way) };
+}
+
+// Where the ring is one of `export *` alone, none of its modules names what is wanted: they don't export it.
+function circular(context, from, wanted) {
+  const way = ringFrom(from);
+  if (way.every(({ isStar }) => isStar)) {
+    return missing(context, from, wanted);
+  }
+  return { rule: 'circular-export', message: `'${from.name}' leads only to itself`, related: steps(way) };
+}
+
+function ambiguous(context, from) {
+  const ways = differingWays(from);
+  const ends = ways.map((way) => named(way[way.length - 1].module));
+  const message = `'${from.name}' is ambiguous: ${ends.join(' and ')} both export it`;
+  return { rule: 'ambiguous-export', message, related: ways.flatMap(steps) };
+}
+
+const FAULTS = { missing, ring: circular, ambiguous };
+
+// The finding on a name that is wanted of a module. There is none where a module of which nothing is known may export it.
+function nameFinding(context, { module, span, from, local, word }) {
+  if (word !== 'ambiguous' && reached(from).unknown.length > 0) {
+    context.notes.push({ kind: 'unknown', module, span, name: from.name });
+    return [];
+  }
+  return [{ ...FAULTS[word](context, from, { local }), module, span }];
+}
+
+const hasFault = ({ outcome }) => Object.hasOwn(FAULTS, outcome.word);
+
+function importFindings(context, imports) {
+  return imports.filter(hasFault).flatMap(({ module, wanted, outcome }) => {
+    const from = { module: wanted.specifier.to.module, name: wanted.name };
+    return nameFinding(context, { module, span: wanted.span, from, local: wanted.local, word: outcome.word });
+  });
+}
+
+// An export that leads nowhere is told where it stands; one of a name that the module imports was told at the import.
+function exportFindings(context, exports) {
+  const own = exports.filter(hasFault).filter(({ module, entry }) => entry.what === 'passed' || module.outline.declared.has(entry.local) || !isImported(module, entry));
+  return own.flatMap(({ module, entry, outcome }) => {
+    const to = entry.specifier === null ? null : entry.specifier.to.module;
+    const from = to === null ? { module, name: entry.name } : { module: to, name: entry.local };
+    return nameFinding(context, { module, span: entry.span, from, local: undefined, word: outcome.word });
+  });
+}
+
+const isImported = (module, entry) => module.outline.imports.some((one) => one.local === entry.local);
+
+const ENDING = /(?:\.d)?\.[a-z]+$/i;
+const stemOf = (file) => file.replace(ENDING, '');
+const endingOf = (file) => (ENDING.exec(file) || [''])[0];
+
+// The file of the folder that the specifier may mean: the same name with another ending, or else a name that is near.
+function nearFile(context, wanted, files) {
+  const ending = endingOf(wanted);
+  const stem = stemOf(wanted);
+  const same = files.find((file) => stemOf(file) === stem && file !== wanted);
+  if (same !== undefined) {
+    return same;
+  }
+  const near = context.nearest(stem, files.filter((file) => ending === '' || endingOf(file) === ending).map(stemOf));
+  return near === undefined ? undefined : `${near}${ending}`;
+}
+
+function nearPath(context, module, text) {
+  const wanted = path.basename(text);
+  const folder = path.resolve(path.dirname(module.file), path.dirname(text));
+  if (!context.folders.has(folder)) {
+    context.folders.set(folder, listed(folder));
+  }
+  const near = text.endsWith(wanted) ? nearFile(context, wanted, context.folders.get(folder)) : undefined;
+  return near === undefined ? undefined : `${text.slice(0, text.length - wanted.length)}${near}`;
+}
+
+function listed(folder) {
+  try {
+    return fs.readdirSync(folder);
+  } catch {
+    return [];
+  }
+}
+
+function specifierFindings(context, module) {
+  return module.specifiers.flatMap((specifier) => {
+    const { to, span, text } = specifier;
+    if (to.nowhere !== undefined) {
+      const near = isRelative(text) ? nearPath(context, module, text) : undefined;
+      return [{ rule: 'unresolved-import', module, span, message: `${to.nowhere}${meant(near)}`, related: [] }];
+    }
+    if (to.why === 'absent') {
+      context.notes.push({ kind: 'absent', module, span, name: text });
+      return context.strict ? [{ rule: 'uninstalled-package', module, span, message: `'${text}' is not installed`, related: [] }] : [];
+    }
+    if (to.module !== undefined && to.module.kind === 'unreadable' && !to.module.isPackaged) {
+      return [{ rule: 'unreadable-module', module, span, message: `'${text}' leads to ${named(to.module)}: ${to.module.refusal.message}`, related: [] }];
+    }
+    return [];
+  });
+}
+
+// The byte of a place in the string, as spans have it.
+function spanAt(module, index) {
+  const start = Buffer.byteLength(module.text.slice(0, index ?? 0), 'utf8');
+  return { start, end: start };
+}
+
+function moduleFindings(context, module) {
+  if (module.kind === 'refused') {
+    return [{ rule: 'unparsable-module', module, span: spanAt(module, module.refusal.index), message: module.refusal.message, related: [] }];
+  }
+  const repeated = module.outline === null ? [] : module.outline.repeated;
+  return [
+    ...specifierFindings(context, module),
+    ...repeated.map(({ name, span, first }) => ({
+      rule: 'duplicate-export', module, span, message: `'${name}' is exported twice`, related: [{ module, span: first, message: 'it is exported here' }],
+    })),
+  ];
+}
+
+function inOrder(a, b) {
+  return a.module.number - b.module.number || a.span.start - b.span.start || a.span.end - b.span.end;
+}
+
+// All findings, and notes on what isn't known, in the order of modules and places. What stands in packages is told where
+// `packages` is set, and where an entry is a file of a package.
+function findingsOf({ modules, entries }, outcomes, { strict = false, packages = false }) {
+  const context = { strict, nearest: nearest(), names: new Map(), folders: new Map(), notes: [] };
+  const tellsPackages = packages || entries.some((entry) => entry.isPackaged);
+  const isTold = ({ module }) => tellsPackages || !module.isPackaged;
+  const told = modules.filter((module) => isTold({ module }));
+  const all = [
+    ...told.flatMap((module) => moduleFindings(context, module)),
+    ...importFindings(context, outcomes.imports.filter(isTold)),
+    ...exportFindings(context, outcomes.exports.filter(isTold)),
+  ];
+  return { findings: all.sort(inOrder), notes: context.notes.sort(inOrder) };
+}
+
+module.exports = { findingsOf };
