@@ -4,7 +4,7 @@
 const { load } = require('../source-to-tree/load.js');
 
 // The names of the language, which each file knows.
-const LANGUAGE = 'es2021';
+const LANGUAGE = 'builtin';
 
 // Where nobody names an environment: what Node and browsers share, and those of which a file has one of these names, free.
 const SHARED = 'shared-node-browser';

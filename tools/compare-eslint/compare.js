@@ -15,7 +15,7 @@ const OURS = { env: ENVIRONMENTS, only: Object.values(RULES), rules: { 'no-unuse
 
 function knownNames() {
   const globals = load('globals');
-  const names = ['es2021', ...ENVIRONMENTS].flatMap((name) => Object.keys(globals[name]));
+  const names = ['builtin', ...ENVIRONMENTS].flatMap((name) => Object.keys(globals[name]));
   return Object.fromEntries(names.map((name) => [name, 'readonly']));
 }
 
@@ -51,9 +51,8 @@ function onlyIn(found, others) {
   return found.filter((one) => !places.has(placeOf(one)));
 }
 
-// What both tell of a file, or null where one of them can't read it.
-function compareFile(linter, globals, file) {
-  const text = readPlain(file);
+// What both tell of a text, or null where one of them can't read it.
+function compareText(linter, globals, file, text) {
   const ours = bolgwyr.check(text, { file, ...OURS });
   if (ours.some(({ rule }) => rule === 'syntax')) {
     return null;
@@ -82,25 +81,44 @@ function tellSum({ files, unread, both, kinds }) {
   }
 }
 
-// `--all` shows each difference, not only those of no known kind.
-function compareFiles(words) {
-  const linter = new (load('eslint').Linter)();
-  const globals = knownNames();
+// Whether the example of each kind differs in that kind alone.
+function tryExamples(linter, globals) {
+  const wrong = Object.entries(KINDS).filter(([kind, { example: [file, text] }]) => {
+    const differences = compareText(linter, globals, file, text)?.differences ?? [];
+    const kinds = [...new Set(differences.map((difference) => difference.kind))];
+    console.log(`${kinds.join() === kind ? 'ok' : `FAILED, found: ${kinds.join() || 'nothing'}`}: ${kind}`);
+    return kinds.join() !== kind;
+  });
+  return wrong.length === 0 ? 0 : 1;
+}
+
+function compareAll(linter, globals, files, showsAll) {
   const sum = { files: 0, unread: 0, both: 0, kinds: new Map() };
-  for (const { file } of sourcesOf(words.filter((word) => word !== '--all'))) {
-    const found = compareFile(linter, globals, file);
+  for (const file of files) {
+    const found = compareText(linter, globals, file, readPlain(file));
     sum.files += found === null ? 0 : 1;
     sum.unread += found === null ? 1 : 0;
     sum.both += found?.both ?? 0;
     for (const difference of found?.differences ?? []) {
       sum.kinds.set(difference.kind, (sum.kinds.get(difference.kind) ?? 0) + 1);
-      if (words.includes('--all') || difference.kind === UNKNOWN) {
+      if (showsAll || difference.kind === UNKNOWN) {
         show(file, difference);
       }
     }
   }
   tellSum(sum);
   return sum.kinds.has(UNKNOWN) ? 1 : 0;
+}
+
+// Compares files; without any, an example of each kind. `--all` shows each difference, not only those of no known kind.
+function compareFiles(words) {
+  const linter = new (load('eslint').Linter)();
+  const globals = knownNames();
+  const names = words.filter((word) => word !== '--all');
+  if (names.length === 0) {
+    return tryExamples(linter, globals);
+  }
+  return compareAll(linter, globals, sourcesOf(names).map(({ file }) => file), words.includes('--all'));
 }
 
 module.exports = { compareFiles };

@@ -59,40 +59,50 @@ function isOfBlock({ message }, text) {
   return new RegExp(`\\{\\s*function\\s+${nameIn(message).replace(/\$/g, '\\$')}\\b`).test(text);
 }
 
+// `example` is a file's name and its text, in which all differences are of the kind.
 const KINDS = {
   'used by what is unused': {
+    example: ['a.js', 'function one() { other(); }\nfunction other() { one(); }\n'],
     why: 'here also what only unused functions and classes use is told, and what use each other alone',
     holds: ({ side, message }) => side === 'here' && message.endsWith('is used only by what is never used'),
   },
   eval: {
+    example: ['a.js', '(function () { var seen = 1; eval(""); })();\n'],
     why: 'here all that a direct call of `eval` may name is in use',
     holds: (difference, text, tables) => difference.side === 'there' && isInEval(difference, tables),
   },
   'function in a block': {
+    example: ['a.js', '{ function f() {} }\nf();\n'],
     why: 'in sloppy code its name is that of the function or program around, here as in the Standard; there it is the block\'s alone',
     holds: (difference, text) => isOfBlock(difference, text),
   },
   'parameter with a default': {
+    example: ['a.mjs', 'export function f(a, b = 1) { return 1; }\n'],
     why: 'there it counts as used for the parameters before it, and is told itself whatever stands behind it',
     holds: (difference, text, tables) => difference.rule === 'no-unused' && isParameterByDefault(difference, text, tables),
   },
   'name of catch': {
+    example: ['a.js', 'try {} catch (e) { var e = 1; }\n'],
     why: 'a `var` with the name of a parameter of `catch` is one symbol with it here; there are two',
     holds: (difference, text, tables) => isOfCatch(difference, tables),
   },
   'changes itself': {
+    example: ['a.mjs', 'let a = 0; a++;\nlet b = 0; b += 1;\nlet c = 0; c = c + 1;\n'],
     why: 'there `a++`, `a += 1` and `a = a + 1` as statements use nothing; here they read what they change',
     holds: (difference, text, tables) => difference.side === 'there' && difference.rule === 'no-unused' && updatesItself(difference, tables, text),
   },
   'function of a variable': {
+    example: ['a.mjs', 'const f = function () { f(); };\n'],
     why: 'there a variable that holds a function isn\'t used by that function; here only function and class declarations are asked',
     holds: (difference, text, tables) => difference.side === 'there' && usesItself(difference, tables, text),
   },
   JSX: {
+    example: ['a.jsx', 'import Part from "./part.js";\nexport default () => <Part />;\n'],
     why: 'here the name of an element is a use; there a rule of a plug-in says so',
     holds: ({ side, rule, message }, text) => side === 'there' && rule === 'no-unused' && text.includes(`<${nameIn(message)}`),
   },
   'loop that returns': {
+    example: ['a.js', 'for (var k in {}) { return; }\n'],
     why: 'there the name of a `for-in` that only returns is used',
     holds: (difference, text) => difference.side === 'here' && /^[\w$]+\s+in\b.*\breturn\b/.test(behind(text, difference)),
   },
