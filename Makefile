@@ -6,7 +6,7 @@ DESTDIR ?=
 
 # Programs without a proof, but for those that are proved already.
 all:
-	@python3 tools/programs/build.py report_main tools_main
+	@python3 tools/programs/build.py report_main tools_main >/dev/null
 
 prove:
 	@python3 tools/programs/prove.py report_main tools_main
