@@ -4,8 +4,7 @@
 const { load } = require('../../source-to-tree/load.js');
 const { say, tell } = require('../../analyse/output.js');
 const { printable } = require('../../analyse/refusal.js');
-const { RenameRefusal, checkName, rename } = require('../../rename/index.js');
-const { renameInProject } = require('../../rename/project.js');
+const { RenameRefusal, checkName, rename, renameInProject } = require('../../rename/index.js');
 const { coloured, diffLines } = require('../../rename/diff.js');
 const { textOf, writeFiles } = require('../../rename/files.js');
 const { STATUS, UsageFault } = require('../faults.js');
