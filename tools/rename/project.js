@@ -126,7 +126,7 @@ function refuseOtherLinks(project, changes, asked) {
 
 function warningsOf(project, followers, name) {
   const { entries } = project.linked.set;
-  return entries.filter((entry) => followers.exporting.includes(entry)).map((entry) => `\`${name}\` is exported by the entry ${entry.shown}: others may import it`);
+  return entries.filter((entry) => followers.exporting.has(entry)).map((entry) => `\`${name}\` is exported by the entry ${entry.shown}: others may import it`);
 }
 
 function renamedInAll(project, module, symbol, to) {

@@ -114,6 +114,7 @@ function faults({ at, put, run }, expect) {
   expect('no identifier', '2 bolgwyr: "a-b" is no identifier', lines(['sum.mjs:3:7', 'a-b']));
   expect('an empty name', '2 bolgwyr: "" is no identifier', lines(['sum.mjs:3:7', '']));
   expect('an escape', '2 bolgwyr: "\\\\u0061" is no identifier: escapes are refused', lines(['sum.mjs:3:7', '\\u0061']));
+  expect('words that part', '2 bolgwyr: --project goes with neither --parser nor --goal', lines(['sum.mjs:3:7', 'a', '--goal', 'script', '--project', 'sum.mjs']));
   expect('a missing file', '3 bolgwyr: none.mjs: no such file', lines(['none.mjs:3:7', 'a']));
   expect('a folder', '3 bolgwyr: .: is a folder', lines(['.:3:7', 'a']));
   put('bytes.js', Buffer.from([0x61, 0xff]));

@@ -77,6 +77,9 @@ function show({ changes, warnings }, to, { json, write }) {
 function run(word, to, settings) {
   const { file, ...place } = placeOf(word);
   checkName(to);
+  if (settings.project !== undefined && (settings.parser !== undefined || settings.goal !== undefined)) {
+    throw new UsageFault('--project goes with neither --parser nor --goal');
+  }
   let answer;
   try {
     answer = found(file, place, to, settings);
