@@ -14,7 +14,7 @@ const fs = require('fs');
 const path = require('path');
 const { isRelative } = require('./kinds.js');
 const { nearest } = require('./near.js');
-const { differingWays, exportedNames, followed, reached, ringFrom } = require('./ways.js');
+const { differingWays, exportedNames, followed, importOf, reached, ringFrom } = require('./ways.js');
 
 // A module's name in a message: a path that begins with a dot, or with the root.
 function named(module) {
@@ -103,15 +103,13 @@ function importFindings(context, imports) {
 
 // An export that leads nowhere is told where it stands; one of a name that the module imports was told at the import.
 function exportFindings(context, exports) {
-  const own = exports.filter(hasFault).filter(({ module, entry }) => entry.what === 'passed' || module.outline.declared.has(entry.local) || !isImported(module, entry));
+  const own = exports.filter(hasFault).filter(({ module, entry }) => entry.what === 'passed' || importOf(module, entry.local) === undefined);
   return own.flatMap(({ module, entry, outcome }) => {
     const to = entry.specifier === null ? null : entry.specifier.to.module;
     const from = to === null ? { module, name: entry.name } : { module: to, name: entry.local };
     return nameFinding(context, { module, span: entry.span, from, local: undefined, word: outcome.word });
   });
 }
-
-const isImported = (module, entry) => module.outline.imports.some((one) => one.local === entry.local);
 
 const ENDING = /(?:\.d)?\.[a-z]+$/i;
 const stemOf = (file) => file.replace(ENDING, '');

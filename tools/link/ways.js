@@ -5,6 +5,8 @@
 // the export which leads on, and `to` is {module, name}, {end} or, where nothing is known, {unknown}. Each look is linear in
 // what it reaches.
 
+const { isDeclarations } = require('./kinds.js');
+
 const keyOf = ({ module, name }) => `${module.number} ${name}`;
 
 function importOf(module, local) {
@@ -44,6 +46,13 @@ const TARGETS = {
   default: (module, entry) => [{ end: entry.local === null ? `default of ${module.number}` : `${module.number} ${entry.local}` }],
 };
 
+// What else may export a name: other modules add to it, and for declarations of a package without a default export TypeScript
+// may make one, by its settings.
+function unknownOf(module, name) {
+  const made = name === 'default' && isDeclarations(module.file) ? ['a default export that TypeScript makes'] : [];
+  return module.isAugmented ? ['a module that adds to it', ...made] : made;
+}
+
 const BEGINNING = { start: 0, end: 0 };
 
 // The steps from a name that a module exports.
@@ -56,9 +65,9 @@ function stepsFrom({ module, name }) {
   if (entry !== undefined) {
     return TARGETS[entry.what](module, entry).map((to) => step(to, entry.span));
   }
-  const added = module.isAugmented ? [step({ unknown: 'a module that adds to it' }, BEGINNING)] : [];
+  const unknown = unknownOf(module, name).map((what) => step({ unknown: what }, BEGINNING));
   const stars = name === 'default' ? [] : module.outline.stars;
-  return [...added, ...stars.map((star) => step(wantedOf(star.specifier, name), star.span, true))];
+  return [...unknown, ...stars.map((star) => step(wantedOf(star.specifier, name), star.span, true))];
 }
 
 // All that a name reaches, nearest first: {names, ends, unknown}. Each has `before`, by which the way there is found.
@@ -165,4 +174,4 @@ function exportedNames(module) {
   return names;
 }
 
-module.exports = { differingWays, exportedNames, followed, reached, ringFrom };
+module.exports = { differingWays, exportedNames, followed, importOf, reached, ringFrom };
