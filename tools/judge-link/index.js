@@ -107,14 +107,19 @@ function nodeAnswers(projects) {
   return JSON.parse(run.stdout);
 }
 
-function ownAnswers(projects) {
-  return withFolder((folder) => projects.map((project) => {
-    Object.entries(project).forEach(([name, text]) => fs.writeFileSync(path.join(folder, name), text));
-    return linkSet([Object.keys(project)[0]], { cwd: folder }).findings.map(({ module, span, rule, message }) => (
-      { file: module.shown, line: module.positions.placeOf(span.start).line, rule, name: /^'(.*?)'/.exec(message)?.[1] }
-    ));
-  }));
+// Findings, and the lines of imports and exports that lead to a namespace.
+function ownAnswer(project, folder) {
+  Object.entries(project).forEach(([name, text]) => fs.writeFileSync(path.join(folder, name), text));
+  const { findings, outcomes } = linkSet([Object.keys(project)[0]], { cwd: folder });
+  const placed = ({ module, span }) => ({ file: module.shown, line: module.positions.placeOf(span.start).line });
+  const led = [...outcomes.imports.map(({ module, wanted, outcome }) => ({ module, span: wanted.span, outcome })), ...outcomes.exports.map(({ module, entry, outcome }) => ({ module, span: entry.span, outcome }))];
+  return {
+    findings: findings.map((finding) => ({ ...placed(finding), rule: finding.rule, name: /^'(.*?)'/.exec(finding.message)?.[1] })),
+    namespaces: led.filter(({ outcome }) => outcome.word === 'namespace').map(placed).map(lineAt),
+  };
 }
+
+const ownAnswers = (projects) => withFolder((folder) => projects.map((project) => ownAnswer(project, folder)));
 
 const lineAt = ({ file, line }) => `${file}:${line}`;
 const namedBy = (error) => /name(?:d)? '(.*?)'/.exec(error.message)[1];
@@ -123,7 +128,9 @@ const isAmbiguous = ({ message }) => /conflicting star exports/.test(message);
 // Where Node differs from the Standard or tells another place, by name:
 //   star   an ambiguous name is told where it is imported; Node tells it at the `export *` that meets both
 //   cycle  a name has a ring and another way out; Node says that it found a ring, the Standard goes the other way
+//   namespace  of a namespace that several modules import and export each is ambiguous with the others, here they are one
 const DIFFERENCES = {
+  namespace: (error, { namespaces }) => isAmbiguous(error) && namespaces.includes(lineAt(error)),
   star: (error, { project, own }) => isAmbiguous(error) && project[error.file].split('\n')[error.line - 1].startsWith('export * from')
     && own.some(({ rule, name }) => rule === 'ambiguous-export' && name === namedBy(error)),
   cycle: (error, { standard }) => /Detected cycle/.test(error.message) && !standard.includes(lineAt(error)),
@@ -145,14 +152,15 @@ function compareNode({ own, theirs, ...others }) {
 }
 
 // The same for the Standard's algorithm. An import that is exported is told once, at the import.
-function compareStandard({ own, standard, project }) {
+function compareStandard({ own, namespaces, standard, project }) {
   const lines = own.map(lineAt);
   const isExportOfImport = (line) => {
     const [file, number] = line.split(':');
     return /^export \{ \w+ as \w+ \};$/.test(project[file].split('\n')[number - 1]) && lines.includes(`${file}:${number - 1}`);
   };
   return {
-    lost: standard.filter((line) => !lines.includes(line) && !isExportOfImport(line)),
+    lost: standard.filter((line) => !lines.includes(line) && !isExportOfImport(line) && !namespaces.includes(line)),
+    accounted: standard.filter((line) => namespaces.includes(line)),
     more: lines.filter((line) => !standard.includes(line)),
   };
 }
@@ -165,6 +173,7 @@ function tellNode(all) {
   const whole = all.filter(({ theirs }) => theirs.isWhole).length;
   console.log(`node: ${errors.length} errors of Node: ${kinds[0]} missing, ${kinds[1]} ambiguous, ${kinds[2]} rings; ${whole} projects to the end`);
   console.log(`node: accounted for by name: ${sums.join(', ')}`);
+  console.log(`node: beside the Standard ${all.flatMap(({ byStandard }) => byStandard.accounted).length} namespace`);
   console.log(`node: the Standard's algorithm tells ${all.flatMap(({ standard }) => standard).length} lines, bolgwyr ${all.flatMap(({ own }) => own).length}`);
 }
 
@@ -175,7 +184,7 @@ function node({ seed, count = 200 }) {
   const projects = Array.from({ length: count }, () => projectOf(random));
   const [owns, theirs] = [ownAnswers(projects), nodeAnswers(projects)];
   const all = projects.map((project, place) => {
-    const one = { project, own: owns[place], theirs: theirs[place], standard: faultsOf(project) };
+    const one = { project, own: owns[place].findings, namespaces: owns[place].namespaces, theirs: theirs[place], standard: faultsOf(project) };
     return { ...one, byNode: compareNode(one), byStandard: compareStandard(one) };
   });
   const differing = all.filter(({ byNode, byStandard }) => isDiffering(byNode) || isDiffering(byStandard));

@@ -33,11 +33,17 @@ function moduleOf(text) {
   const statements = text.split('\n').map((line, place) => statementOf(line, place + 1));
   const imports = of(statements, 'imported');
   const indirect = of(statements, 'passed');
+  const own = of(statements, 'exported');
   for (const { local, name, line } of of(statements, 'listed')) {
     const imported = imports.find((one) => one.local === local);
-    indirect.push({ wanted: imported.name, name, file: imported.file, line });
+    // A namespace that is imported and exported is a binding of the module itself.
+    if (imported.name === null) {
+      own.push({ name, binding: local });
+    } else {
+      indirect.push({ wanted: imported.name, name, file: imported.file, line });
+    }
   }
-  return { imports, indirect, local: of(statements, 'exported'), stars: of(statements, 'star') };
+  return { imports, indirect, local: own, stars: of(statements, 'star') };
 }
 
 // {file, binding}, null where nothing is found or what is found is circular, or 'ambiguous'. A namespace binds null.
