@@ -19,9 +19,9 @@ function programOf() {
   return program;
 }
 
-// The report of a tree, or why there is none.
-function reportOf(json) {
-  const run = spawnSync(programOf(), { input: json, maxBuffer: 1 << 30 });
+// The report of a tree, or why there is none. The words are the report program's.
+function reportOf(json, words = []) {
+  const run = spawnSync(programOf(), words, { input: json, maxBuffer: 1 << 30 });
   if (run.status === 0 || run.status === 1) return { report: run.stdout.toString() };
   return { refused: `status ${run.status}: ${run.stderr.toString().trim()}` };
 }
