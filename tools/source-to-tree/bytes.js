@@ -4,7 +4,6 @@
 const QUOTE = 0x22;
 const BACKSLASH = 0x5c;
 const ZERO = 0x30;
-const MOST_PER_UNIT = 3; // bytes of UTF-8 for a unit of UTF-16
 
 // How many decimal digits a number has.
 function digitsOf(value) {
@@ -80,7 +79,7 @@ class Bytes {
 
   // Any string, and room for it.
   string(text) {
-    this.reserve(MOST_PER_UNIT * text.length);
+    this.reserve(Buffer.byteLength(text));
     this.end += this.buffer.utf8Write(text, this.end);
   }
 }
