@@ -105,10 +105,10 @@ function meanwhile({ at, put, read, run }, expect) {
 
 function faults({ at, put, run }, expect) {
   const lines = (words) => { const { status, errs } = run(words); return `${status} ${errs.split('\n')[0]}`; };
-  expect('no words', "2 error: missing required argument 'place'", lines([]));
-  expect('one word', "2 error: missing required argument 'name'", lines(['sum.mjs:3:7']));
-  expect('a word too many', '2 error: too many arguments for \'rename\'. Expected 2 arguments but got 3.', lines(['sum.mjs:3:7', 'a', 'b']));
-  expect('an unknown word', "2 error: unknown option '--wrong'", lines(['sum.mjs:3:7', 'a', '--wrong']));
+  expect('no words', "2 bolgwyr: missing required argument 'place'", lines([]));
+  expect('one word', "2 bolgwyr: missing required argument 'name'", lines(['sum.mjs:3:7']));
+  expect('a word too many', '2 bolgwyr: too many arguments for \'rename\'. Expected 2 arguments but got 3.', lines(['sum.mjs:3:7', 'a', 'b']));
+  expect('an unknown word', "2 bolgwyr: unknown option '--wrong'", lines(['sum.mjs:3:7', 'a', '--wrong']));
   expect('no place', '2 bolgwyr: "sum.mjs" is no place: FILE:LINE:COLUMN, both from 1, or FILE:NAME', lines(['sum.mjs', 'a']));
   expect('column 0', '2 bolgwyr: "sum.mjs:3:0" is no place: FILE:LINE:COLUMN, both from 1, or FILE:NAME', lines(['sum.mjs:3:0', 'a']));
   expect('no identifier', '2 bolgwyr: "a-b" is no identifier', lines(['sum.mjs:3:7', 'a-b']));
@@ -118,7 +118,7 @@ function faults({ at, put, run }, expect) {
   expect('a missing file', '3 bolgwyr: none.mjs: no such file', lines(['none.mjs:3:7', 'a']));
   expect('a folder', '3 bolgwyr: .: is a folder', lines(['.:3:7', 'a']));
   put('bytes.js', Buffer.from([0x61, 0xff]));
-  expect('no UTF-8', '3 bolgwyr: bytes.js: not UTF-8 at byte 1', lines(['bytes.js:1:1', 'a']));
+  expect('no UTF-8', '3 bolgwyr: bytes.js:1:2: not UTF-8 at byte 1', lines(['bytes.js:1:1', 'a']));
   put('broken.js', 'let a = 1 +;\n');
   expect('a syntax error', '3 bolgwyr: broken.js:1:12: Unexpected token', lines(['broken.js:1:5', 'b']));
   expect('a line beyond the last', '1 sum.mjs: there is no line 9: the last one is 7', lines(['sum.mjs:9:1', 'a']));
