@@ -43,14 +43,16 @@ expect "report" "$(bin/bolgwyr report "$room/elsewhere/sum.js")" "$(installed "$
 expect "the programs run too" "$(bin/report <samples/function.json)" "$(installed "$prefix/lib/bolgwyr/bin/report" <samples/function.json)"
 installed "$prefix/bin/bolgwyr" prove >"$room/said" 2>&1
 expect "an installed copy proves nothing" "3 1" "$? $(wc -l <"$room/said")"
-for command in $(bin/bolgwyr --help | sed -n '/^Commands:/,/^$/s/^  \([a-z-]*\) .*/\1/p'); do
-    expect "bolgwyr $command --help" "$(bin/bolgwyr "$command" --help 2>&1)" "$(installed "$prefix/bin/bolgwyr" "$command" --help 2>&1)"
-    expect "the manual has $command" 1 "$(zgrep -c "^.SS bolgwyr ${command//-/\\\\-} \|^.SS bolgwyr ${command//-/\\\\-}$" "$prefix/share/man/man1/bolgwyr.1.gz")"
-done
-# Each module of a command is loaded, so that none is left out of the copy.
-for module in $(cd "$prefix/lib/bolgwyr" && find tools index.js -name '*.js' ! -name main.js ! -name batch.js ! -name worker.js ! -name once.js); do
-    installed node -e 'require(process.argv[1])' "$prefix/lib/bolgwyr/$module" >"$room/said" 2>&1 || expect "$module is whole" "" "$(grep -m 1 Error "$room/said")"
-done
+manual="$(zcat "$prefix/share/man/man1/bolgwyr.1.gz")"
+expect "the manual has each command" "$(bin/bolgwyr --help | sed -n '/^Commands:/,/^$/s/^  \([a-z-]*\) .*/\1/p' | grep -v '^$\|^help$')" \
+    "$(sed -n 's/^\.SS bolgwyr \([^ ]*\).*/\1/p' <<<"$manual" | tr -d '\\')"
+# Each module is loaded, so that none that another one needs is left out of the copy. Those that run when they
+# are loaded, or in a page, aren't.
+(cd "$prefix/lib/bolgwyr" && grep -rL 'require.main\|process.argv\|workerData\|document\.' --include='*.js' tools index.js) >"$room/modules"
+installed node -e '
+  for (const module of require("fs").readFileSync(process.argv[1], "utf8").trim().split("\n")) require(`${process.argv[2]}/${module}`);
+' "$room/modules" "$prefix/lib/bolgwyr" >"$room/said" 2>&1
+expect "each module is whole" "0 " "$? $(grep -m 1 Error "$room/said")"
 expect "nothing of tests is installed" "" "$(find "$prefix/lib" -name 'test*' -o -name '__pycache__')"
 if command -v man >/dev/null 2>&1; then
     expect "the manual is well formed" "" "$(man --warnings -l "$prefix/share/man/man1/bolgwyr.1.gz" 2>&1 >/dev/null)"
