@@ -42,7 +42,9 @@ function statusOf(error) {
   if (error instanceof CommanderError) {
     return error.exitCode === 0 ? STATUS.CLEAN : STATUS.USAGE;
   }
-  if (error.status === undefined && error.syscall === undefined) {
+  // A module that isn't installed is a refusal of the converter's; what the system refuses names the call.
+  const failed = error.name === 'Refusal' || error.syscall !== undefined;
+  if (error.status === undefined && !failed) {
     throw error;
   }
   tell(`bolgwyr: ${error.message}`);

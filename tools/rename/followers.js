@@ -28,7 +28,7 @@ class Followers {
     this.name = name;
     this.uses = usesByModule(modules);
     this.touched = new Map(); // module -> what changes in it
-    this.exporting = []; // the modules that export the name
+    this.exporting = new Set(); // the modules that export the name
     this.wholes = []; // uses of all that such a module exports
   }
 
@@ -44,12 +44,6 @@ class Followers {
     specifiers.set(start, [...(specifiers.get(start) || []), ...parts]);
   }
 
-  addExporting(module) {
-    if (!this.exporting.includes(module)) {
-      this.exporting.push(module);
-    }
-  }
-
   // A local of the name that a list exports is exported under the new name, too.
   addLocal(module) {
     const entry = module.outline.exports.get(this.name);
@@ -59,7 +53,7 @@ class Followers {
       if (entry.what === 'listed') {
         this.addParts(module, entry.span, ['exported']);
       }
-      this.addExporting(module);
+      this.exporting.add(module);
     }
   }
 
@@ -73,10 +67,10 @@ class Followers {
       const isSame = entry.name === this.name;
       this.addParts(module, entry.span, isSame ? ['local', 'exported'] : ['local']);
       if (isSame) {
-        this.addExporting(module);
+        this.exporting.add(module);
       }
     } else if (way === 'star' && !module.outline.exports.has(this.name)) {
-      this.addExporting(module);
+      this.exporting.add(module);
     } else if (way === 'namespace' || way === 'whole') {
       this.wholes.push({ module, wanted, specifier });
     }
@@ -87,6 +81,7 @@ class Followers {
 function followersOf(modules, origin, name) {
   const followers = new Followers(modules, name);
   followers.addLocal(origin);
+  // Modules that are added meanwhile are visited, too.
   for (const module of followers.exporting) {
     followers.uses.get(module).forEach((use) => followers.follow(use));
   }

@@ -4,6 +4,7 @@
 const { UsageFault } = require('../bolgwyr/faults.js');
 const { analysed } = require('./analysed.js');
 const { isIdentifier } = require('./identifier.js');
+const { renameInProject } = require('./project.js');
 const { RenameRefusal } = require('./refusal.js');
 const { symbolAt } = require('./symbol-at.js');
 const { renameSymbol } = require('./symbol.js');
@@ -11,6 +12,14 @@ const { renameSymbol } = require('./symbol.js');
 function checkName(name) {
   if (!isIdentifier(name)) {
     throw new UsageFault(`${JSON.stringify(name)} is no identifier${name.includes('\\') ? ': escapes are refused' : ''}`);
+  }
+}
+
+const isCount = (number) => Number.isInteger(number) && number > 0;
+
+function checkPlace({ line, column, name }) {
+  if (name === undefined && !(isCount(line) && isCount(column))) {
+    throw new UsageFault('a place has a line and a column, both from 1, or a name');
   }
 }
 
@@ -24,6 +33,7 @@ function checkName(name) {
 function rename(text, options) {
   const { filename, parser, goal, line, column, name, to, map = false } = options;
   checkName(to);
+  checkPlace({ line, column, name });
   const analysis = analysed(text, { filename, ...(parser && { parser }), ...(goal && { goal }) });
   let symbol;
   try {
@@ -38,4 +48,4 @@ function rename(text, options) {
   return { text: renamed, edits, map: sourceMap, warnings };
 }
 
-module.exports = { RenameRefusal, checkName, rename };
+module.exports = { RenameRefusal, checkName, rename, renameInProject };

@@ -96,11 +96,12 @@ function refuseTaken(followers, to) {
 }
 
 // The new text of a module, with its tree.
-function changeOf(project, module, { specifiers, isLocal, isExported: isDeclared }, { symbol, name, to }) {
-  const analysis = project.analysisOf(module);
+function changeOf(project, module, { specifiers, isLocal, isExported: isDeclared }, { name, to }) {
+  const [start] = specifiers.keys();
   if (module.isPackaged) {
-    throw new RenameRefusal('this file is of a package', symbol.span);
+    throw new RenameRefusal('this file is of a package', { start, end: start });
   }
+  const analysis = project.analysisOf(module);
   if (!isLocal) {
     return renameSpecifiers(analysis, specifiers, to);
   }
@@ -125,7 +126,7 @@ function refuseOtherLinks(project, changes, asked) {
 
 function warningsOf(project, followers, name) {
   const { entries } = project.linked.set;
-  return entries.filter((entry) => followers.exporting.includes(entry)).map((entry) => `\`${name}\` is exported by the entry ${entry.shown}: others may import it`);
+  return entries.filter((entry) => followers.exporting.has(entry)).map((entry) => `\`${name}\` is exported by the entry ${entry.shown}: others may import it`);
 }
 
 function renamedInAll(project, module, symbol, to) {
@@ -133,7 +134,7 @@ function renamedInAll(project, module, symbol, to) {
   const followers = followersOf(project.linked.set.modules, module, name);
   refuseTaken(followers, to);
   followers.wholes.forEach((whole) => inModule(whole.module, () => refuseWhole(project.analysisOf(whole.module), whole, name)));
-  const changes = changesOf(project, followers, { symbol, name, to });
+  const changes = changesOf(project, followers, { name, to });
   refuseOtherLinks(project, changes, { name, to });
   return {
     changes: changes.map(({ module: { file, shown, text }, found }) => ({ file, shown, before: text, after: found.text, edits: found.edits })),

@@ -6,6 +6,8 @@ const os = require('os');
 const path = require('path');
 const { spawnSync } = require('child_process');
 const { programPath } = require('../programs/index.js');
+const { renameInProject } = require('../rename/project.js');
+const PROJECTS = require('./projects.js');
 
 const COMMAND = path.join(__dirname, '..', 'bolgwyr', 'main.js');
 
@@ -103,23 +105,56 @@ function meanwhile({ at, put, read, run }, expect) {
 
 function faults({ at, put, run }, expect) {
   const lines = (words) => { const { status, errs } = run(words); return `${status} ${errs.split('\n')[0]}`; };
-  expect('no words', "2 error: missing required argument 'place'", lines([]));
-  expect('one word', "2 error: missing required argument 'name'", lines(['sum.mjs:3:7']));
-  expect('a word too many', '2 error: too many arguments for \'rename\'. Expected 2 arguments but got 3.', lines(['sum.mjs:3:7', 'a', 'b']));
-  expect('an unknown word', "2 error: unknown option '--wrong'", lines(['sum.mjs:3:7', 'a', '--wrong']));
+  expect('no words', "2 bolgwyr: missing required argument 'place'", lines([]));
+  expect('one word', "2 bolgwyr: missing required argument 'name'", lines(['sum.mjs:3:7']));
+  expect('a word too many', '2 bolgwyr: too many arguments for \'rename\'. Expected 2 arguments but got 3.', lines(['sum.mjs:3:7', 'a', 'b']));
+  expect('an unknown word', "2 bolgwyr: unknown option '--wrong'", lines(['sum.mjs:3:7', 'a', '--wrong']));
   expect('no place', '2 bolgwyr: "sum.mjs" is no place: FILE:LINE:COLUMN, both from 1, or FILE:NAME', lines(['sum.mjs', 'a']));
   expect('column 0', '2 bolgwyr: "sum.mjs:3:0" is no place: FILE:LINE:COLUMN, both from 1, or FILE:NAME', lines(['sum.mjs:3:0', 'a']));
   expect('no identifier', '2 bolgwyr: "a-b" is no identifier', lines(['sum.mjs:3:7', 'a-b']));
   expect('an empty name', '2 bolgwyr: "" is no identifier', lines(['sum.mjs:3:7', '']));
   expect('an escape', '2 bolgwyr: "\\\\u0061" is no identifier: escapes are refused', lines(['sum.mjs:3:7', '\\u0061']));
+  expect('words that part', '2 bolgwyr: --project goes with neither --parser nor --goal', lines(['sum.mjs:3:7', 'a', '--goal', 'script', '--project', 'sum.mjs']));
   expect('a missing file', '3 bolgwyr: none.mjs: no such file', lines(['none.mjs:3:7', 'a']));
   expect('a folder', '3 bolgwyr: .: is a folder', lines(['.:3:7', 'a']));
   put('bytes.js', Buffer.from([0x61, 0xff]));
-  expect('no UTF-8', '3 bolgwyr: bytes.js: not UTF-8 at byte 1', lines(['bytes.js:1:1', 'a']));
+  expect('no UTF-8', '3 bolgwyr: bytes.js:1:2: not UTF-8 at byte 1', lines(['bytes.js:1:1', 'a']));
   put('broken.js', 'let a = 1 +;\n');
   expect('a syntax error', '3 bolgwyr: broken.js:1:12: Unexpected token', lines(['broken.js:1:5', 'b']));
   expect('a line beyond the last', '1 sum.mjs: there is no line 9: the last one is 7', lines(['sum.mjs:9:1', 'a']));
   expect('a column beyond the line', '1 sum.mjs: line 1 has no column 15: it has 14 characters', lines(['sum.mjs:1:15', 'a']));
+}
+
+// Renamings across modules. Entries are files of the name `app`.
+function projects({ at, put, read }, expect) {
+  for (const [number, { name, files, rename: [file, symbol, to], wanted, refused }] of PROJECTS.entries()) {
+    const folder = `project${number}`;
+    for (const [each, content] of Object.entries(files)) {
+      fs.mkdirSync(path.dirname(at(`${folder}/${each}`)), { recursive: true });
+      put(`${folder}/${each}`, content);
+    }
+    const entry = Object.keys(files).find((each) => each.startsWith('app.'));
+    expect(name, JSON.stringify(wanted === undefined ? refused : byName(wanted)), JSON.stringify(changed({ file, name: symbol, to, entries: [entry], cwd: at(folder) })));
+  }
+  const [first] = PROJECTS;
+  const run = bench(at('project0')).run(['a.mjs:area', 'surface', '--write', '--project', 'app.mjs']);
+  expect('several files', '0||a.mjs: 2 places renamed\napp.mjs: 3 places renamed\n', told(run));
+  expect('what is written to them', JSON.stringify(first.wanted), JSON.stringify({ 'a.mjs': read('project0/a.mjs'), 'app.mjs': read('project0/app.mjs') }));
+}
+
+const byName = (texts) => Object.fromEntries(Object.entries(texts).sort(([a], [b]) => (a < b ? -1 : 1)));
+
+// The texts of files that change, or the first line of a refusal.
+function changed(options) {
+  try {
+    const { changes } = renameInProject(options);
+    return byName(Object.fromEntries(changes.map(({ shown, after }) => [shown, after])));
+  } catch (error) {
+    if (error.linesFor === undefined) {
+      throw error;
+    }
+    return error.linesFor(error.file || options.file)[0];
+  }
 }
 
 function commands(expect) {
@@ -130,6 +165,7 @@ function commands(expect) {
     writing(own, expect);
     meanwhile(own, expect);
     faults(own, expect);
+    projects(own, expect);
   } finally {
     fs.rmSync(folder, { recursive: true });
   }

@@ -4,8 +4,7 @@
 const { load } = require('../../source-to-tree/load.js');
 const { say, tell } = require('../../analyse/output.js');
 const { printable } = require('../../analyse/refusal.js');
-const { RenameRefusal, checkName, rename } = require('../../rename/index.js');
-const { renameInProject } = require('../../rename/project.js');
+const { RenameRefusal, checkName, rename, renameInProject } = require('../../rename/index.js');
 const { coloured, diffLines } = require('../../rename/diff.js');
 const { textOf, writeFiles } = require('../../rename/files.js');
 const { STATUS, UsageFault } = require('../faults.js');
@@ -78,6 +77,9 @@ function show({ changes, warnings }, to, { json, write }) {
 function run(word, to, settings) {
   const { file, ...place } = placeOf(word);
   checkName(to);
+  if (settings.project !== undefined && (settings.parser !== undefined || settings.goal !== undefined)) {
+    throw new UsageFault('--project goes with neither --parser nor --goal');
+  }
   let answer;
   try {
     answer = found(file, place, to, settings);
