@@ -33,9 +33,10 @@ for crate in report_main tools_main; do
     echo "$crate ${ready%% *}" >>"$lib/programs/states"
 done
 
-# The tools that package.json lists.
+# The tools that package.json lists, and behind them, with a !, what is left out.
 cd "$top"
 node -p 'require("./package.json").files.join("\n")' | while read -r part; do
+    case "$part" in !*) rm -rf "$lib/${part#!}"; continue ;; esac
     [ -e "$part" ] || fail "$part isn't there, and package.json lists it"
     mkdir -p "$lib/$(dirname "$part")"
     cp -R "$part" "$lib/$part"

@@ -1,45 +1,49 @@
-"""How a build is ended from without: what it started ends with it, and its own end tells which signal it was."""
+"""How a build is ended from without: what it started ends with it, and its own end tells which signal it was. A build looks for that
+between its steps alone, so that nothing is left half started."""
 
 import contextlib
+import fcntl
 import os
 import signal
 import subprocess
+import time
 
 SIGNALS = signal.SIGINT, signal.SIGTERM, signal.SIGHUP
+# How often a build looks whether it is to end, and what ended meanwhile, in seconds.
+LOOKS_EVERY = 0.2
 
 
 class Ended(Exception):
-    """A signal asks to end."""
+    """A signal asks to end, or whoever started this is gone."""
 
     def __init__(self, number):
         super().__init__(number)
         self.number = number
 
 
-def raise_ended(number, _):
-    # A second signal must not break off the clearing up.
-    for it in SIGNALS:
-        signal.signal(it, signal.SIG_IGN)
-    raise Ended(number)
+class Caller:
+    """Whoever started this process. Signals that it asks to ignore stay ignored."""
 
+    def __init__(self, is_needed):
+        self.parent = os.getppid() if is_needed else None
+        self.asked = None
+        for number in SIGNALS:
+            if signal.getsignal(number) != signal.SIG_IGN:
+                signal.signal(number, self.note)
 
-def heed_signals():
-    """Has signals raise Ended, but for those that whoever started this asks to ignore."""
-    for number in SIGNALS:
-        if signal.getsignal(number) != signal.SIG_IGN:
-            signal.signal(number, raise_ended)
-
-
-class Parent:
-    """Whoever started this process, if the build is to end with it."""
-
-    def __init__(self, is_heeded):
-        self.number = os.getppid() if is_heeded else None
+    def note(self, number, _):
+        self.asked = self.asked or number
 
     def heed(self):
-        """Raises Ended if it is gone."""
-        if self.number is not None and os.getppid() != self.number:
+        """Raises Ended if a signal came or, where it is needed, whoever started this is gone."""
+        if self.asked:
+            raise Ended(self.asked)
+        if self.parent is not None and os.getppid() != self.parent:
             raise Ended(signal.SIGTERM)
+
+    def pause(self):
+        time.sleep(LOOKS_EVERY)
+        self.heed()
 
 
 def end_by(number):
@@ -59,3 +63,20 @@ def end(process):
         with contextlib.suppress(ProcessLookupError):
             os.killpg(process.pid, signal.SIGKILL)
         process.wait()
+
+
+@contextlib.contextmanager
+def turn(path, caller, say_waiting):
+    """Waits until no other process has its turn at a file of the repository, and keeps others out until it is left."""
+    with open(path, encoding="utf-8") as held:
+        is_waiting = False
+        while True:
+            try:
+                fcntl.flock(held, fcntl.LOCK_EX | fcntl.LOCK_NB)
+                break
+            except BlockingIOError:
+                if not is_waiting:
+                    say_waiting()
+                is_waiting = True
+                caller.pause()
+        yield

@@ -17,7 +17,7 @@ FUNCTIONS_FOR_CRATE = 10
 FUNCTIONS_FOR_CRATE_BELOW = 2
 LINES_FOR_FUNCTION = 9
 ANSWERS = "Answers.antt", "Invariants.antt", "Proof.antt"
-SECONDS_FOR_FUNCTION = 1.0
+SECONDS_FOR_FUNCTION = 2.0
 
 # A large crate may get two jobs, which take so much of the time of one.
 FUNCTIONS_FOR_JOB = 40

@@ -1,16 +1,16 @@
 """Proves and builds programs and static libraries, and says how far it is.
-usage: prove.py [--with-parent] CRATE..
+usage: prove.py [--with-parent] [--gate-since FILE] CRATE..
 
 The crates that they stand on are proved side by side, each over what those below it state, as the gate proves them, by the
 `rattle` of the kit that `rt` belongs to: rt proves one crate at a time of those that share a library, and a library that it builds
 for that holds proofs too, so that a crate over many of them takes up to three times as long. What is proved stands in
 `crates/NAME/out/proved`, with a checksum of all that it was proved from, so that a build that is broken off goes on from there,
 and another program's takes it. A build that fails ends with its log, and with status 1. With --with-parent it ends when whoever started
-it is gone."""
+it is gone. With --gate-since it takes the programs that a gate has built which passed and began when FILE was last written, if no source is
+newer; whoever calls it knows that the gate passed."""
 
 import argparse
 import contextlib
-import fcntl
 import hashlib
 import os
 import re
@@ -24,13 +24,10 @@ import time
 sys.dont_write_bytecode = True
 
 from crates import SOURCES_AND_PROOFS, TOP, Listed, Stamp, add_files, bytes_in, checksum_of, files_of, folder_of
-from ended import Ended, Parent, end, end_by, heed_signals, start
+from ended import Caller, Ended, end, end_by, start, turn
 from forecast import Forecast, functions_of, jobs_for, measured, work_of
 from kit import Kit, Unbuilt
 from progress import Progress
-
-# How often it looks whether a proof ended, in seconds.
-LOOKS_EVERY = 0.2
 
 # The memory that a proof may take, in bytes.
 MEMORY_OF_PROOF = 3_000_000_000
@@ -63,6 +60,21 @@ class Crate:
         self.wanted = self.checksum()
         self.running, self.begun, self.jobs, self.log = None, None, 0, None
         self.is_done = os.path.exists(self.made()) and self.proved_from() == self.wanted
+
+    def take_from_gate(self, since):
+        """Takes the program that a gate has built since then, in nanoseconds, unless a source is newer, and tells whether it could."""
+        crates = [self.name, *[it.name for it in self.below]]
+        sources = [f"{TOP}/crates.txt", *(path for crate in crates for path in files_of(crate, SOURCES_AND_PROOFS))]
+        built = f"{self.at}/out/{self.name}"
+        # What was changed and changed back has another time of change.
+        is_changed = any(max(os.stat(it).st_mtime_ns, os.stat(it).st_ctime_ns) >= since for it in sources)
+        if is_changed or not os.path.exists(built) or os.stat(built).st_mtime_ns < since:
+            return False
+        os.makedirs(self.out, exist_ok=True)
+        shutil.copy(built, f"{self.out}/new")
+        os.replace(f"{self.out}/new", self.made())
+        self.note_proved()
+        return True
 
     def checksum(self):
         """A checksum of all that the crate is proved from."""
@@ -130,11 +142,14 @@ class Crate:
         if is_proved and self.is_program:
             is_proved = self.link()
         if is_proved:
-            with open(f"{self.out}/proved-from", "w", encoding="utf-8") as file:
-                file.write(self.wanted)
+            self.note_proved()
             with open(f"{self.out}/took", "w", encoding="utf-8") as file:
                 file.write(f"{self.name} {self.took:.0f}\n")
-        self.is_done = is_proved
+
+    def note_proved(self):
+        with open(f"{self.out}/proved-from", "w", encoding="utf-8") as file:
+            file.write(self.wanted)
+        self.is_done = True
 
     def link(self):
         """Links the program, which then has a stamp too, and tells whether it could."""
@@ -163,7 +178,7 @@ class Crate:
 class Proof:
     """The crates on the way to some programs and static libraries, lowest first, of which some are done."""
 
-    def __init__(self, names, kit, progress, parent):
+    def __init__(self, names, kit, progress, caller):
         listed = Listed()
         made, known = {}, measured()
         for name in names:
@@ -173,14 +188,16 @@ class Proof:
                     made[it] = Crate(it, listed, below, kit, known)
         self.names = " and ".join(names)
         self.asked = [made[it] for it in names]
-        self.crates = [*made.values()]
+        # What is done needs nothing below it.
+        needed = {it for crate in self.asked if not crate.is_done for it in [crate, *crate.below]}
+        self.crates = [it for it in made.values() if it in needed]
         for crate in reversed(self.crates):
-            for below in (made[it] for it in listed.named[crate.name] if it in made):
+            for below in (made[it] for it in crate.libraries if it in made):
                 below.chain = max(below.chain, below.work + crate.chain)
         memory = os.sysconf("SC_PAGE_SIZE") * os.sysconf("SC_PHYS_PAGES")
         self.processors = min(len(os.sched_getaffinity(0)), max(memory // MEMORY_OF_PROOF, 1))
         self.forecast = Forecast(self.crates, self.processors)
-        self.progress, self.parent = progress, parent
+        self.progress, self.caller = progress, caller
 
     def show(self):
         """Shows how far the proof is."""
@@ -202,8 +219,7 @@ class Proof:
         """Proves all that is left, and gives the crate of one that can't be, if there is one."""
         while not all(it.is_done for it in self.crates):
             self.start_ready()
-            time.sleep(LOOKS_EVERY)
-            self.parent.heed()
+            self.caller.pause()
             for crate in [it for it in self.at_work() if it.has_ended()]:
                 crate.finish()
                 if not crate.is_done:
@@ -211,25 +227,16 @@ class Proof:
                 self.forecast.note(crate, crate.elapsed())
             if self.progress.is_due():
                 self.show()
+        self.stamp()
+        return None
+
+    def stamp(self):
         for crate in self.asked:
             crate.stamp()
-        return None
 
     def end(self):
         for it in self.crates:
             it.end()
-
-
-@contextlib.contextmanager
-def alone(progress):
-    """Waits until no other proof is at work in this repository, and keeps others out until it is left."""
-    with open(f"{TOP}/crates.txt", encoding="utf-8") as held:
-        try:
-            fcntl.flock(held, fcntl.LOCK_EX | fcntl.LOCK_NB)
-        except BlockingIOError:
-            progress.say("another call proves in this repository; this one waits")
-            fcntl.flock(held, fcntl.LOCK_EX)
-        yield
 
 
 def minutes_for(crate, kit):
@@ -237,8 +244,17 @@ def minutes_for(crate, kit):
     return Proof([crate], kit, None, None).forecast.seconds_left() / 60
 
 
-def prove(names, progress, parent):
-    proof = Proof(names, Kit(), progress, parent)
+def take_from_gate(names, file, progress):
+    proof = Proof(names, Kit(), progress, None)
+    since = os.stat(file).st_mtime_ns
+    for crate in proof.asked:
+        if not crate.is_done and not crate.take_from_gate(since):
+            raise Unbuilt(f"{crate.name}: a source changed since the gate began, or the gate has left no program: `bolgwyr prove` proves it")
+    proof.stamp()
+
+
+def prove(names, progress, caller):
+    proof = Proof(names, Kit(), progress, caller)
     try:
         failed = proof.run()
     finally:
@@ -251,14 +267,18 @@ def prove(names, progress, parent):
 def main():
     words = argparse.ArgumentParser(usage=__doc__.partition("usage: ")[2].partition("\n")[0], add_help=False)
     words.add_argument("--with-parent", action="store_true")
+    words.add_argument("--gate-since")
     words.add_argument("crates", nargs="+")
     given = words.parse_args()
     names = given.crates
-    progress = Progress()
-    heed_signals()
+    progress, caller = Progress(), Caller(given.with_parent)
+    say_waiting = lambda: progress.say("another call proves in this repository; this one waits")
     try:
-        with alone(progress):
-            prove(names, progress, Parent(given.with_parent))
+        with turn(f"{TOP}/crates.txt", caller, say_waiting):
+            if given.gate_since:
+                take_from_gate(names, given.gate_since, progress)
+            else:
+                prove(names, progress, caller)
     except Ended as ended:
         progress.say(f"{' and '.join(names)}: broken off; the next call goes on from here")
         end_by(ended.number)
