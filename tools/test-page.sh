@@ -1,5 +1,5 @@
 #!/bin/sh
-# Makes pages with bin/scopes and tries them in a headless Chromium: clicks, keys, parts of the address, a page of ten
+# Makes pages with bolgwyr scopes and tries them in a headless Chromium: clicks, keys, parts of the address, a page of ten
 # thousand lines, and pictures in light and dark. They stay in the folder given as word, else in a scratch one that goes.
 set -eu
 here="$(cd "$(dirname "$0")" && pwd)"
@@ -11,9 +11,15 @@ else
     trap 'rm -rf "$folder"' EXIT
 fi
 cd "$here/analyse/test"
-"$here/../bin/scopes" shown.mjs >"$folder/shown.html"
-BOLGWYR_REPORT=./stored-report.sh "$here/../bin/scopes" faulty.ts >"$folder/faulty.html"
+bolgwyr="$here/../bin/bolgwyr"
+"$bolgwyr" scopes shown.mjs -o "$folder/shown.html"
+# The page of a report that has lines of every kind.
+mkdir -p "$folder/programs"
+cp stored-report.sh faulty.report "$folder/programs"
+mv "$folder/programs/stored-report.sh" "$folder/programs/report_main"
+ln -sf "${BOLGWYR_PROGRAMS:-$here/../crates/tools_main/out}/tools_main" "$folder/programs/tools_main"
+BOLGWYR_PROGRAMS="$folder/programs" "$bolgwyr" scopes faulty.ts -o "$folder/faulty.html"
 node long-source.js >"$folder/long.mjs"
-"$here/../bin/scopes" "$folder/long.mjs" >"$folder/long.html"
+"$bolgwyr" scopes "$folder/long.mjs" -o "$folder/long.html"
 node whole.js "$folder/shown.html" shown.mjs "$folder/faulty.html" faulty.ts "$folder/long.html" "$folder/long.mjs"
 node page.js "$folder"

@@ -1,17 +1,13 @@
 'use strict';
-// Prints the names that nothing uses, through bin/analyse: node examples/node/unused.js FILE..
+// Prints the names that nothing in use uses, through the module: node examples/node/unused.js FILE..
 
-const { spawnSync } = require('child_process');
-const path = require('path');
+const fs = require('fs');
+const bolgwyr = require('../..');
 
-const analyse = path.join(__dirname, '..', '..', 'bin', 'analyse');
-const run = spawnSync(analyse, ['--json', '--', ...process.argv.slice(2)], { encoding: 'utf8', maxBuffer: Infinity });
-process.stderr.write(run.stderr);
-
-for (const line of run.stdout.split('\n').slice(0, -1)) {
-  const { file, symbols = [] } = JSON.parse(line);
-  for (const { name, span } of symbols.filter((symbol) => symbol.references.length === 0)) {
-    console.log(`${file}:${span.line}:${span.column}: nothing uses ${name}`);
+for (const file of process.argv.slice(2)) {
+  const found = bolgwyr.check(fs.readFileSync(file, 'utf8'), { file, only: ['no-unused'] });
+  for (const { line, column, message } of found) {
+    console.log(`${file}:${line}:${column}: ${message}`);
+    process.exitCode = 1;
   }
 }
-process.exitCode = run.status;

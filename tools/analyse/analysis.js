@@ -1,12 +1,12 @@
 'use strict';
-// One file's way: source, tree, report.
+// One text's way: source, tree, report.
 
+const { checkSize, readText } = require('./files.js');
 const { Positions } = require('./positions.js');
+const { RefusedTree, ask } = require('./program.js');
 const { Refusal } = require('./refusal.js');
-const { RefusedTree, runReport } = require('./program.js');
-const { checkSize } = require('./files.js');
-const { BOUNDS, convert, readTree } = require('./tree.js');
 const { parseReport } = require('./report-parser.js');
+const { BOUNDS, convertText, readTree } = require('./tree.js');
 
 // Whether the tree has a row of this number; a refused tree may be anything.
 function hasRow(tree, id) {
@@ -31,29 +31,39 @@ function explain(refusal, tree) {
   return new Refusal(`its tree is refused: ${cause} at node ${id} (${row.kind})`, place);
 }
 
-function askProgram(tree, words) {
+// The answer of a tool on a tree, or a Refusal with the place to blame.
+function askAbout(tree, tool, words) {
   try {
-    return runReport(tree.json, words);
+    return ask(tool, words, tree.json);
   } catch (error) {
     throw error instanceof RefusedTree ? explain(error.refusal, tree) : error;
   }
 }
 
-// The tree of a file and the text of its report, with the milliseconds of each part.
-function analyseFile(file, settings) {
+// The tree of a text and the text of its report, with the milliseconds of each part. Settings: `file`, `words` for the
+// report program, `tree` where the text is a tree already, `parser` and `goal`.
+function analyseText(text, settings) {
   const clock = { parser: 0, conversion: 0 };
   const started = performance.now();
-  const tree = settings.tree ? readTree(file) : convert(file, settings, clock);
+  const tree = settings.tree ? readTree(text) : convertText(text, { ...settings, clock });
   const converted = performance.now();
   checkSize(tree.json.length, 'its tree');
-  const answer = askProgram(tree, settings.words);
+  const { stdout, status } = askAbout(tree, 'report', settings.words);
   const times = {
-    reading: converted - started - clock.parser - clock.conversion,
     parser: clock.parser,
-    conversion: clock.conversion,
+    conversion: converted - started - clock.parser,
     analysis: performance.now() - converted,
   };
-  return { file, tree, words: settings.words, bytes: answer.bytes, diagnosed: answer.diagnosed, times };
+  return { file: settings.file, tree, words: settings.words, bytes: stdout, diagnosed: status === 1, times };
+}
+
+// The same of a file. Its reading counts, too.
+function analyseFile(file, settings) {
+  const started = performance.now();
+  const text = readText(file);
+  const reading = performance.now() - started;
+  const found = analyseText(text, { file, ...settings });
+  return { ...found, times: { reading, ...found.times } };
 }
 
 // The same with the report read, and the places of its nodes.
@@ -74,4 +84,4 @@ function readAnalysis(analysis) {
   };
 }
 
-module.exports = { analyseFile, readAnalysis };
+module.exports = { analyseFile, analyseText, askAbout, explain, readAnalysis };

@@ -1,6 +1,6 @@
 #!/usr/bin/env node
 'use strict';
-// One job of bin/analyse-all: batch.js SETTINGS NAME.. writes the result of each file, and a row on standard output for
+// One job of bolgwyr tables --out: batch.js SETTINGS NAME.. writes the result of each file, and a row on standard output for
 // each. SETTINGS is JSON. The names are those of files below a folder, or that of a bundle of files, which is answered by
 // a bundle of results. Status 0 says that all have their results, refused files too.
 
@@ -55,7 +55,7 @@ function main([text, ...names]) {
     }
     return 0;
   } catch (error) {
-    tell(`analyse-all: ${error.message}`);
+    tell(`bolgwyr: ${error.message}`);
     return 3;
   }
 }

@@ -1,9 +1,9 @@
 'use strict';
-// GNU parallel, which runs the jobs of bin/analyse-all on this machine and on others.
+// GNU parallel, which runs the jobs of a folder on this machine and on others.
 
 const { spawn, spawnSync } = require('child_process');
 const path = require('path');
-const { ProgramFault, programPath } = require('./program.js');
+const { RunFault } = require('../bolgwyr/faults.js');
 
 const BATCH = path.join(__dirname, 'batch.js');
 
@@ -13,15 +13,16 @@ const quoted = (text) => `'${text.replace(/'/g, "'\\''")}'`;
 function checkEngine() {
   const run = spawnSync('parallel', ['--version'], { encoding: 'utf8' });
   if (run.error !== undefined || !run.stdout.startsWith('GNU parallel')) {
-    throw new ProgramFault('GNU parallel is wanted (apt-get install parallel)');
+    throw new RunFault('GNU parallel is wanted (apt-get install parallel)');
   }
 }
 
-// The command of one job. Other machines get the program's place too.
+// The command of one job. Other machines get the place of the programs too, where it is named.
 function jobCommand(settings) {
   const words = JSON.stringify(settings);
-  const report = `BOLGWYR_REPORT=${quoted(programPath())}`;
-  return `${report} node --max-old-space-size=8192 ${quoted(BATCH)} ${quoted(words)} {}`;
+  const place = process.env.BOLGWYR_PROGRAMS;
+  const programs = place ? `BOLGWYR_PROGRAMS=${quoted(path.resolve(place))} ` : '';
+  return `${programs}node --max-old-space-size=8192 ${quoted(BATCH)} ${quoted(words)} {}`;
 }
 
 // What the engine does for other machines. Bundles go to a folder there that is taken away again.

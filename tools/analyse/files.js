@@ -16,8 +16,9 @@ const CAUSES = {
   ENAMETOOLONG: 'its name is too long',
 };
 
+// With commas between thousands.
 function counted(number) {
-  return number.toLocaleString('en-US');
+  return String(number).replace(/\B(?=(?:\d{3})+$)/g, ',');
 }
 
 // Refuses what is longer than any tree that is taken.
@@ -27,8 +28,20 @@ function checkSize(size, what) {
   }
 }
 
+let input = null;
+
+// Standard input, which can be read once.
+function inputBytes() {
+  input ??= fs.readFileSync(0);
+  return input;
+}
+
+// The bytes of a file; `-` is standard input.
 function bytesOf(file) {
   try {
+    if (file === '-') {
+      return inputBytes();
+    }
     checkSize(fs.statSync(file).size, 'the file');
     return fs.readFileSync(file);
   } catch (error) {
@@ -39,7 +52,7 @@ function bytesOf(file) {
   }
 }
 
-// The first byte that belongs to no character.
+// The first byte that belongs to no character. Before it all is text.
 function firstFault(bytes, text) {
   const again = Buffer.from(text, 'utf8');
   let place = 0;
@@ -49,14 +62,16 @@ function firstFault(bytes, text) {
   return place;
 }
 
-// The text of a file, which has to be UTF-8. A byte order mark stays.
-function readText(file) {
-  const bytes = bytesOf(file);
+// The text of bytes, which have to be UTF-8. A byte order mark stays.
+function decode(bytes) {
   const text = bytes.toString('utf8');
   if (Buffer.byteLength(text, 'utf8') !== bytes.length || !Buffer.from(text, 'utf8').equals(bytes)) {
-    throw new Refusal(`not UTF-8 at byte ${firstFault(bytes, text)}`);
+    const start = firstFault(bytes, text);
+    throw new Refusal(`not UTF-8 at byte ${start}`, { start });
   }
   return text;
 }
 
-module.exports = { checkSize, readText };
+const readText = (file) => decode(bytesOf(file));
+
+module.exports = { bytesOf, checkSize, decode, readText };

@@ -2,6 +2,7 @@
 // Standard output and standard error, written at once and whole.
 
 const fs = require('fs');
+const { RunFault } = require('../bolgwyr/faults.js');
 
 // Writes all of it, also where a pipe is full. A reader that went away ends the command quietly.
 function writeAll(descriptor, content) {
@@ -15,7 +16,7 @@ function writeAll(descriptor, content) {
         process.exit(process.exitCode || 0);
       }
       if (error.code !== 'EAGAIN') {
-        throw error;
+        throw new RunFault(`the output can't be written: ${error.message}`);
       }
     }
   }

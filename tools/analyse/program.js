@@ -1,53 +1,17 @@
 'use strict';
-// Runs the report program on a tree.
+// What the programs answer on a tree.
 
-const fs = require('fs');
-const path = require('path');
-const { spawnSync } = require('child_process');
-const { tell } = require('./output.js');
+const { RunFault } = require('../bolgwyr/faults.js');
+const { programPath, runTool, TOOLS } = require('../programs/index.js');
 const { Refusal } = require('./refusal.js');
 
-const ROOT = path.join(__dirname, '..', '..');
-
-// The program can't be started or doesn't know the words that were asked for: no file would get on.
-class ProgramFault extends Error {
-  constructor(message, status = 3) {
-    super(message);
-    this.status = status;
-  }
-}
-
-// The report program: the one named by BOLGWYR_REPORT, else the repository's own.
-function programPath() {
-  const named = process.env.BOLGWYR_REPORT || path.join(ROOT, 'bin', 'report');
-  return named.includes('/') ? path.resolve(named) : named;
-}
-
-const BUILT = path.join(ROOT, 'crates', 'report_main', 'out', 'report_main');
-
-// Says why nothing is heard for long, where the repository's own program isn't built yet.
-function announceBuild() {
-  if (!process.env.BOLGWYR_REPORT && !fs.existsSync(BUILT)) {
-    tell('the report program is proved and built first, which takes tens of minutes');
-  }
-}
-
-// What each exit status without a report means for a file.
+// What each exit status without an answer means for a file.
 const CAUSES = new Map([
-  [4, 'too large: its tree is longer than the report program takes'],
-  [5, 'the report program could not read the tree'],
-  [6, 'the report program could not write the report'],
-  [7, 'too large: the report program wants more memory'],
+  [4, 'too large: its tree is longer than the program takes'],
+  [5, 'the program could not read the tree'],
+  [6, 'the program could not write its answer'],
+  [7, 'too large: the program wants more memory'],
 ]);
-
-// What a refused tree's line says: the cause, and the node to blame if there is one.
-function readRefusal(line) {
-  const found = /^tree: (.*?)(?: at (node|comment) (\d+))?$/.exec(line);
-  if (found === null) {
-    return null;
-  }
-  return { cause: found[1], kind: found[2], id: found[3] === undefined ? null : Number(found[3]) };
-}
 
 // A tree that the program refused, before the place is told.
 class RefusedTree extends Error {
@@ -57,41 +21,37 @@ class RefusedTree extends Error {
   }
 }
 
-function fail(program, run) {
-  const line = run.stderr.toString('utf8').trim().split('\n').pop();
-  if (run.status === 2) {
-    throw new ProgramFault(`${program} doesn't know these words: ${line}`, 2);
-  }
-  if (CAUSES.has(run.status)) {
-    throw new Refusal(CAUSES.get(run.status));
-  }
-  const refusal = run.status === 3 ? readRefusal(line) : null;
-  if (refusal !== null) {
-    throw new RefusedTree(refusal);
-  }
-  if (run.signal !== null) {
-    throw new Refusal(`the report program was ended by ${run.signal}`);
-  }
-  throw new ProgramFault(`${program}: status ${run.status}${line === '' ? '' : `: ${line}`}`);
+// What a refused tree's line says: the cause, and the node to blame if there is one.
+function readRefusal(line) {
+  const found = /^(?:tree: )?(.*?)(?: at (node|comment) (\d+))?$/.exec(line);
+  return { cause: found[1], kind: found[2], id: found[3] === undefined ? null : Number(found[3]) };
 }
 
-// A report is never empty.
-function hasReport(run) {
-  return (run.status === 0 || run.status === 1) && run.stdout.length > 0;
+// Throws what a run without an answer means.
+function fail(tool, { status, signal, stderr }) {
+  const program = programPath(TOOLS[tool].crate);
+  const line = stderr.trim().split('\n').pop();
+  if (CAUSES.has(status)) {
+    throw new Refusal(CAUSES.get(status));
+  }
+  if (status === 3 && line.startsWith('tree: ')) {
+    throw new RefusedTree(readRefusal(line));
+  }
+  if (signal) {
+    throw new Refusal(`${program} was ended by ${signal}`);
+  }
+  throw new RunFault(`${program}: status ${status}${line === '' ? '' : `: ${line}`}`);
 }
 
-// The report of a tree, and whether there are diagnostics.
-function runReport(treeText, words) {
-  const program = programPath();
-  announceBuild();
-  const run = spawnSync(program, words, { input: treeText, maxBuffer: Infinity });
-  if (run.error !== undefined && run.status === null && run.signal === null) {
-    throw new ProgramFault(`${program} can't be run: ${run.error.message}`);
-  }
-  if (!hasReport(run)) {
-    fail(program, run);
-  }
-  return { bytes: run.stdout, diagnosed: run.status === 1 };
+// The run of a tool, where it has an answer: statuses 0 and 1. A report is never empty.
+function answered(tool, run) {
+  const has = (run.status === 0 || run.status === 1) && (tool !== 'report' || run.stdout.length > 0);
+  return has ? run : fail(tool, run);
 }
 
-module.exports = { ProgramFault, RefusedTree, announceBuild, programPath, runReport };
+// The answer of a tool on a tree's text.
+function ask(tool, words, json) {
+  return answered(tool, runTool(tool, words, json));
+}
+
+module.exports = { RefusedTree, answered, ask };

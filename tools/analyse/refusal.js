@@ -1,12 +1,14 @@
 'use strict';
 // Why a file gets no analysis.
 
-// What is said of the file stands in `message`; `line` and `column` are there where one place is to blame.
+// What is said of the file stands in `message`; `line` and `column` are there where one place is to blame, and mostly the
+// byte at which that place begins.
 class Refusal extends Error {
   constructor(message, place = {}) {
     super(message.replace(/\s*[\r\n]+\s*/g, ' '));
     this.line = place.line;
     this.column = place.column;
+    this.start = place.start;
   }
 
   // The one line that names the file, the place and the cause.

@@ -1,10 +1,11 @@
 'use strict';
 // From the text of a report to its scopes, symbols, references and diagnostics.
 
+const { RunFault } = require('../bolgwyr/faults.js');
 const { Cursor } = require('./cursor.js');
 
 // A line that no report has.
-class ReportFault extends Error {
+class ReportFault extends RunFault {
   constructor(lineNumber, line, cause) {
     const shown = line.length > 80 ? `${line.slice(0, 80)}...` : line;
     super(`line ${lineNumber} of the report isn't known: ${cause}: ${shown}`);
@@ -207,7 +208,10 @@ const READERS = new Map([
   ['diag', readDiagnostic],
 ]);
 
-function readLine(line, report) {
+function readLine(line, report, wanted) {
+  if (wanted !== null && !wanted.has(line.slice(0, line.indexOf(' ')))) {
+    return;
+  }
   const cursor = new Cursor(line);
   const reader = READERS.get(cursor.word());
   if (reader === undefined) {
@@ -218,8 +222,8 @@ function readLine(line, report) {
   cursor.end();
 }
 
-// The report that this text is. Anything else is a fault.
-function parseReport(text) {
+// The report that this text is. Anything else is a fault. With a set of first words, what other lines tell is left out.
+function parseReport(text, wanted = null) {
   const report = emptyReport();
   let number = 0;
   let start = 0;
@@ -231,7 +235,7 @@ function parseReport(text) {
       if (end === -1) {
         throw new SyntaxError('the line has no end');
       }
-      readLine(line, report);
+      readLine(line, report, wanted);
     } catch (error) {
       throw error instanceof SyntaxError ? new ReportFault(number, line, error.message) : error;
     }

@@ -30,13 +30,22 @@ class Sum {
   constructor() {
     this.files = 0;
     this.refused = 0;
+    this.unread = 0;
     this.diagnosed = 0;
     this.counts = Object.fromEntries(COUNTS.map((name) => [name, 0]));
   }
 
-  addRefused() {
+  // A file without tables: one whose text is at fault has a place, others could not be read.
+  addRefused(hasPlace = true) {
     this.files += 1;
     this.refused += 1;
+    this.unread += hasPlace ? 0 : 1;
+  }
+
+  // A file whose report went out unread.
+  addReport(isDiagnosed) {
+    this.files += 1;
+    this.diagnosed += isDiagnosed ? 1 : 0;
   }
 
   add(counts) {

@@ -1,8 +1,7 @@
 'use strict';
-// The tree of a file: its text for the report program, and its rows.
+// The tree of a source: its text for the programs, and its rows.
 
 const path = require('path');
-const { readText } = require('./files.js');
 const { Positions } = require('./positions.js');
 const { Refusal } = require('./refusal.js');
 
@@ -15,7 +14,7 @@ const BOUNDS = {
 const CONVERTER = path.join(__dirname, '..', 'source-to-tree', 'convert.js');
 
 // What a fault of the converter means for the file. A parser's place counts units of the string.
-function refusalOf(error, source) {
+function refusalOf(error, text) {
   if (error instanceof RangeError && /call stack/i.test(error.message)) {
     return new Refusal(BOUNDS['too deep']);
   }
@@ -26,47 +25,83 @@ function refusalOf(error, source) {
     const place = typeof error.line === 'number' ? { line: error.line, column: error.column } : {};
     return new Refusal(BOUNDS[error.message] || error.message, place);
   }
-  const mark = source.startsWith('\ufeff') ? 1 : 0;
-  return new Refusal(error.message, new Positions(source).placeAt(error.offset + mark));
+  const index = error.offset + (text.startsWith('\ufeff') ? 1 : 0);
+  const start = Buffer.byteLength(text.slice(0, index));
+  return new Refusal(error.message, { ...new Positions(text).placeAt(index), start });
 }
 
-// A tree's text, and the tree itself once it is asked for.
+// A row of the tree, by the number of its node.
+function rowOf(fields) {
+  const [depth, role, kind, start, end, text, marks] = fields;
+  return { depth, role, kind, span: { start, end }, text, marks };
+}
+
+// The number of each node's parent: the last node before it that is one level higher.
+function parentsOf(rows) {
+  const open = [];
+  return rows.map(([depth], node) => {
+    open[depth] = node;
+    return depth === 0 ? null : open[depth - 1];
+  });
+}
+
+// What stands before the rows, which has no texts.
+function headOf(json) {
+  const end = json.indexOf(',"rows":[');
+  return JSON.parse(`${json.toString('latin1', 0, end)}}`);
+}
+
+// A tree's text, and what stands in it once that is asked for.
 class Tree {
   constructor(json) {
     this.json = json;
-    this.read = null;
+    this.known = {};
+  }
+
+  kept(name, make) {
+    this.known[name] ??= make();
+    return this.known[name];
   }
 
   get value() {
-    if (this.read === null) {
-      this.read = JSON.parse(this.json.toString('utf8'));
-    }
-    return this.read;
+    return this.kept('value', () => JSON.parse(this.json.toString('utf8')));
   }
 
-  // One row, by the number of its node.
+  // `comments` (spans and kinds), `goal` and `lang`, without a reading of the whole tree.
+  get head() {
+    return this.kept('head', () => headOf(this.json));
+  }
+
+  // Whether it is TypeScript's.
+  get isTyped() {
+    return this.head.lang !== 'js' && this.head.lang !== 'jsx';
+  }
+
   row(node) {
-    const [depth, role, kind, start, end, text, marks] = this.value.rows[node];
-    return { depth, role, kind, span: { start, end }, text, marks };
+    return rowOf(this.value.rows[node]);
+  }
+
+  // The number of a node's parent, null for the root.
+  parent(node) {
+    return this.kept('parents', () => parentsOf(this.value.rows))[node];
   }
 }
 
-// The tree that a parser makes of the source. `clock` gets the milliseconds of parser and conversion.
-function convert(file, settings, clock) {
-  const source = readText(file);
+// The tree that a parser makes of a text. Options: `file`, whose name tells language and goal; `parser` and `goal` in place
+// of what it tells; `clock`, which gets the milliseconds of parser and conversion.
+function convertText(text, { file, parser, goal, clock = {} }) {
   const { treeOf } = require(CONVERTER);
   try {
-    const { parser, goal } = settings;
     const options = { filename: file, clock, ...(parser && { parser }), ...(goal && { goal }) };
-    return new Tree(Buffer.from(treeOf(source, options).json));
+    return new Tree(treeOf(text, options).json);
   } catch (error) {
-    throw refusalOf(error, source);
+    throw refusalOf(error, text);
   }
 }
 
-// A tree that stands in the file already.
-function readTree(file) {
-  return new Tree(Buffer.from(readText(file), 'utf8'));
+// A tree that the text is already.
+function readTree(text) {
+  return new Tree(Buffer.from(text, 'utf8'));
 }
 
-module.exports = { BOUNDS, convert, readTree };
+module.exports = { BOUNDS, convertText, readTree };

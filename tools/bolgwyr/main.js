@@ -3,28 +3,36 @@
 // bolgwyr: one command, with a module for each of its commands in commands/.
 
 const { load } = require('../source-to-tree/load.js');
-const { tell } = require('../analyse/output.js');
+const { say, tell } = require('../analyse/output.js');
 const { COMMANDS } = require('./commands/index.js');
 const { STATUS } = require('./faults.js');
-const { version } = require('../../package.json');
+const { versionText } = require('./version.js');
 
 const { Command, CommanderError } = load('commander');
 
 const STATUSES = `
 Status: 0 nothing found; 1 findings; 2 words that aren't known; 3 something could not be read or run.`;
 
+function tellVersion() {
+  say(versionText());
+  throw new CommanderError(0, 'commander.version', '');
+}
+
 function programOf() {
   const program = new Command('bolgwyr')
     .description('Scopes, names and early errors of JavaScript and TypeScript, by an analysis that is proved.')
-    .version(version, '--version', 'tell the version')
+    .option('--version', 'tell the version, and how the programs were made')
+    .on('option:version', tellVersion)
+    .option('--no-color', 'no colours, also in a terminal')
     .showHelpAfterError('(bolgwyr --help tells the words)')
+    .configureOutput({ outputError: (text, write) => write(text.replace(/^error: /, 'bolgwyr: ')) })
     .exitOverride()
     .addHelpText('after', STATUSES);
   for (const { name, add } of COMMANDS) {
     add(program, name);
   }
   for (const command of program.commands) {
-    command.exitOverride().addHelpText('after', STATUSES);
+    command.exitOverride().showHelpAfterError(`(bolgwyr ${command.name()} --help tells the words)`).addHelpText('after', STATUSES);
   }
   return program;
 }

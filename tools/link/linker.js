@@ -125,4 +125,4 @@ function outcomes(modules) {
   };
 }
 
-module.exports = { outcomes };
+module.exports = { linkedName, outcomes };

@@ -1,5 +1,5 @@
 'use strict';
-// What the ending of a file's name tells: its language, its goal, and which parser reads it.
+// What the ending of a file's name tells: its language and its goal.
 
 const LANGUAGES = [
   [/\.d\.[mc]?ts$/i, 'dts'],
@@ -20,8 +20,4 @@ function goalOf(filename) {
   return undefined;
 }
 
-function parserOf(filename) {
-  return languageOf(filename) === 'js' ? 'acorn' : 'typescript';
-}
-
-module.exports = { languageOf, goalOf, parserOf };
+module.exports = { languageOf, goalOf };

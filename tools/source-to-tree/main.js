@@ -5,8 +5,8 @@ const fs = require('fs');
 const { treeOf, Refusal } = require('./convert');
 const { readText } = require('./input');
 
-const USAGE = 'usage: main.js [--parser acorn|typescript|estree] [--goal script|module|commonjs] [--source FILE] [--time] FILE';
-const CHOICES = { '--parser': ['acorn', 'typescript', 'estree'], '--goal': ['script', 'module', 'commonjs'], '--source': null };
+const USAGE = 'usage: main.js [--parser acorn|typescript|estree] [--goal script|module|commonjs] [--parsers FOLDER] [--source FILE] [--time] FILE';
+const CHOICES = { '--parser': ['acorn', 'typescript', 'estree'], '--goal': ['script', 'module', 'commonjs'], '--parsers': null, '--source': null };
 
 function optionsOf(words) {
   const options = { time: false };
@@ -59,8 +59,8 @@ function readTree(file) {
 function convert(options) {
   const clock = {};
   const { text, filename, tree } = inputOf(options);
-  const { parser, goal } = options;
-  const { json } = treeOf(text, { filename, parser, goal, tree, clock });
+  const { parser, goal, parsers } = options;
+  const { json } = treeOf(text, { filename, parser, goal, parsers, tree, clock });
   const started = performance.now();
   writeOut(json);
   clock.writing = performance.now() - started;

@@ -6,16 +6,10 @@ const { ByteOffsets } = require('./spans');
 const { TreeWriter } = require('./writer');
 const { Annotations } = require('./annotations');
 const { lineEndFrom } = require('./trivia');
-const { languageOf, goalOf, parserOf } = require('./languages');
+const { languageOf, goalOf } = require('./languages');
+const { inTurn } = require('./turns');
 
 const MARK = '\ufeff';
-
-// Each way: `read` gives what the parser made of the text, `write` writes the rows below the root and gives the comments.
-const WAYS = {
-  acorn: () => require('./ways/acorn'),
-  typescript: () => require('./ways/typescript'),
-  estree: () => require('./ways/estree'),
-};
 
 function hashbang(writer, text) {
   if (!text.startsWith('#!')) return;
@@ -27,6 +21,10 @@ function commentTexts(comments, offsets) {
   return comments.map(({ block, start, end }) => `[${offsets.at(start)},${offsets.at(end)},"${block ? 'block' : 'line'}"]`);
 }
 
+// JavaScript with elements is JSX.
+const languageIn = (lang, writer) => (lang === 'js' && writer.hasJsx ? 'jsx' : lang);
+
+// Null where the text was read as a script and is found to be a module.
 function write(way, parsed, { source, text, lang, goal }) {
   const offsets = new ByteOffsets(text, source.startsWith(MARK));
   const writer = new TreeWriter(offsets, lang);
@@ -34,9 +32,10 @@ function write(way, parsed, { source, text, lang, goal }) {
   hashbang(writer, text);
   const comments = way.write(parsed, text, writer, new Annotations(text));
   writer.close();
+  if (writer.isModule && parsed.asScript) return null;
   return writer.finish({
     source,
-    lang,
+    lang: languageIn(lang, writer),
     goal: goal || (writer.isModule ? 'module' : parsed.goal || 'script'),
     comments: commentTexts(comments, offsets),
   });
@@ -45,20 +44,29 @@ function write(way, parsed, { source, text, lang, goal }) {
 // What the engine says where the stack ends.
 const isOverflow = (error) => error instanceof RangeError && /call stack/.test(error.message);
 
+// Reads and writes with one parser, and tells how long each took.
+function attempt(turn, request) {
+  const { way, parser, folder } = turn;
+  const { text, clock } = request;
+  const started = performance.now();
+  const parsed = way.read(text, { ...request, parser, folder });
+  const read = performance.now();
+  const json = write(way, parsed, request);
+  if (json === null) return attempt(turn, { ...request, goal: 'module' });
+  clock.parser = read - started;
+  clock.conversion = performance.now() - read;
+  return { json, source: request.source };
+}
+
 // Options are those of `treeOf`.
 function convertOnce(source, options) {
-  const { filename, parser = parserOf(filename), tree, clock = {} } = options;
+  const { filename, tree, clock = {} } = options;
   const text = source.startsWith(MARK) ? source.slice(1) : source;
   const lang = options.lang || languageOf(filename);
   const goal = options.goal || goalOf(filename);
-  const way = WAYS[parser]();
+  const request = { source, text, filename, lang, goal, tree, clock };
   try {
-    const started = performance.now();
-    const parsed = way.read(text, { filename, lang, goal, tree });
-    clock.parser = performance.now() - started;
-    const json = write(way, parsed, { source, text, lang, goal });
-    clock.conversion = performance.now() - started - clock.parser;
-    return { json, source };
+    return inTurn({ ...options, lang }, (turn) => attempt(turn, request));
   } catch (error) {
     throw error instanceof Refusal ? error.placeIn(text) : error;
   }

@@ -9,6 +9,7 @@ class Refusal extends Error {
     this.offset = offset;
     this.line = null;
     this.column = null;
+    this.isForAge = false; // true where a newer parser may read the text
   }
 
   // Finds line and column, both from 1, of the offset in the text.

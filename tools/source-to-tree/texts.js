@@ -29,6 +29,18 @@ function stringValue(raw) {
   });
 }
 
+const PIECE_ESCAPE = /\\(?:u\{([0-9a-fA-F]+)\}|u[0-9a-fA-F]{4}|x[0-9a-fA-F]{2}|0(?![0-9])|([0-9xu])|[^])/g;
+const LAST_POINT = 0x10ffff;
+
+// Where in a piece of a template the first escape stands that has no value there, or -1.
+function uselessEscape(raw) {
+  if (!raw.includes('\\')) return -1;
+  for (const { 1: braced, 2: useless, index } of raw.matchAll(PIECE_ESCAPE)) {
+    if (useless !== undefined || parseInt(braced, 16) > LAST_POINT) return index;
+  }
+  return -1;
+}
+
 // The mark of a number literal.
 function numberBase(raw) {
   if (/^0[bB]/.test(raw)) return 'binary';
@@ -43,4 +55,4 @@ function isJsxReference(name) {
   return !/^[a-z]/.test(name) && !name.includes('-');
 }
 
-module.exports = { wholeCharacters, withLineFeeds, numberBase, stringValue, isJsxReference };
+module.exports = { wholeCharacters, withLineFeeds, numberBase, stringValue, uselessEscape, isJsxReference };

@@ -35,6 +35,7 @@ class TreeWriter {
     this.open_kinds = [];
     this.functions = 0;
     this.isModule = false;
+    this.hasJsx = false;
   }
 
   // A node whose children follow until close.
@@ -60,9 +61,10 @@ class TreeWriter {
     this.close();
   }
 
-  // What tells that the file is a module.
+  // What tells that the file is a module, or has elements.
   notice(kind, depth, text, marks) {
-    if (FUNCTIONS.has(kind)) this.functions++;
+    if (kind.startsWith('JSX')) this.hasJsx = true;
+    else if (FUNCTIONS.has(kind)) this.functions++;
     else if (depth === 1 && MODULE_STATEMENTS.has(kind)) this.isModule = true;
     else if (depth === 2 && kind === 'TSExternalModuleReference') this.isModule = true;
     else if (this.functions === 0 && (kind === 'AwaitExpression' || marks[0] === 'await' || text === 'await using')) this.isModule = true;

@@ -48,7 +48,7 @@ function estree(tally, folder) {
 }
 
 function words(tally, folder) {
-  for (const list of [[], ['--what', 'e.js'], ['--parser', 'babel', 'e.js'], ['--goal'], ['e.js', 'e.js']]) {
+  for (const list of [[], ['--what', 'e.js'], ['--parser', 'esprima', 'e.js'], ['--goal'], ['e.js', 'e.js']]) {
     const { status, stderr } = run(folder, ...list);
     tally.check(`command with ${list.join(' ') || 'nothing'}`, status === 2 && stderr.toString().startsWith('usage: '), `status ${status}`);
   }

@@ -4,6 +4,7 @@
 
 const { load } = require('../source-to-tree/load');
 const { languageOf, goalOf } = require('../source-to-tree/languages');
+const { parsersFor } = require('../source-to-tree/parsers');
 const acorn = require('../source-to-tree/ways/acorn');
 const { convert, checkRows } = require('./small');
 const { JS, ONE_WAY, NEWER } = require('./cases');
@@ -58,16 +59,33 @@ function withRanges(node, text) {
 }
 
 function checkRanges(tally) {
+  const [parser] = parsersFor('acorn', __dirname);
   for (const one of JS.filter(([, filename, source]) => filename === 'x.js' && !/^\ufeff|import|export/.test(source))) {
-    const { ast, comments } = acorn.read(one[2], { lang: 'js' });
+    const { ast, comments } = acorn.read(one[2], { lang: 'js', folder: __dirname, parser });
     checkTree(tally, withRanges({ ...ast, comments: comments.map(commentNode) }, one[2]), [`${one[0]} with ranges`, ...one.slice(1)]);
   }
+}
+
+// Each node with its place in `range`, and another in `start` and `end`.
+function withBoth(node) {
+  if (Array.isArray(node)) return node.map(withBoth);
+  if (node === null || typeof node !== 'object' || node instanceof RegExp) return node;
+  const made = Object.fromEntries(Object.entries(node).map(([field, value]) => [field, withBoth(value)]));
+  return made.start === undefined ? made : { ...made, range: [made.start, made.end], start: 0, end: 0 };
+}
+
+function checkBoth(tally) {
+  const [parser] = parsersFor('acorn', __dirname);
+  const source = 'let a = `b${c}`; /* d */ class E { #f = [, g] }';
+  const { ast, comments } = acorn.read(source, { lang: 'js', folder: __dirname, parser });
+  checkTree(tally, withBoth({ ...ast, comments: comments.map(commentNode) }), ['places told twice', 'x.js', source, []]);
 }
 
 const commentNode = ({ block, start, end }) => ({ type: block ? 'Block' : 'Line', start, end });
 
 function checkDialects(tally) {
   checkRanges(tally);
+  checkBoth(tally);
   let babel;
   try {
     babel = load('@babel/parser');

@@ -8,6 +8,8 @@ const { checkCases, checkStored } = require('./small');
 const { checkDifferences } = require('./compare-scopes');
 const { checkCommands } = require('./commands');
 const { checkDialects } = require('./dialects');
+const { checkAges } = require('./ages');
+const { checkParsers } = require('./parsers');
 const { Files } = require('./files');
 
 const INSTALLED = '/usr/share/nodejs';
@@ -40,6 +42,8 @@ function main(words) {
   checkDialects(tally);
   checkDifferences(tally);
   checkCommands(tally);
+  checkAges(tally);
+  checkParsers(tally);
   console.log(`${checkStored(tally)} stored trees`);
   const files = new Files(tally);
   for (const file of filesOf(words)) files.check(file);

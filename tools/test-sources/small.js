@@ -5,6 +5,7 @@ const fs = require('fs');
 const path = require('path');
 const { treeOf, Refusal } = require('../source-to-tree/convert');
 const { load } = require('../source-to-tree/load');
+const { isBefore } = require('../source-to-tree/parsers');
 const { reportOf } = require('./analysis');
 const { JS, ONE_WAY, NEWER, REFUSED, GOALS } = require('./cases');
 
@@ -45,12 +46,15 @@ function checkBothWays(tally, [name, filename, source, rows]) {
   const refused = trees.map((tree) => tree.refused).filter(Boolean).join(', ');
   if (!tally.check(`${name}: read both ways`, refused === '', refused)) return;
   tally.check(`${name}: equal both ways`, trees[0].json.equals(trees[1].json), `\n${trees[0].json}\n${trees[1].json}`);
+  if (trees[0].json.includes('"lang":"jsx"')) checkAsJsx(tally, name, source, trees[0].json);
   checkRows(tally, name, source, trees[0].json, rows);
 }
 
-function isBefore(version, wanted) {
-  const [a, b] = [version, wanted].map((text) => text.split('.').map(Number));
-  return a[0] < b[0] || (a[0] === b[0] && a[1] < b[1]);
+// Elements give the tree that they give in a file of their own kind.
+function checkAsJsx(tally, name, source, json) {
+  const { goal } = JSON.parse(json);
+  const tree = convert(source, { filename: 'x.jsx', goal });
+  tally.check(`${name}: equal as .jsx`, tree.json !== undefined && tree.json.equals(json), tree.refused);
 }
 
 function checkNewer(tally, [name, filename, source, rows, since]) {

@@ -9,7 +9,7 @@ const RANK = { unmark: 0, mark: 1, scope: 2, name: 3 };
 function nameEvents(model) {
   const events = [];
   for (const symbol of model.symbols) {
-    const look = symbol.references.length === 0 ? 'd u' : 'd';
+    const look = symbol.isUnused ? 'd u' : 'd';
     symbol.declarations.forEach((span, place) => {
       events.push({ type: 'name', span, id: declarationId(symbol.id, place), look, target: `symbol-${symbol.id}` });
     });

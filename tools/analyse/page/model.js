@@ -44,7 +44,8 @@ function unusedLabelModel(analysis, label) {
   return { name: analysis.positions.textOf(span), span: placed(analysis.positions, span) };
 }
 
-function modelOf(analysis) {
+// `unused` are the numbers of symbols that nothing in use uses.
+function modelOf(analysis, unused) {
   const { report, positions } = analysis;
   return {
     file: analysis.file,
@@ -52,7 +53,7 @@ function modelOf(analysis) {
     lang: analysis.lang,
     positions,
     scopes: scopeModels(analysis),
-    symbols: report.symbols.map((symbol) => ({ ...symbol, declarations: declarationsOf(positions, symbol) })),
+    symbols: report.symbols.map((symbol) => ({ ...symbol, declarations: declarationsOf(positions, symbol), isUnused: unused.has(symbol.id) })),
     references: report.references.map((entry) => ({ ...entry, span: placed(positions, analysis.spanOf(entry.node)) })),
     free: report.free,
     unusedLabels: report.unusedLabels.map((label) => unusedLabelModel(analysis, label)),

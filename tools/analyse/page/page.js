@@ -42,8 +42,8 @@ function headerHtml(model) {
 <p class="keys">${keysHtml()}</p>`;
 }
 
-function pageHtml(analysis) {
-  const model = modelOf(analysis);
+function pageHtml(analysis, unused) {
+  const model = modelOf(analysis, unused);
   return `<!DOCTYPE html>
 <html lang="en">
 <head>

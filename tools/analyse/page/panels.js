@@ -22,7 +22,7 @@ function list(items) {
 
 function symbolItem(symbol) {
   const uses = plural(symbol.references.length, 'use');
-  const look = symbol.references.length === 0 ? ' class="unused"' : '';
+  const look = symbol.isUnused ? ' class="unused"' : '';
   return `<li${look}><a href="#symbol-${symbol.id}">${escape(symbol.name)}</a> <small>${placeOf(symbol.span)}, ${uses}</small></li>`;
 }
 

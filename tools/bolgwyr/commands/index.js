@@ -3,8 +3,15 @@
 // process.exitCode, or throws a UsageFault or a RunFault.
 
 const COMMANDS = [
-  { name: 'link', add: require('./link.js').add },
+  { name: 'check', add: require('./check.js').add },
   { name: 'rename', add: require('./rename.js').add },
+  { name: 'link', add: require('./link.js').add },
+  { name: 'tables', add: require('./tables.js').add },
+  { name: 'scopes', add: require('./scopes.js').add },
+  { name: 'lint-names', add: require('./lint-names.js').add },
+  { name: 'report', add: require('./report.js').add },
+  { name: 'tree', add: require('./tree.js').add },
+  { name: 'prove', add: require('./prove.js').add },
 ];
 
 module.exports = { COMMANDS };

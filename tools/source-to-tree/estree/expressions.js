@@ -48,6 +48,7 @@ visit.objectProperty = objectProperty;
 visit.object = plain('ObjectExpression', { properties: 'objectProperty' });
 
 function importCall(c, role, node) {
+  if (node.phase) c.refuse(node, `the tree has no kind for \`import.${node.phase}\``);
   const [argument, options] = node.arguments || [node.source, node.options || node.attributes];
   c.open(role, 'ImportExpression', node);
   visit.expression(c, 'argument', argument);

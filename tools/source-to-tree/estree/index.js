@@ -24,12 +24,13 @@ class EstreeConversion {
     this.annotations = annotations;
   }
 
+  // Where a node has both, `range` is what tools keep right.
   start(node) {
-    return node.start !== undefined ? node.start : node.range[0];
+    return node.range !== undefined ? node.range[0] : node.start;
   }
 
   end(node) {
-    return node.end !== undefined ? node.end : node.range[1];
+    return node.range !== undefined ? node.range[1] : node.end;
   }
 
   nameEnd(start) {
@@ -55,7 +56,7 @@ class EstreeConversion {
   }
 
   refuse(node, message) {
-    throw new Refusal(message, node && (node.start !== undefined || node.range) ? this.start(node) : null);
+    throw new Refusal(message, node && (node.range || node.start !== undefined) ? this.start(node) : null);
   }
 
   // All children of the program.

@@ -39,6 +39,7 @@ function source(c, node) {
   visit.literal(c, 'source', node.source);
   const entries = node.attributes && node.attributes.length ? node.attributes : node.assertions;
   const start = skipTrivia(c.text, c.end(node.source));
+  if (start >= c.end(node)) return;
   if (!/^(with|assert)$/.test(c.text.slice(start, nameEnd(c.text, start)))) return;
   const last = entries && entries[entries.length - 1];
   const brace = skipTrivia(c.text, nameEnd(c.text, start));
@@ -91,6 +92,7 @@ function exportDefault(c, role, node) {
 
 Object.assign(STATEMENTS, {
   ImportDeclaration(c, role, node) {
+    if (node.phase) c.refuse(node, `the tree has no kind for \`import ${node.phase}\``);
     c.open(role, 'ImportDeclaration', node, '', typeMark(node.importKind));
     each(c, 'specifiers', node.specifiers, 'importSpecifier');
     source(c, node);

@@ -26,6 +26,7 @@ function objectMember(c, role, node, { kind = 'init', more = {}, allowed = [] })
 }
 
 const accessor = (kind) => (c, role, node) => {
+  if (!node.body) c.refuse(node, "'{' expected.");
   objectMember(c, role, node, { kind });
   visit.methodValue(c, 'value', node, false);
   c.close();
@@ -178,10 +179,13 @@ function yieldExpression(c, role, node) {
 }
 
 const META = { NewKeyword: 'new', ImportKeyword: 'import' };
+const META_NAMES = { new: 'target', import: 'meta' };
 
 function metaProperty(c, role, node) {
   const word = META[c.kindName({ kind: node.keywordToken })];
   const start = c.start(node);
+  const property = c.ts.idText(node.name);
+  if (property !== META_NAMES[word]) c.refuse(node.name, `'${property}' is not a valid meta-property for keyword '${word}'. Did you mean '${META_NAMES[word]}'?`);
   c.open(role, 'MetaProperty', node);
   c.writer.leaf('meta', 'IdentifierName', start, start + word.length, word);
   visit.name(c, 'property', node.name);
@@ -193,7 +197,7 @@ function tagged(c, role, node) {
   c.open(role, 'TaggedTemplateExpression', node);
   visit.expression(c, 'tag', node.tag);
   each(c, 'typeArguments', node.typeArguments && [node.typeArguments], 'typeArguments');
-  visit.template(c, 'quasi', node.template);
+  visit.template(c, 'quasi', node.template, true);
   c.close();
 }
 

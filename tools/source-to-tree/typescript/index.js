@@ -44,6 +44,7 @@ class TypeScriptConversion {
     this.afterHashbang = text.startsWith('#!') ? lineEndFrom(text, 2) : 0;
     this.hidden = [];
     this.longWays = new Map();
+    this.allowed = [];
   }
 
   kindName(node) {
@@ -68,6 +69,11 @@ class TypeScriptConversion {
 
   hide(start, end) {
     this.hidden.push([start, end]);
+  }
+
+  // What the compiler tells of this part of the text is no fault.
+  allowFaults(start, end) {
+    this.allowed.push([start, end]);
   }
 
   open(role, kind, node, text, marks) {
@@ -108,8 +114,8 @@ class TypeScriptConversion {
   }
 
   // All children of the program.
-  program(file) {
-    visit.body(this, file.statements);
+  program(statements) {
+    visit.body(this, statements);
   }
 }
 

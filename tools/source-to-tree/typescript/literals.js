@@ -1,7 +1,8 @@
 'use strict';
 // Literals and templates.
 
-const { wholeCharacters, withLineFeeds, numberBase, stringValue } = require('../texts');
+const { Refusal } = require('../refusal');
+const { wholeCharacters, withLineFeeds, numberBase, stringValue, uselessEscape } = require('../texts');
 const { visit } = require('./visit');
 
 // The compiler leaves the octal escapes of old scripts as they are spelled.
@@ -18,31 +19,40 @@ function spelled(kind, marks) {
   };
 }
 
-const INVALID_ESCAPE = 2048; // TokenFlags.ContainsInvalidEscape, which the compiler doesn't export
+// The text of a piece: its value, or its spelling where an escape has none, which only the pieces behind a tag may have.
+function pieceText(c, node, { start, end, isTagged }) {
+  const raw = c.text.slice(start, end);
+  const useless = uselessEscape(raw);
+  if (useless >= 0 && isTagged) {
+    c.allowFaults(start, end);
+    return withLineFeeds(raw);
+  }
+  if (useless >= 0 && /[0-9]/.test(raw[useless + 1])) throw new Refusal('Octal escape sequences are not allowed in templates.', start + useless);
+  return node.text;
+}
 
 // A piece of a template, without the marks at its ends.
-function templateElement(c, role, node, behind) {
+function templateElement(c, node, behind, isTagged) {
   const start = c.opaque(node) + 1;
   const end = node.end - behind;
-  const invalid = node.text === undefined || (node.templateFlags & INVALID_ESCAPE) !== 0;
-  c.writer.leaf(role, 'TemplateElement', start, end, wholeCharacters(invalid ? withLineFeeds(c.text.slice(start, end)) : node.text));
+  c.writer.leaf('quasis', 'TemplateElement', start, end, wholeCharacters(pieceText(c, node, { start, end, isTagged })));
 }
 
 // The pieces of a template, and the list of what stands between them.
-visit.templateParts = (c, node) => {
+visit.templateParts = (c, node, isTagged = false) => {
   if (node.templateSpans === undefined) {
-    templateElement(c, 'quasis', node, 1);
+    templateElement(c, node, 1, isTagged);
     return [];
   }
-  templateElement(c, 'quasis', node.head, 2);
+  templateElement(c, node.head, 2, isTagged);
   const spans = node.templateSpans;
-  spans.forEach(({ literal }, i) => templateElement(c, 'quasis', literal, i === spans.length - 1 ? 1 : 2));
+  spans.forEach(({ literal }, i) => templateElement(c, literal, i === spans.length - 1 ? 1 : 2, isTagged));
   return spans;
 };
 
-visit.template = (c, role, node) => {
+visit.template = (c, role, node, isTagged = false) => {
   c.open(role, 'TemplateLiteral', node);
-  for (const span of visit.templateParts(c, node)) visit.expression(c, 'expressions', span.expression);
+  for (const span of visit.templateParts(c, node, isTagged)) visit.expression(c, 'expressions', span.expression);
   c.close();
 };
 

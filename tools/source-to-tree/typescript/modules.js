@@ -38,7 +38,14 @@ function local(c, kind, node, name) {
   c.close();
 }
 
+// An import of a phase, as newer compilers read it, has no kind in the tree.
+function refusePhase(c, clause) {
+  const word = clause.phaseModifier;
+  if (word !== undefined && word !== c.kinds.TypeKeyword) c.refuse(clause, `the tree has no kind for \`import ${c.ts.tokenToString(word)}\``);
+}
+
 function importClause(c, clause) {
+  refusePhase(c, clause);
   if (clause.name) local(c, 'ImportDefaultSpecifier', clause.name, clause.name);
   const bindings = clause.namedBindings;
   if (!bindings) return;

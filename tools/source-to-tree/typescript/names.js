@@ -1,6 +1,7 @@
 'use strict';
 // Identifiers, by what they are where they stand, the keys of members, and names of types.
 
+const { stringValue } = require('../texts');
 const { visit, byKind } = require('./visit');
 
 function identifier(kind) {
@@ -14,7 +15,12 @@ visit.bindingName = identifier('BindingIdentifier');
 visit.reference = identifier('IdentifierReference');
 visit.label = identifier('LabelIdentifier');
 visit.name = identifier('IdentifierName');
-visit.privateName = (c, role, node) => c.leaf(role, 'PrivateIdentifier', node, c.ts.idText(node).slice(1));
+
+// The compiler leaves escapes in private names as they are spelled.
+visit.privateName = (c, role, node) => {
+  const raw = c.text.slice(c.start(node) + 1, node.end);
+  c.leaf(role, 'PrivateIdentifier', node, raw.includes('\\') ? stringValue(raw) : raw);
+};
 
 visit.moduleName = byKind({
   Identifier: visit.name,

@@ -2,6 +2,7 @@
 // Statements, directives and declarations of variables. What is exported has `export` among its modifiers here, and a node
 // round it in the tree.
 
+const { Refusal } = require('../refusal');
 const { skipTrivia } = require('../trivia');
 const { visit, each, plain, byKind, marksOf } = require('./visit');
 const { modifier, modifierMarks } = require('./modifiers');
@@ -89,6 +90,14 @@ visit.catchClause = (c, role, node) => {
   c.close();
 };
 
+// What stands on the next line is none of it, and the compiler puts an empty name there.
+function throwStatement(c, role, node) {
+  if (node.expression.pos === node.expression.end) throw new Refusal('Line break not permitted here.', c.start(node) + 'throw'.length);
+  c.open(role, 'ThrowStatement', node);
+  visit.expression(c, 'argument', node.expression);
+  c.close();
+}
+
 const STATEMENTS = {
   Block: visit.block,
   EmptyStatement: plain('EmptyStatement'),
@@ -109,7 +118,7 @@ const STATEMENTS = {
   WithStatement: plain('WithStatement', ['object', 'expression', 'expression'], ['body', 'statement', 'statement']),
   SwitchStatement: switchStatement,
   LabeledStatement: plain('LabeledStatement', ['label', 'label', 'label'], ['body', 'statement', 'statement']),
-  ThrowStatement: plain('ThrowStatement', ['argument', 'expression', 'expression']),
+  ThrowStatement: throwStatement,
   TryStatement: plain('TryStatement', ['block', 'tryBlock', 'block'], ['handler', 'catchClause', 'catchClause'],
     ['finalizer', 'finallyBlock', 'block']),
 };

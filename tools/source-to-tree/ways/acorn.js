@@ -1,29 +1,53 @@
 'use strict';
-// Reads JavaScript with acorn.
+// Reads JavaScript with acorn, and JSX with its plugin.
 
-const { Refusal } = require('../refusal');
-const { load } = require('../load');
+const { isMissing } = require('../load');
+const { refusalOf, refusalFor } = require('../newer');
+const { isNewerRegExp } = require('../regexps');
+const { parsersFor } = require('../parsers');
 const { EstreeConversion } = require('../estree');
 
 // What acorn would refuse, and the analysis tells with both places.
 const LEFT_TO_THE_ANALYSIS = /^(?:Identifier '[^#].*' has already been declared|Argument name clash)$/;
 
-const parsers = new Map();
+const DYNAMIC_IMPORT_OPTIONS = { what: 'options of `import()`' };
 
-function parserFor(lang) {
-  if (!parsers.has(lang)) {
-    const { Parser } = load('acorn');
-    const Base = lang === 'jsx' ? Parser.extend(load('acorn-jsx')()) : Parser;
-    parsers.set(lang, class extends Base {
-      raiseRecoverable(at, message) {
-        if (!LEFT_TO_THE_ANALYSIS.test(message)) super.raiseRecoverable(at, message);
+// Redeclarations pass, and a comma in `import()` that the parser doesn't take is marked.
+function forTheAnalysis(Base) {
+  return class extends Base {
+    raiseRecoverable(at, message) {
+      if (!LEFT_TO_THE_ANALYSIS.test(message)) super.raiseRecoverable(at, message);
+    }
+
+    parseDynamicImport(node) {
+      try {
+        return super.parseDynamicImport(node);
+      } catch (error) {
+        if (node.source && error.pos >= node.source.end && this.input[error.pos] === ',') error.syntax = DYNAMIC_IMPORT_OPTIONS;
+        throw error;
       }
-    });
-  }
-  return parsers.get(lang);
+    }
+  };
 }
 
-function parseAs(sourceType, text, lang) {
+const classes = new WeakMap(); // by parser: its class by plugin, or by null for plain JavaScript
+
+// The class that reads plain JavaScript or, with acorn's plugin, JSX.
+function classFor(parser, jsx) {
+  if (!classes.has(parser)) classes.set(parser, new Map());
+  const made = classes.get(parser);
+  const { Parser } = parser.module;
+  if (!made.has(jsx)) made.set(jsx, forTheAnalysis(jsx === null ? Parser : Parser.extend(jsx.module())));
+  return made.get(jsx);
+}
+
+// Undefined where the plugin isn't there.
+function jsxClassFor(parser, folder) {
+  const [jsx] = parsersFor('acorn-jsx', folder);
+  return jsx && classFor(parser, jsx);
+}
+
+function parseAs(Parser, sourceType, text) {
   const comments = [];
   const options = {
     ecmaVersion: 'latest',
@@ -33,33 +57,57 @@ function parseAs(sourceType, text, lang) {
     preserveParens: true,
     onComment: (block, value, start, end) => comments.push({ block, start, end }),
   };
-  return { ast: parserFor(lang).parse(text, options), comments, goal: sourceType };
+  return { ast: Parser.parse(text, options), comments, goal: sourceType };
 }
 
-function asRefusal(error) {
-  if (!(error instanceof SyntaxError) || error.pos === undefined) return error;
-  return new Refusal(error.message.replace(/ \(\d+:\d+\)$/, ''), error.pos);
-}
-
-// Where no goal is given it is a script's, unless the file is none and is a module. Of two refusals the one further on counts.
-function read(text, { lang, goal }) {
-  if (goal !== undefined) {
+// What the class makes of the text as the first goal that it takes it for, or its errors.
+function parse(Parser, goals, text) {
+  const errors = [];
+  for (const goal of goals) {
     try {
-      return parseAs(goal === 'module' ? 'module' : 'script', text, lang);
+      return { parsed: parseAs(Parser, goal, text) };
     } catch (error) {
-      throw asRefusal(error);
+      if (!(error instanceof SyntaxError) || error.pos === undefined) throw error;
+      errors.push(error);
     }
   }
-  try {
-    return parseAs('script', text, lang);
-  } catch (error) {
-    if (!(error instanceof SyntaxError)) throw error;
-    try {
-      return parseAs('module', text, lang);
-    } catch (second) {
-      throw asRefusal(second instanceof SyntaxError && second.pos < error.pos ? error : second);
-    }
-  }
+  return { errors };
+}
+
+// Of two errors that one counts which is further on.
+const furthest = (errors) => errors.reduce((best, error) => (error.pos >= best.pos ? error : best));
+
+function asRefusal(error, text, parser) {
+  const { pos, message } = error;
+  if (error.syntax) return refusalFor(parser, error.syntax, pos);
+  const regExp = isNewerRegExp(error, text);
+  if (regExp) return refusalFor(parser, regExp, pos);
+  return refusalOf(parser, text, message.replace(/ \(\d+:\d+\)$/, ''), pos);
+}
+
+// JavaScript whose refusal stands where an element may begin is tried as JSX.
+function parseScript(goals, text, { parser, folder }) {
+  const first = parse(classFor(parser, null), goals, text);
+  if (first.parsed || !first.errors.some(({ pos }) => text[pos] === '<')) return first;
+  const Parser = jsxClassFor(parser, folder);
+  if (Parser === undefined) return first;
+  const second = parse(Parser, goals, text);
+  return second.parsed || asRefusal(furthest(second.errors), text, parser).isForAge ? second : first;
+}
+
+function parseJsx(goals, text, { parser, folder }) {
+  const Parser = jsxClassFor(parser, folder);
+  if (Parser === undefined) throw isMissing('acorn-jsx');
+  return parse(Parser, goals, text);
+}
+
+// Where no goal is given it is a script's, unless the file is none and is a module.
+function read(text, request) {
+  const { lang, goal, parser } = request;
+  const goals = goal === undefined ? ['script', 'module'] : [goal === 'module' ? 'module' : 'script'];
+  const { parsed, errors } = (lang === 'jsx' ? parseJsx : parseScript)(goals, text, request);
+  if (parsed === undefined) throw asRefusal(furthest(errors), text, parser);
+  return parsed;
 }
 
 function write(parsed, text, writer, annotations) {
@@ -67,4 +115,4 @@ function write(parsed, text, writer, annotations) {
   return parsed.comments.filter(({ start }) => start > 0 || !text.startsWith('#!'));
 }
 
-module.exports = { read, write };
+module.exports = { module: 'acorn', parsersIn: (folder) => parsersFor('acorn', folder), read, write };

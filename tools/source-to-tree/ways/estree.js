@@ -15,7 +15,7 @@ function read(text, { tree }) {
 function commentsOf({ ast }) {
   const list = ast.comments || (ast.program && ast.program.comments) || [];
   return list.filter(({ type }) => type === 'Line' || type === 'Block' || type === 'CommentLine' || type === 'CommentBlock')
-    .map((node) => ({ block: node.type.endsWith('Block'), start: node.start ?? node.range[0], end: node.end ?? node.range[1] }))
+    .map((node) => ({ block: node.type.endsWith('Block'), start: node.range ? node.range[0] : node.start, end: node.range ? node.range[1] : node.end }))
     .sort((a, b) => a.start - b.start);
 }
 
@@ -29,4 +29,4 @@ function write(parsed, text, writer, annotations) {
   return commentsOf(parsed).filter(({ start }) => start > 0 || !text.startsWith('#!'));
 }
 
-module.exports = { read, write };
+module.exports = { parsersIn: () => [null], read, write };

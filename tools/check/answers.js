@@ -1,0 +1,80 @@
+'use strict';
+// What the programs say of one file, read as far as it is asked for.
+
+const { Positions } = require('../analyse/positions.js');
+const { parseReport } = require('../analyse/report-parser.js');
+const { RunFault } = require('../bolgwyr/faults.js');
+
+const NAME_LINE = /^(unused|undeclared) (\d+) ("(?:[^"\\]|\\.)*") (\d+)-(\d+)$/;
+
+function readNameLine(line) {
+  const found = NAME_LINE.exec(line);
+  if (found === null) {
+    throw new RunFault(`a line of the lint of names isn't known: ${line}`);
+  }
+  const [, kind, id, name, start, end] = found;
+  return { kind, id: Number(id), name: JSON.parse(name), span: { start: Number(start), end: Number(end) } };
+}
+
+function readNames(text) {
+  return text.split('\n').slice(0, -1).map(readNameLine);
+}
+
+// The numbers of the symbols that nothing in use uses.
+function unusedSymbols(nameText) {
+  return new Set(readNames(nameText).filter(({ kind }) => kind === 'unused').map(({ id }) => id));
+}
+
+const SEPARATOR = '+';
+
+// The answers of the lint of names and of the report on a tree. Either may be absent where no rule needs it.
+class Answers {
+  constructor({ text, tree, names, report }) {
+    this.text = text;
+    this.tree = tree;
+    this.nameText = names;
+    this.reportText = report;
+    this.known = {};
+  }
+
+  kept(name, make) {
+    this.known[name] ??= make();
+    return this.known[name];
+  }
+
+  get positions() {
+    return this.kept('positions', () => new Positions(this.text));
+  }
+
+  get names() {
+    return this.kept('names', () => readNames(this.nameText));
+  }
+
+  namesOf(kind) {
+    return this.names.filter((name) => name.kind === kind);
+  }
+
+  // Lines of the report that begin with these words.
+  lines(...words) {
+    return this.kept(words.join(SEPARATOR), () => parseReport(this.reportText, new Set(words)));
+  }
+
+  get findings() {
+    return this.lines('label', 'diag');
+  }
+
+  get symbols() {
+    return this.lines('symbol', 'uses', 'redecl').symbols;
+  }
+
+  get references() {
+    return this.lines('ref').references;
+  }
+
+  // Whether a name is declared more than once.
+  get redeclares() {
+    return this.reportText.includes('\nredecl ');
+  }
+}
+
+module.exports = { Answers, unusedSymbols };

@@ -1,0 +1,80 @@
+'use strict';
+// What comments ask for: names that are known (`global`, `globals`, `eslint-env`, `exported`), and findings that aren't told
+// (`bolgwyr-ignore-line`, `bolgwyr-ignore-next-line`, `bolgwyr-ignore-file`).
+
+const { environments } = require('./environments.js');
+
+const ASKS = /\b(?:globals?|eslint-env|exported)\s|bolgwyr-ignore-/;
+const NAMES = /^\s*(globals?|eslint-env|exported)\s+([^]*)$/;
+const IGNORE = /^\s*bolgwyr-ignore-(line|next-line|file)(?=\s|$)([^]*)$/;
+
+// What stands behind `--` is a remark.
+function listOf(text) {
+  return text.split(/\s--\s/)[0].split(/[\s,]+/).filter((word) => word !== '');
+}
+
+// Names with what stands behind a colon: `a, b: writable, c:off`.
+function namesIn(text) {
+  return listOf(text.replace(/\s*:\s*/g, ':')).map((word) => word.split(':'));
+}
+
+const isOff = (value) => value === 'off';
+
+const TAKES = {
+  global: (asked, text) => namesIn(text).forEach(([name, value]) => asked.globals.set(name, !isOff(value))),
+  exported: (asked, text) => namesIn(text).forEach(([name]) => asked.exported.add(name)),
+  'eslint-env': (asked, text) => {
+    const known = new Set(environments());
+    asked.env = [...(asked.env ?? []), ...listOf(text).map((name) => (name === 'es6' ? 'es2015' : name)).filter((name) => known.has(name))];
+  },
+};
+TAKES.globals = TAKES.global;
+
+// The lines that a comment speaks of: those on which it begins and ends, or the one behind it.
+function linesOf(where, positions, start, end) {
+  const last = positions.placeOf(end).line;
+  return where === 'line' ? [positions.placeOf(start).line, last] : [last + 1];
+}
+
+// Notes a place where rules aren't told; no rules are all of them.
+function ignore(asked, [, where, rest], positions, [start, end]) {
+  const rules = listOf(rest);
+  const told = rules.length === 0 ? null : new Set(rules);
+  if (where === 'file') {
+    asked.ignored.file.push(told);
+    return;
+  }
+  for (const line of linesOf(where, positions, start, end)) {
+    asked.ignored.lines.set(line, [...(asked.ignored.lines.get(line) ?? []), told]);
+  }
+}
+
+function readComment(asked, answers, [start, end, kind]) {
+  const whole = answers.positions.textOf({ start, end });
+  const text = kind === 'block' ? whole.slice(2, -2) : whole.slice(2);
+  const names = kind === 'block' ? NAMES.exec(text) : null;
+  const ignored = IGNORE.exec(text);
+  if (names !== null) {
+    TAKES[names[1]](asked, names[2]);
+  } else if (ignored !== null) {
+    ignore(asked, ignored, answers.positions, [start, end]);
+  }
+}
+
+// What the comments of a file ask for.
+function askedOf(answers) {
+  const asked = { globals: new Map(), exported: new Set(), env: null, ignored: { file: [], lines: new Map() } };
+  if (ASKS.test(answers.text)) {
+    for (const comment of answers.tree.head.comments) {
+      readComment(asked, answers, comment);
+    }
+  }
+  return asked;
+}
+
+function isIgnored(ignored, { rule, line }) {
+  const holds = (told) => told === null || told.has(rule);
+  return ignored.file.some(holds) || (ignored.lines.get(line) ?? []).some(holds);
+}
+
+module.exports = { askedOf, isIgnored };

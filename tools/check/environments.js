@@ -1,0 +1,39 @@
+'use strict';
+// Names that are there without a declaration, by environments of the package `globals`.
+
+const { load } = require('../source-to-tree/load.js');
+
+// The names of the language, which each file knows.
+const LANGUAGE = 'es2021';
+
+// Where nobody names an environment: what Node and browsers share, and those of which a file has one of these names, free.
+const SHARED = 'shared-node-browser';
+const MARKS = [
+  ['node', ['require', 'module', 'exports', 'process', '__dirname', '__filename', 'Buffer', 'global']],
+  ['browser', ['window', 'document', 'self', 'navigator']],
+  ['amd', ['define']],
+];
+
+const sets = new Map();
+
+const environments = () => Object.keys(load('globals'));
+
+function namesOf(environment) {
+  if (!sets.has(environment)) {
+    sets.set(environment, new Set(Object.keys(load('globals')[environment])));
+  }
+  return sets.get(environment);
+}
+
+// The environments that a file is made for, by the names that are free in it.
+function guessed(free) {
+  const found = MARKS.filter(([, marks]) => marks.some((mark) => free.has(mark)));
+  return [SHARED, ...found.map(([environment]) => environment)];
+}
+
+// Sets of names that are known in a file; `named` is null where nobody names an environment.
+function knownSets(named, free) {
+  return [LANGUAGE, ...(named === null ? guessed(free) : named)].map(namesOf);
+}
+
+module.exports = { environments, knownSets };

@@ -1,0 +1,287 @@
+"""Proves and builds programs and static libraries, and says how far it is.
+usage: prove.py [--with-parent] CRATE..
+
+The crates that they stand on are proved side by side, each over what those below it state, as the gate proves them, by the
+`rattle` of the kit that `rt` belongs to: rt proves one crate at a time of those that share a library, and a library that it builds
+for that holds proofs too, so that a crate over many of them takes up to three times as long. What is proved stands in
+`crates/NAME/out/proved`, with a checksum of all that it was proved from, so that a build that is broken off goes on from there,
+and another program's takes it. A build that fails ends with its log, and with status 1. With --with-parent it ends when whoever started
+it is gone."""
+
+import argparse
+import contextlib
+import fcntl
+import hashlib
+import os
+import re
+import resource
+import shutil
+import subprocess
+import sys
+import tempfile
+import time
+
+sys.dont_write_bytecode = True
+
+from crates import SOURCES_AND_PROOFS, TOP, Listed, Stamp, add_files, bytes_in, checksum_of, files_of, folder_of
+from ended import Ended, Parent, end, end_by, heed_signals, start
+from kit import Kit, Unbuilt
+from progress import Progress
+
+# How often it looks whether a proof ended, in seconds.
+LOOKS_EVERY = 0.2
+
+# The memory that a proof may take, in bytes.
+MEMORY_OF_PROOF = 3_000_000_000
+
+# What a crate takes, reckoned in functions: the answers for some functions are long, what the crate stands on is read, and some
+# of that is written into its own library.
+FUNCTION = re.compile(rb"\bfn \w")
+FUNCTIONS_FOR_CRATE = 10
+FUNCTIONS_FOR_CRATE_BELOW = 2
+LINES_FOR_FUNCTION = 9
+FUNCTIONS_FOR_JOB = 40
+MOST_JOBS = 2
+ANSWERS = "Answers.antt", "Invariants.antt", "Proof.antt"
+
+# How rattle ends what it says of a crate that is proved.
+PROVED = re.compile(r"^logic=proved ", re.MULTILINE)
+
+
+def proofs_of(crate):
+    """What the proofs of the crate's functions take, reckoned in functions."""
+    functions, lines = 0, 0
+    for path in files_of(crate, SOURCES_AND_PROOFS):
+        if path.endswith(".rt"):
+            functions += len(FUNCTION.findall(bytes_in(path)))
+        elif path.endswith(ANSWERS):
+            lines += bytes_in(path).count(b"\n")
+    return functions + lines // LINES_FOR_FUNCTION
+
+
+def children_took():
+    """The processor time of all children that ended, in seconds."""
+    took = resource.getrusage(resource.RUSAGE_CHILDREN)
+    return took.ru_utime + took.ru_stime
+
+
+class Crate:
+    """A crate on the way, over those below it, and its proof, if that runs."""
+
+    def __init__(self, name, listed, below, kit):
+        self.name, self.listed, self.kit = name, listed, kit
+        self.is_static = name in listed.static
+        self.libraries = listed.named[name]
+        self.below = below
+        self.at = folder_of(name)
+        self.out = f"{self.at}/out/proved"
+        self.is_program = os.path.isfile(f"{self.at}/src/main.rt")
+        self.proofs = proofs_of(name)
+        self.work = FUNCTIONS_FOR_CRATE + FUNCTIONS_FOR_CRATE_BELOW * len(below) + self.proofs
+        # The work of the longest chain of crates from this one on.
+        self.chain = self.work
+        self.begun = time.time_ns()
+        self.wanted = self.checksum()
+        self.running, self.jobs, self.log = None, 0, None
+        self.is_done = os.path.exists(self.made()) and self.proved_from() == self.wanted
+
+    def checksum(self):
+        """A checksum of all that the crate is proved from."""
+        made = hashlib.sha256(self.kit.version.encode())
+        made.update(repr((self.libraries, [it.wanted for it in self.below])).encode())
+        add_files(made, self.name, SOURCES_AND_PROOFS)
+        return made.hexdigest()
+
+    def made(self):
+        """The library, static library or program that is made of the crate."""
+        if self.is_program:
+            return f"{self.out}/{self.name}"
+        return f"{self.at}/out/lib{self.name}.a" if self.is_static else f"{self.out}/{self.name}.rlib"
+
+    def proved_from(self):
+        with contextlib.suppress(FileNotFoundError):
+            return bytes_in(f"{self.out}/proved-from").decode()
+        return None
+
+    def is_ready(self):
+        return not self.is_done and not self.running and all(it.is_done for it in self.below)
+
+    def words(self, jobs):
+        """The words of the call that proves the crate and makes what is made of it."""
+        words = ["--crate-name", self.name, "src/main.rt" if self.is_program else "src/lib.rt"]
+        ours = {it.name: it for it in self.below}
+        for name in ["std", *self.libraries]:
+            words += ["--extern", f"{name}={ours[name].made()}" if name in ours else self.kit.library(name)]
+        words += ["-L", f"dependency={self.kit.at}/rlibs"]
+        for it in self.below:
+            words += ["-L", f"dependency={it.out}"]
+        words += [*self.kit.logic(), "--jobs", str(jobs)]
+        if self.is_program:
+            return [*words, *self.kit.toolchain(), "-o", f"{self.made()}.o"]
+        if self.is_static:
+            return [*words, "--crate-type", "staticlib", *self.kit.toolchain(), "-o", self.made()]
+        return [*words, "--statements", "-o", self.made()]
+
+    def start(self, jobs):
+        """Starts the proof."""
+        os.makedirs(self.out, exist_ok=True)
+        for name in "proved-from", "stamp", self.name:
+            with contextlib.suppress(FileNotFoundError):
+                os.remove(f"{self.out}/{name}")
+        shutil.rmtree(f"{self.out}/{self.name}.rlib", ignore_errors=True)
+        self.begun_at = time.time()
+        self.jobs, self.log = jobs, tempfile.TemporaryFile("w+", errors="replace")
+        self.running = start([*self.kit.rattle(), *self.words(jobs)], cwd=self.at, stdout=self.log, stderr=subprocess.STDOUT)
+
+    def has_ended(self):
+        """Tells whether the proof ended, and notes the processor time that it took."""
+        before = children_took()
+        if self.running.poll() is None:
+            return False
+        self.took = children_took() - before
+        return True
+
+    def finish(self):
+        """Notes that the proof ended, and whether it is one."""
+        is_proved = self.running.returncode == 0 and PROVED.search(self.told()) is not None
+        self.running = None
+        if is_proved and self.is_program:
+            is_proved = self.link()
+        if is_proved:
+            with open(f"{self.out}/proved-from", "w", encoding="utf-8") as file:
+                file.write(self.wanted)
+            with open(f"{self.out}/took", "w", encoding="utf-8") as file:
+                file.write(f"{self.took:.1f} {time.time() - self.begun_at:.1f} {self.jobs} {self.work} {self.proofs}\n")
+        self.is_done = is_proved
+
+    def link(self):
+        """Links the program, which then has a stamp too, and tells whether it could."""
+        words = self.kit.link(self.made(), f"{self.made()}.o")
+        return subprocess.run(words, stdout=self.log, stderr=subprocess.STDOUT, check=False).returncode == 0
+
+    def stamp(self):
+        """Tells ready.sh that the program is proved, if the sources are still those that it was proved from."""
+        crates = self.listed.in_order(self.name)
+        begun = time.time_ns()
+        if self.is_program and self.checksum() == self.wanted and all(it.checksum() == it.wanted for it in self.below):
+            checksum = checksum_of(self.listed, crates, SOURCES_AND_PROOFS)
+            Stamp(f"{self.out}/stamp").write(checksum, crates, SOURCES_AND_PROOFS, begun)
+
+    def end(self):
+        """Ends what still runs."""
+        if self.running:
+            end(self.running)
+
+    def told(self):
+        """What the proof wrote."""
+        self.log.seek(0)
+        return self.log.read()
+
+
+class Proof:
+    """The crates on the way to some programs and static libraries, lowest first, of which some are done."""
+
+    def __init__(self, names, kit, progress, parent):
+        listed = Listed()
+        made = {}
+        for name in names:
+            for it in listed.in_order(name):
+                if it not in made:
+                    below = [made[lower] for lower in listed.in_order(it)[:-1]]
+                    made[it] = Crate(it, listed, below, kit)
+        self.names = " and ".join(names)
+        self.asked = [made[it] for it in names]
+        self.crates = [*made.values()]
+        for crate in reversed(self.crates):
+            for below in (made[it] for it in listed.named[crate.name] if it in made):
+                below.chain = max(below.chain, below.work + crate.chain)
+        memory = os.sysconf("SC_PAGE_SIZE") * os.sysconf("SC_PHYS_PAGES")
+        self.processors = min(len(os.sched_getaffinity(0)), max(memory // MEMORY_OF_PROOF, 1))
+        self.progress, self.parent = progress, parent
+
+    def state(self, what):
+        minutes = int(self.progress.seconds() / 60)
+        done = sum(it.is_done for it in self.crates)
+        return f"{self.names}: {what} ({done} of {len(self.crates)} crates done, {minutes} minutes so far)"
+
+    def at_work(self):
+        return [it for it in self.crates if it.running]
+
+    def start_ready(self):
+        """Starts the crates that wait for none, that with the longest chain above first, as long as a processor is idle. A large
+        one gets a second that would stay idle. Each job reads what the crate stands on, so a small one gets no second, and none a
+        third."""
+        idle = self.processors - sum(it.jobs for it in self.at_work())
+        ready = sorted((it for it in self.crates if it.is_ready()), key=lambda it: -it.chain)
+        for behind, crate in zip(reversed(range(len(ready))), ready):
+            if idle > 0:
+                jobs = max(min(idle - behind, MOST_JOBS, crate.proofs // FUNCTIONS_FOR_JOB), 1)
+                crate.start(jobs)
+                self.progress.show(self.state(f"proving {crate.name}"))
+                idle -= jobs
+
+    def run(self):
+        """Proves all that is left, and gives the crate of one that can't be, if there is one."""
+        while not all(it.is_done for it in self.crates):
+            self.start_ready()
+            time.sleep(LOOKS_EVERY)
+            self.parent.heed()
+            for crate in [it for it in self.at_work() if it.has_ended()]:
+                crate.finish()
+                if not crate.is_done:
+                    return crate
+            self.progress.show(self.state("proving " + ", ".join(it.name for it in self.at_work())))
+        for crate in self.asked:
+            crate.stamp()
+        return None
+
+    def end(self):
+        for it in self.crates:
+            it.end()
+
+
+@contextlib.contextmanager
+def alone(progress):
+    """Waits until no other proof is at work in this repository, and keeps others out until it is left."""
+    with open(f"{TOP}/crates.txt", encoding="utf-8") as held:
+        try:
+            fcntl.flock(held, fcntl.LOCK_EX | fcntl.LOCK_NB)
+        except BlockingIOError:
+            progress.say("another call proves in this repository; this one waits")
+            fcntl.flock(held, fcntl.LOCK_EX)
+        yield
+
+
+def prove(names, progress, parent):
+    proof = Proof(names, Kit(), progress, parent)
+    try:
+        failed = proof.run()
+    finally:
+        proof.end()
+    if failed:
+        raise Unbuilt(f"{failed.told()}\n{proof.names}: {failed.name} can't be built")
+    progress.say(proof.state("proved"))
+
+
+def main():
+    words = argparse.ArgumentParser(usage=__doc__.partition("usage: ")[2].partition("\n")[0], add_help=False)
+    words.add_argument("--with-parent", action="store_true")
+    words.add_argument("crates", nargs="+")
+    given = words.parse_args()
+    names = given.crates
+    progress = Progress()
+    heed_signals()
+    try:
+        with alone(progress):
+            prove(names, progress, Parent(given.with_parent))
+    except Ended as ended:
+        progress.say(f"{' and '.join(names)}: broken off; the next call goes on from here")
+        end_by(ended.number)
+    except (Unbuilt, OSError) as error:
+        progress.say(str(error))
+        return 1
+    return 0
+
+
+if __name__ == "__main__":
+    sys.exit(main())
