@@ -107,10 +107,10 @@ function meanwhile({ at, put, read, run }, expect) {
 
 function faults({ put, run }, expect) {
   const lines = (words) => { const { status, errs } = run(words); return `${status} ${errs.split('\n')[0]}`; };
-  expect('no words', "2 error: missing required argument 'place'", lines([]));
-  expect('one word', "2 error: missing required argument 'name'", lines(['sum.mjs:3:7']));
-  expect('a word too many', '2 error: too many arguments for \'rename\'. Expected 2 arguments but got 3.', lines(['sum.mjs:3:7', 'a', 'b']));
-  expect('an unknown word', "2 error: unknown option '--wrong'", lines(['sum.mjs:3:7', 'a', '--wrong']));
+  expect('no words', "2 bolgwyr: missing required argument 'place'", lines([]));
+  expect('one word', "2 bolgwyr: missing required argument 'name'", lines(['sum.mjs:3:7']));
+  expect('a word too many', '2 bolgwyr: too many arguments for \'rename\'. Expected 2 arguments but got 3.', lines(['sum.mjs:3:7', 'a', 'b']));
+  expect('an unknown word', "2 bolgwyr: unknown option '--wrong'", lines(['sum.mjs:3:7', 'a', '--wrong']));
   expect('no place', '2 bolgwyr: "sum.mjs" is no place: FILE:LINE:COLUMN, both from 1, or FILE:NAME', lines(['sum.mjs', 'a']));
   expect('column 0', '2 bolgwyr: "sum.mjs:3:0" is no place: FILE:LINE:COLUMN, both from 1, or FILE:NAME', lines(['sum.mjs:3:0', 'a']));
   expect('no identifier', '2 bolgwyr: "a-b" is no identifier', lines(['sum.mjs:3:7', 'a-b']));
