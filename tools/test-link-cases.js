@@ -160,6 +160,7 @@ const TYPED = [
     'node_modules/q/package.json': '{"exports":{"import":"./q.mjs"}}', 'node_modules/q/q.mjs': 'export const u = 1;\n', 'node_modules/q/q.d.mts': 'export type U = 1;\nexport const u: U;\n',
     'node_modules/@s/r/index.js': 'export const v = 1;\n', 'node_modules/@types/s__r/index.d.ts': 'export type V = 1;\nexport const v: V;\n',
   }, ["a.ts:3:13: 'W' is not exported by ./node_modules/@types/s__r/index.d.ts"]],
+  ['a default that TypeScript makes', { 'a.ts': "import p, { x, y } from 'p';\n", 'node_modules/p/index.d.ts': 'export const x: 1;\n' }, ["a.ts:1:16: 'y' is not exported by ./node_modules/p/index.d.ts"], { notes: ['unknown default'] }],
   ['types without a package', { 'a.ts': "import type { Node } from 'estree';\nimport { Gone } from 'estree';\n", 'node_modules/@types/estree/index.d.ts': 'export interface Node {}\n' }, ["a.ts:2:10: 'Gone' is not exported by ./node_modules/@types/estree/index.d.ts (did you mean 'Node'?)"]],
 ];
 

@@ -2,6 +2,7 @@
 // The text of a source file.
 
 const fs = require('fs');
+const { Positions } = require('./positions.js');
 const { Refusal } = require('./refusal.js');
 
 // The report program takes no longer tree, and a tree holds its source.
@@ -67,7 +68,8 @@ function decode(bytes) {
   const text = bytes.toString('utf8');
   if (Buffer.byteLength(text, 'utf8') !== bytes.length || !Buffer.from(text, 'utf8').equals(bytes)) {
     const start = firstFault(bytes, text);
-    throw new Refusal(`not UTF-8 at byte ${start}`, { start });
+    const before = bytes.toString('utf8', 0, start);
+    throw new Refusal(`not UTF-8 at byte ${start}`, { ...new Positions(before).placeAt(before.length), start });
   }
   return text;
 }

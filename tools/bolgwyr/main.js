@@ -42,14 +42,27 @@ function statusOf(error) {
   if (error instanceof CommanderError) {
     return error.exitCode === 0 ? STATUS.CLEAN : STATUS.USAGE;
   }
-  if (error.status === undefined) {
+  // A module that isn't installed is a refusal of the converter's; what the system refuses names the call.
+  const failed = error.name === 'Refusal' || error.syscall !== undefined;
+  if (error.status === undefined && !failed) {
     throw error;
   }
   tell(`bolgwyr: ${error.message}`);
-  return error.status;
+  return error.status ?? STATUS.FAILED;
+}
+
+// A reader of standard output that went away ends the command quietly; a full disk and the like end it in a line.
+function heedOutput() {
+  process.stdout.on('error', (error) => {
+    if (error.code !== 'EPIPE') {
+      tell(`bolgwyr: standard output can't be written: ${error.message}`);
+    }
+    process.exit(error.code === 'EPIPE' ? STATUS.CLEAN : STATUS.FAILED);
+  });
 }
 
 async function main(words) {
+  heedOutput();
   try {
     await programOf().parseAsync(words, { from: 'user' });
   } catch (error) {
@@ -57,4 +70,8 @@ async function main(words) {
   }
 }
 
-main(process.argv.slice(2));
+if (require.main === module) {
+  main(process.argv.slice(2));
+}
+
+module.exports = { programOf };

@@ -12,8 +12,8 @@ const breath = () => new Promise((resolve) => { setImmediate(resolve); });
 
 // Jobs: `{ file, name, settings, place }`; `told` hears the place and the result of each as it comes. The scratch folder is the
 // caller's, and takes names that begin with `prefix`.
-async function checkMany(jobs, { stamp, shells, folder, prefix }, told) {
-  const runner = new Runner({ size: shells, folder, prefix });
+async function checkMany(jobs, { stamp, programs, shells, folder, prefix }, told) {
+  const runner = new Runner({ programs, size: shells, folder, prefix });
   const waiting = new Set();
   const faults = [];
   const begin = (job) => {

@@ -7,19 +7,12 @@ const { Refusal } = require('../analyse/refusal.js');
 const { syntaxFinding } = require('./findings.js');
 const { keyOf } = require('./keys.js');
 
-// What is said of bytes that are no text, at the place of the first.
-function binaryFinding(bytes, { message, start }) {
-  const { Positions } = require('../analyse/positions.js');
-  const before = bytes.toString('utf8', 0, start);
-  return syntaxFinding({ message, ...new Positions(before).placeAt(before.length) });
-}
-
-// The text of bytes, or the findings that they have in its place.
+// The text of bytes, or the findings that they have in its place: there is no line to show then.
 function textOf(bytes) {
   try {
     return { text: decode(bytes) };
   } catch (error) {
-    return { text: '', findings: [binaryFinding(bytes, error)] };
+    return { text: '', findings: [{ ...syntaxFinding(error), span: null }] };
   }
 }
 

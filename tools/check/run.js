@@ -43,12 +43,13 @@ async function checkByThreads(jobs, threads, settings, told) {
 
 // Checks what isn't kept, in a scratch folder that goes with the process.
 async function checkAnew(jobs, stamp, told) {
+  const { programsToRun } = require('./runner.js');
   const { scratchFolder } = require('./scratch.js');
   const processors = os.availableParallelism();
   const sorted = largestFirst(jobs);
   const bytes = sorted.reduce((sum, { size }) => sum + size, 0);
   const threads = Math.min(processors, Math.floor(bytes / BYTES_A_THREAD));
-  const settings = { stamp, folder: scratchFolder() };
+  const settings = { stamp, programs: programsToRun(), folder: scratchFolder() };
   if (threads > 1) {
     await checkByThreads(sorted, threads, settings, told);
   } else {

@@ -8,7 +8,7 @@ const os = require('os');
 const path = require('path');
 const readline = require('readline');
 const { RunFault } = require('../bolgwyr/faults.js');
-const { TOOLS, programPath } = require('../programs/index.js');
+const { CRATES, TOOLS, prepare, programPath } = require('../programs/index.js');
 
 // Reads lines `ID TOOL ..`, and for each tool writes `ID TOOL STATUS` once its answer stands in the files `ID.TOOL`.
 const SCRIPT = `while read -r id tools; do
@@ -29,7 +29,8 @@ function nameOfSignal(number) {
 }
 
 // The programs of the script, in its order; without one of them no file gets an answer.
-function programs() {
+function programsToRun() {
+  prepare(CRATES);
   return ['report', 'name_lint'].map((tool) => programPath(TOOLS[tool].crate)).map((program) => {
     try {
       fs.accessSync(program, fs.constants.X_OK);
@@ -42,8 +43,8 @@ function programs() {
 
 class Runner {
   // `size` is how many shells there are; files in the folder have names that begin with `prefix`.
-  constructor({ size, folder, prefix }) {
-    this.programs = programs();
+  constructor({ programs, size, folder, prefix }) {
+    this.programs = programs;
     this.folder = folder;
     this.prefix = prefix;
     this.jobs = new Map();
@@ -125,4 +126,4 @@ class Runner {
   }
 }
 
-module.exports = { Runner };
+module.exports = { Runner, programsToRun };

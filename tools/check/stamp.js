@@ -5,7 +5,7 @@ const crypto = require('crypto');
 const fs = require('fs');
 const path = require('path');
 const { load } = require('../source-to-tree/load.js');
-const { TOOLS, programPath } = require('../programs/index.js');
+const { CRATES, programPath } = require('../programs/index.js');
 const { version } = require('../../package.json');
 
 const FOLDERS = ['analyse', 'check', 'programs', 'source-to-tree'].map((name) => path.join(__dirname, '..', name));
@@ -35,7 +35,7 @@ function traceOfPackage(name) {
 
 function stamp() {
   load('globals');
-  const programs = [...new Set(Object.values(TOOLS).map(({ crate }) => programPath(crate)))];
+  const programs = CRATES.map(programPath);
   const traces = [version, process.version, ...[...FOLDERS.flatMap(filesBelow), ...programs].map(traceOf), ...PACKAGES.map(traceOfPackage)];
   return crypto.createHash('sha256').update(JSON.stringify(traces)).digest('base64');
 }

@@ -8,6 +8,7 @@ const { spawnSync } = require('child_process');
 const { linkSet } = require('../link/index.js');
 const { randomOf } = require('./random.js');
 const { projectOf } = require('./projects.js');
+const { faultsOf } = require('./standard.js');
 const { placesOf, spoil } = require('./spoil.js');
 const { compareOutlines } = require('./outlines.js');
 
@@ -56,9 +57,13 @@ function spoiledCopy(folder, entries, random, count) {
     const before = linkSet(files, { cwd: copy });
     const wanted = spoil(random.some(placesOf(before), count));
     const after = linkSet(files, { cwd: copy });
-    const told = after.findings.map(({ module, span }) => lineOf({ module, span, message: '' }));
-    const lost = wanted.filter((place) => !told.includes(place));
-    const more = told.filter((place) => !wanted.includes(place));
+    const places = new Set(wanted);
+    const placeOf = ({ module, span }) => lineOf({ module, span, message: '' });
+    const told = new Set(after.findings.map(placeOf));
+    const lost = wanted.filter((place) => !told.has(place));
+    // An import of a name that is passed on by a spoiled export leads nowhere, too.
+    const isCaused = ({ related }) => related.some((one) => places.has(placeOf(one)));
+    const more = after.findings.filter((finding) => !places.has(placeOf(finding)) && !isCaused(finding)).map(placeOf);
     console.log(`spoiled ${folder}: ${wanted.length} places, ${wanted.length - lost.length} told, ${more.length} others told`);
     [...lost.map((place) => `lost ${place}`), ...more.map((place) => `more ${place}`)].forEach((line) => console.log(line));
     return { lost, more };
@@ -102,55 +107,90 @@ function nodeAnswers(projects) {
   return JSON.parse(run.stdout);
 }
 
-function ownAnswers(projects) {
-  return withFolder((folder) => projects.map((project) => {
-    Object.entries(project).forEach(([name, text]) => fs.writeFileSync(path.join(folder, name), text));
-    return linkSet([Object.keys(project)[0]], { cwd: folder }).findings.map(({ module, span, rule, message }) => (
-      { file: module.shown, line: module.positions.placeOf(span.start).line, rule, name: /^'(.*?)'/.exec(message)?.[1] }
-    ));
-  }));
+// Findings, and the lines of imports and exports that lead to a namespace.
+function ownAnswer(project, folder) {
+  Object.entries(project).forEach(([name, text]) => fs.writeFileSync(path.join(folder, name), text));
+  const { findings, outcomes } = linkSet([Object.keys(project)[0]], { cwd: folder });
+  const placed = ({ module, span }) => ({ file: module.shown, line: module.positions.placeOf(span.start).line });
+  const led = [...outcomes.imports.map(({ module, wanted, outcome }) => ({ module, span: wanted.span, outcome })), ...outcomes.exports.map(({ module, entry, outcome }) => ({ module, span: entry.span, outcome }))];
+  return {
+    findings: findings.map((finding) => ({ ...placed(finding), rule: finding.rule, name: /^'(.*?)'/.exec(finding.message)?.[1] })),
+    namespaces: led.filter(({ outcome }) => outcome.word === 'namespace').map(placed).map(lineAt),
+  };
 }
 
-const isAt = (a) => (b) => a.file === b.file && a.line === b.line;
+const ownAnswers = (projects) => withFolder((folder) => projects.map((project) => ownAnswer(project, folder)));
 
+const lineAt = ({ file, line }) => `${file}:${line}`;
 const namedBy = (error) => /name(?:d)? '(.*?)'/.exec(error.message)[1];
 const isAmbiguous = ({ message }) => /conflicting star exports/.test(message);
 
-// Where Node and the linker differ on purpose, by name:
-//   namespace  two `export * as n` of one module are one namespace by whichever ways they are reached; Node says ambiguous
-//   star       an ambiguous name is told where it is imported; Node tells it at the `export *` that meets both
+// Where Node differs from the Standard or tells another place, by name:
+//   star   an ambiguous name is told where it is imported; Node tells it at the `export *` that meets both
+//   cycle  a name has a ring and another way out; Node says that it found a ring, the Standard goes the other way
+//   namespace  of a namespace that several modules import and export each is ambiguous with the others, here they are one
 const DIFFERENCES = {
-  namespace: (error, project) => isAmbiguous(error) && Object.values(project).join('').split(`export * as ${namedBy(error)} `).length > 2,
-  star: (error, project, own) => isAmbiguous(error) && project[error.file].split('\n')[error.line - 1].startsWith('export * from')
+  namespace: (error, { namespaces }) => isAmbiguous(error) && namespaces.includes(lineAt(error)),
+  star: (error, { project, own }) => isAmbiguous(error) && project[error.file].split('\n')[error.line - 1].startsWith('export * from')
     && own.some(({ rule, name }) => rule === 'ambiguous-export' && name === namedBy(error)),
+  cycle: (error, { standard }) => /Detected cycle/.test(error.message) && !standard.includes(lineAt(error)),
 };
 
-const differenceOf = (error, project, own) => Object.keys(DIFFERENCES).find((name) => DIFFERENCES[name](error, project, own));
+const differenceOf = (error, compared) => Object.keys(DIFFERENCES).find((name) => DIFFERENCES[name](error, compared));
 
-function compareProject(project, own, { errors, isWhole }) {
-  const lost = errors.filter((error) => !own.some(isAt(error)));
-  const accounted = lost.map((error) => differenceOf(error, project, own));
+// What Node tells and we don't, and the other way round where Node got to the end.
+function compareNode({ own, theirs, ...others }) {
+  const lines = own.map(lineAt);
+  const lost = theirs.errors.filter((error) => !lines.includes(lineAt(error)));
+  const accounted = lost.map((error) => differenceOf(error, { own, ...others }));
+  const told = theirs.errors.map(lineAt);
   return {
     lost: lost.filter((_, place) => accounted[place] === undefined),
     accounted: accounted.filter((name) => name !== undefined),
-    more: isWhole ? own.filter((finding) => !errors.some(isAt(finding))) : [],
+    more: theirs.isWhole ? lines.filter((line) => !told.includes(line)) : [],
   };
 }
+
+// The same for the Standard's algorithm. An import that is exported is told once, at the import.
+function compareStandard({ own, namespaces, standard, project }) {
+  const lines = own.map(lineAt);
+  const isExportOfImport = (line) => {
+    const [file, number] = line.split(':');
+    return /^export \{ \w+ as \w+ \};$/.test(project[file].split('\n')[number - 1]) && lines.includes(`${file}:${number - 1}`);
+  };
+  return {
+    lost: standard.filter((line) => !lines.includes(line) && !isExportOfImport(line) && !namespaces.includes(line)),
+    accounted: standard.filter((line) => namespaces.includes(line)),
+    more: lines.filter((line) => !standard.includes(line)),
+  };
+}
+
+function tellNode(all) {
+  const errors = all.flatMap(({ theirs }) => theirs.errors);
+  const kinds = [/does not provide/, /conflicting star/, /Detected cycle/].map((kind) => errors.filter(({ message }) => kind.test(message)).length);
+  const accounted = all.flatMap(({ byNode }) => byNode.accounted);
+  const sums = Object.keys(DIFFERENCES).map((name) => `${accounted.filter((one) => one === name).length} ${name}`);
+  const whole = all.filter(({ theirs }) => theirs.isWhole).length;
+  console.log(`node: ${errors.length} errors of Node: ${kinds[0]} missing, ${kinds[1]} ambiguous, ${kinds[2]} rings; ${whole} projects to the end`);
+  console.log(`node: accounted for by name: ${sums.join(', ')}`);
+  console.log(`node: beside the Standard ${all.flatMap(({ byStandard }) => byStandard.accounted).length} namespace`);
+  console.log(`node: the Standard's algorithm tells ${all.flatMap(({ standard }) => standard).length} lines, bolgwyr ${all.flatMap(({ own }) => own).length}`);
+}
+
+const isDiffering = ({ lost, more }) => lost.length + more.length > 0;
 
 function node({ seed, count = 200 }) {
   const random = randomOf(seed);
   const projects = Array.from({ length: count }, () => projectOf(random));
-  const own = ownAnswers(projects);
-  const theirs = nodeAnswers(projects);
-  const compared = projects.map((project, place) => ({ project, own: own[place], theirs: theirs[place], ...compareProject(project, own[place], theirs[place]) }));
-  const differing = compared.filter(({ lost, more }) => lost.length + more.length > 0);
-  const errors = theirs.flatMap((one) => one.errors);
-  const kinds = [/does not provide/, /conflicting star/, /Detected cycle/].map((kind) => errors.filter(({ message }) => kind.test(message)).length);
-  console.log(`node: ${count} projects, ${theirs.filter((one) => one.errors.length === 0).length} without errors; ${errors.length} errors of Node: ${kinds[0]} missing, ${kinds[1]} ambiguous, ${kinds[2]} rings`);
-  const accounted = compared.flatMap((one) => one.accounted);
-  const sums = Object.keys(DIFFERENCES).map((name) => `${accounted.filter((one) => one === name).length} ${name}`);
-  console.log(`node: ${theirs.filter((one) => one.isWhole).length} compared whole, ${differing.length} projects differ; accounted for: ${sums.join(', ')}`);
-  differing.slice(0, 3).forEach(({ project, lost, more }) => console.log(JSON.stringify({ project, lost, more }, null, 1)));
+  const [owns, theirs] = [ownAnswers(projects), nodeAnswers(projects)];
+  const all = projects.map((project, place) => {
+    const one = { project, own: owns[place].findings, namespaces: owns[place].namespaces, theirs: theirs[place], standard: faultsOf(project) };
+    return { ...one, byNode: compareNode(one), byStandard: compareStandard(one) };
+  });
+  const differing = all.filter(({ byNode, byStandard }) => isDiffering(byNode) || isDiffering(byStandard));
+  tellNode(all);
+  console.log(`node: ${count} projects, ${differing.length} differ`);
+  differing.slice(0, 3).forEach(({ project, byNode, byStandard }) => console.log(JSON.stringify({ project, byNode, byStandard }, null, 1)));
   return differing.length === 0;
 }
 

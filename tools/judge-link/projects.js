@@ -10,6 +10,7 @@ const EXPORTS = {
   listed: ({ name, local }) => `const ${local} = 1; export { ${local} as ${name} };`,
   passed: ({ name, from }) => `export { ${from.name} as ${name} } from './${from.file}';`,
   imported: ({ name, local, from }) => `import { ${from.name} as ${local} } from './${from.file}';\nexport { ${local} as ${name} };`,
+  namespace: ({ name, local, from }) => `import * as ${local} from './${from.file}';\nexport { ${local} as ${name} };`,
   collected: ({ name, from }) => `export * as ${name} from './${from.file}';`,
 };
 
@@ -22,7 +23,7 @@ const IMPORTS = {
 const bagOf = (shares) => Object.entries(shares).flatMap(([form, share]) => Array(share).fill(form));
 
 // How often each form stands; re-exports are rarer, as Node goes no further behind one that is wrong.
-const EXPORT_BAG = bagOf({ declared: 8, listed: 2, passed: 3, imported: 1, collected: 1 });
+const EXPORT_BAG = bagOf({ declared: 8, listed: 2, passed: 3, imported: 1, namespace: 1, collected: 1 });
 const IMPORT_BAG = bagOf({ one: 8, byDefault: 1, whole: 1 });
 
 // Which names each module exports, and of which modules it passes on all.

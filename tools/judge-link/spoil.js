@@ -2,46 +2,59 @@
 // Spoils names and paths in files, and says where the findings on them have to stand.
 
 const fs = require('fs');
+const { Positions } = require('../analyse/positions.js');
 
-// Where something can be spoiled: {module, span, into, at}, where `into` takes the place of the span and the finding stands `at` bytes
-// behind its beginning. Names of imports and of exports that lead on, and paths.
+// Where something can be spoiled: {module, specifier, span, into, at}, where `into` takes the place of the span and the finding
+// stands `at` bytes behind its beginning. Names of imports and of exports that lead on, and paths (`isPath`).
 function placesOf({ set, outcomes }) {
-  const names = outcomes.imports.filter(({ wanted }) => wanted.name !== null).map(({ module, wanted }, place) => namePlace(module, wanted, place));
-  const passed = outcomes.exports.filter(({ entry }) => entry.what === 'passed')
-    .map(({ module, entry }, place) => ({ module, span: entry.span, into: `spoiledExport${place}`, at: 0, needsAs: entry.local === entry.name, name: entry.name }));
+  const imports = outcomes.imports.map(({ module, wanted }, place) => importPlace(module, wanted, place)).filter((place) => place !== null);
+  const exports = outcomes.exports.filter(({ entry }) => entry.what === 'passed').map(({ module, entry }, place) => exportPlace(module, entry, place));
   const paths = set.modules.flatMap((module) => module.specifiers.filter(({ to }) => to.module !== undefined)
-    .map(({ span, text }, place) => ({ module, span, into: JSON.stringify(`${text}-spoiled${place}`), at: 0 })));
-  return [...names, ...passed, ...paths];
+    .map((specifier, place) => ({ module, specifier, span: specifier.span, into: JSON.stringify(`${specifier.text}-spoiled${place}`), at: 0, isPath: true })));
+  return [...imports, ...exports, ...paths];
 }
 
-// A default import becomes one of a name that isn't there.
-function namePlace(module, { span, local, name }, place) {
-  const isShort = name === local;
-  const asDefault = name === 'default' && textAt(module, span) === local;
-  if (asDefault) {
-    return { module, span, into: `{ spoiledName${place} as ${local} }`, at: 2 };
+// A default import that stands alone becomes one of a name that isn't there.
+function importPlace(module, { span, local, name, specifier }, place) {
+  if (name === null) {
+    return null;
   }
-  return { module, span, into: `spoiledName${place}${isShort ? ` as ${local}` : ''}`, at: 0 };
+  if (name === 'default' && textAt(module, span) === local) {
+    const isAlone = module.outline.imports.filter((one) => one.specifier === specifier).length === 1;
+    return isAlone ? { module, specifier, span, into: `{ spoiledName${place} as ${local} }`, at: 2 } : null;
+  }
+  return { module, specifier, span, into: `spoiledName${place}${name === local ? ` as ${local}` : ''}`, at: 0 };
+}
+
+// `export { a } from` becomes `export { spoiled as a } from`, unless `as` stands there already.
+function exportPlace(module, { span, name, specifier }, place) {
+  const behind = module.text.slice(module.positions.indexOf(span.end)).match(/^\s*(?:as\b)?/)[0];
+  const as = behind.trim() === 'as' ? '' : ` as ${name}`;
+  return { module, specifier, span, into: `spoiledExport${place}${as}`, at: 0 };
 }
 
 const textAt = (module, span) => module.positions.textOf(span);
 
-// `export { a } from` becomes `export { spoiled as a } from`, unless `as` stands there already.
-function written({ module, span, into, needsAs, name }) {
-  if (!needsAs) {
-    return into;
-  }
-  const behind = module.text.slice(module.positions.indexOf(span.end)).match(/^\s*(?:as\b)?/)[0];
-  return behind.trim() === 'as' ? into : `${into} as ${name}`;
+// Where a path is spoiled nothing is said of its names.
+function apart(places) {
+  const spoiled = new Set(places.filter(({ isPath }) => isPath).map(({ specifier }) => specifier));
+  return places.filter(({ isPath, specifier }) => isPath || !spoiled.has(specifier));
 }
 
-// Of a statement one place at most, or its findings would be one another's.
-function apart(places) {
-  const taken = new Set();
-  return places.filter(({ module, span }) => {
-    const key = `${module.file} ${module.positions.placeOf(span.start).line}`;
-    return !taken.has(key) && taken.add(key);
-  });
+// The bytes of a file with its places spoiled, and where these begin then.
+function spoiledBytes(module, places) {
+  const bytes = fs.readFileSync(module.file);
+  const pieces = [];
+  const starts = [];
+  let done = 0;
+  let length = 0;
+  for (const { span, into, at } of places.sort((a, b) => a.span.start - b.span.start)) {
+    pieces.push(bytes.subarray(done, span.start), Buffer.from(into));
+    starts.push(length + span.start - done + at);
+    length += span.start - done + Buffer.byteLength(into);
+    done = span.end;
+  }
+  return { bytes: Buffer.concat([...pieces, bytes.subarray(done)]), starts };
 }
 
 // Writes the files, and gives the places of the findings as `file:line:column: `.
@@ -50,17 +63,15 @@ function spoil(chosen) {
   for (const place of apart(chosen)) {
     byModule.set(place.module, [...(byModule.get(place.module) || []), place]);
   }
-  const wanted = [];
-  for (const [module, places] of byModule) {
-    let bytes = fs.readFileSync(module.file);
-    for (const place of places.sort((a, b) => b.span.start - a.span.start)) {
-      bytes = Buffer.concat([bytes.subarray(0, place.span.start), Buffer.from(written(place)), bytes.subarray(place.span.end)]);
-      const { line, column } = module.positions.placeOf(place.span.start);
-      wanted.push(`${module.shown}:${line}:${column + place.at}: `);
-    }
+  return [...byModule].flatMap(([module, places]) => {
+    const { bytes, starts } = spoiledBytes(module, places);
     fs.writeFileSync(module.file, bytes);
-  }
-  return wanted;
+    const positions = new Positions(bytes.toString('utf8'));
+    return starts.map((start) => {
+      const { line, column } = positions.placeOf(start);
+      return `${module.shown}:${line}:${column}: `;
+    });
+  });
 }
 
 module.exports = { placesOf, spoil };

@@ -72,7 +72,7 @@ function dot({ nodes, edges }) {
 }
 
 // Characters that steer mermaid stand as their numbers.
-const escaped = (text) => `"${text.replace(/[^\w ./@,()*$-]/g, (sign) => `#${sign.codePointAt(0)};`)}"`;
+const escaped = (text) => `"${text.replace(/[^\w ./@,:()*$-]/g, (sign) => `#${sign.codePointAt(0)};`)}"`;
 
 function mermaid({ nodes, edges }) {
   const numbers = new Map(nodes.map(({ name }, place) => [name, `n${place}`]));

@@ -25,6 +25,7 @@ sys.dont_write_bytecode = True
 
 from crates import SOURCES_AND_PROOFS, TOP, Listed, Stamp, add_files, bytes_in, checksum_of, files_of, folder_of
 from ended import Ended, Parent, end, end_by, heed_signals, start
+from forecast import Forecast, functions_of, jobs_for, measured, work_of
 from kit import Kit, Unbuilt
 from progress import Progress
 
@@ -34,29 +35,8 @@ LOOKS_EVERY = 0.2
 # The memory that a proof may take, in bytes.
 MEMORY_OF_PROOF = 3_000_000_000
 
-# What a crate takes, reckoned in functions: the answers for some functions are long, what the crate stands on is read, and some
-# of that is written into its own library.
-FUNCTION = re.compile(rb"\bfn \w")
-FUNCTIONS_FOR_CRATE = 10
-FUNCTIONS_FOR_CRATE_BELOW = 2
-LINES_FOR_FUNCTION = 9
-FUNCTIONS_FOR_JOB = 40
-MOST_JOBS = 2
-ANSWERS = "Answers.antt", "Invariants.antt", "Proof.antt"
-
 # How rattle ends what it says of a crate that is proved.
 PROVED = re.compile(r"^logic=proved ", re.MULTILINE)
-
-
-def proofs_of(crate):
-    """What the proofs of the crate's functions take, reckoned in functions."""
-    functions, lines = 0, 0
-    for path in files_of(crate, SOURCES_AND_PROOFS):
-        if path.endswith(".rt"):
-            functions += len(FUNCTION.findall(bytes_in(path)))
-        elif path.endswith(ANSWERS):
-            lines += bytes_in(path).count(b"\n")
-    return functions + lines // LINES_FOR_FUNCTION
 
 
 def children_took():
@@ -68,7 +48,7 @@ def children_took():
 class Crate:
     """A crate on the way, over those below it, and its proof, if that runs."""
 
-    def __init__(self, name, listed, below, kit):
+    def __init__(self, name, listed, below, kit, known):
         self.name, self.listed, self.kit = name, listed, kit
         self.is_static = name in listed.static
         self.libraries = listed.named[name]
@@ -76,13 +56,12 @@ class Crate:
         self.at = folder_of(name)
         self.out = f"{self.at}/out/proved"
         self.is_program = os.path.isfile(f"{self.at}/src/main.rt")
-        self.proofs = proofs_of(name)
-        self.work = FUNCTIONS_FOR_CRATE + FUNCTIONS_FOR_CRATE_BELOW * len(below) + self.proofs
+        self.functions = functions_of(name)
+        self.work = work_of(name, self.functions, len(below), known)
         # The work of the longest chain of crates from this one on.
         self.chain = self.work
-        self.begun = time.time_ns()
         self.wanted = self.checksum()
-        self.running, self.jobs, self.log = None, 0, None
+        self.running, self.begun, self.jobs, self.log = None, None, 0, None
         self.is_done = os.path.exists(self.made()) and self.proved_from() == self.wanted
 
     def checksum(self):
@@ -129,9 +108,12 @@ class Crate:
             with contextlib.suppress(FileNotFoundError):
                 os.remove(f"{self.out}/{name}")
         shutil.rmtree(f"{self.out}/{self.name}.rlib", ignore_errors=True)
-        self.begun_at = time.time()
+        self.begun = time.monotonic()
         self.jobs, self.log = jobs, tempfile.TemporaryFile("w+", errors="replace")
         self.running = start([*self.kit.rattle(), *self.words(jobs)], cwd=self.at, stdout=self.log, stderr=subprocess.STDOUT)
+
+    def elapsed(self):
+        return time.monotonic() - self.begun
 
     def has_ended(self):
         """Tells whether the proof ended, and notes the processor time that it took."""
@@ -151,7 +133,7 @@ class Crate:
             with open(f"{self.out}/proved-from", "w", encoding="utf-8") as file:
                 file.write(self.wanted)
             with open(f"{self.out}/took", "w", encoding="utf-8") as file:
-                file.write(f"{self.took:.1f} {time.time() - self.begun_at:.1f} {self.jobs} {self.work} {self.proofs}\n")
+                file.write(f"{self.name} {self.took:.0f}\n")
         self.is_done = is_proved
 
     def link(self):
@@ -183,12 +165,12 @@ class Proof:
 
     def __init__(self, names, kit, progress, parent):
         listed = Listed()
-        made = {}
+        made, known = {}, measured()
         for name in names:
             for it in listed.in_order(name):
                 if it not in made:
                     below = [made[lower] for lower in listed.in_order(it)[:-1]]
-                    made[it] = Crate(it, listed, below, kit)
+                    made[it] = Crate(it, listed, below, kit, known)
         self.names = " and ".join(names)
         self.asked = [made[it] for it in names]
         self.crates = [*made.values()]
@@ -197,28 +179,24 @@ class Proof:
                 below.chain = max(below.chain, below.work + crate.chain)
         memory = os.sysconf("SC_PAGE_SIZE") * os.sysconf("SC_PHYS_PAGES")
         self.processors = min(len(os.sched_getaffinity(0)), max(memory // MEMORY_OF_PROOF, 1))
+        self.forecast = Forecast(self.crates, self.processors)
         self.progress, self.parent = progress, parent
 
-    def state(self, what):
-        minutes = int(self.progress.seconds() / 60)
+    def show(self):
+        """Shows how far the proof is."""
         done = sum(it.is_done for it in self.crates)
-        return f"{self.names}: {what} ({done} of {len(self.crates)} crates done, {minutes} minutes so far)"
+        how_far = f"{done} of {len(self.crates)} crates, {self.progress.seconds() / 60:.0f} min so far, some {self.forecast.seconds_left() / 60:.0f} min left"
+        at_work = ", ".join(it.name for it in self.at_work())
+        self.progress.show_part(self.names, self.forecast.percent(), f"{how_far}: {at_work}")
 
     def at_work(self):
         return [it for it in self.crates if it.running]
 
     def start_ready(self):
-        """Starts the crates that wait for none, that with the longest chain above first, as long as a processor is idle. A large
-        one gets a second that would stay idle. Each job reads what the crate stands on, so a small one gets no second, and none a
-        third."""
+        """Starts the crates that wait for none, as long as a processor is idle."""
         idle = self.processors - sum(it.jobs for it in self.at_work())
-        ready = sorted((it for it in self.crates if it.is_ready()), key=lambda it: -it.chain)
-        for behind, crate in zip(reversed(range(len(ready))), ready):
-            if idle > 0:
-                jobs = max(min(idle - behind, MOST_JOBS, crate.proofs // FUNCTIONS_FOR_JOB), 1)
-                crate.start(jobs)
-                self.progress.show(self.state(f"proving {crate.name}"))
-                idle -= jobs
+        for crate, jobs in jobs_for([it for it in self.crates if it.is_ready()], idle):
+            crate.start(jobs)
 
     def run(self):
         """Proves all that is left, and gives the crate of one that can't be, if there is one."""
@@ -230,7 +208,9 @@ class Proof:
                 crate.finish()
                 if not crate.is_done:
                     return crate
-            self.progress.show(self.state("proving " + ", ".join(it.name for it in self.at_work())))
+                self.forecast.note(crate, crate.elapsed())
+            if self.progress.is_due():
+                self.show()
         for crate in self.asked:
             crate.stamp()
         return None
@@ -252,6 +232,11 @@ def alone(progress):
         yield
 
 
+def minutes_for(crate, kit):
+    """How many minutes the proof of a program is likely to take."""
+    return Proof([crate], kit, None, None).forecast.seconds_left() / 60
+
+
 def prove(names, progress, parent):
     proof = Proof(names, Kit(), progress, parent)
     try:
@@ -259,8 +244,8 @@ def prove(names, progress, parent):
     finally:
         proof.end()
     if failed:
-        raise Unbuilt(f"{failed.told()}\n{proof.names}: {failed.name} can't be built")
-    progress.say(proof.state("proved"))
+        raise Unbuilt(f"{failed.told().rstrip()}\n{proof.names}: {failed.name} can't be built")
+    progress.say(f"{proof.names}: proved, {progress.seconds() / 60:.0f} minutes")
 
 
 def main():

@@ -19,6 +19,7 @@ const SYNTAX = [
   { what: '`accessor`', before: words('[^.]$'), from: words(`^accessor${SPACE}(?:${NAME}|["'#[\\d])`), by: ['typescript'] },
   { what: '`satisfies`', before: words(`[^.\\s]\\s*$`), from: words(`^satisfies\\s`), by: ['typescript'] },
   { what: '`satisfies`', before: words('(?:^|[^.])$'), from: words(`^[\\p{ID_Continue}$]+${SPACE}satisfies\\s`), by: ['typescript'] },
+  { what: 'this character in names', before: words(''), from: words('^#?(?![\\0-\\x7f])[\\p{ID_Start}\\p{ID_Continue}]') },
   { what: 'private names that begin with an escape', before: words(''), from: words('^#\\\\u'), by: ['typescript'] },
   { what: 'attributes of imports', before: words(`["']\\s*$`), from: words('^with\\s*\\{') },
   { what: 'attributes of imported types', before: words(`\\(\\s*["'][^"']*["']\\s*,\\s*\\{\\s*$`), from: words('^with\\s*:'), by: ['typescript'] },

@@ -120,7 +120,7 @@ function faults({ put, run }, expect) {
   expect('a missing file', '3 bolgwyr: none.mjs: no such file', lines(['none.mjs:3:7', 'a']));
   expect('a folder', '3 bolgwyr: .: is a folder', lines(['.:3:7', 'a']));
   put('bytes.js', Buffer.from([0x61, 0xff]));
-  expect('no UTF-8', '3 bolgwyr: bytes.js: not UTF-8 at byte 1', lines(['bytes.js:1:1', 'a']));
+  expect('no UTF-8', '3 bolgwyr: bytes.js:1:2: not UTF-8 at byte 1', lines(['bytes.js:1:1', 'a']));
   put('broken.js', 'let a = 1 +;\n');
   expect('a syntax error', '3 bolgwyr: broken.js:1:12: Unexpected token', lines(['broken.js:1:5', 'b']));
   expect('a line beyond the last', '1 sum.mjs: there is no line 9: the last one is 7', lines(['sum.mjs:9:1', 'a']));

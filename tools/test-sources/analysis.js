@@ -4,9 +4,9 @@
 const { spawnSync } = require('child_process');
 const { programPath } = require('../programs/index.js');
 
-// The report of a tree, or why there is none.
-function reportOf(json) {
-  const run = spawnSync(programPath('report_main'), { input: json, maxBuffer: 1 << 30 });
+// The report of a tree, or why there is none. The words are the report program's.
+function reportOf(json, words = []) {
+  const run = spawnSync(programPath('report_main'), words, { input: json, maxBuffer: 1 << 30 });
   if (run.status === 0 || run.status === 1) return { report: run.stdout.toString() };
   return { refused: `status ${run.status}: ${run.stderr.toString().trim()}` };
 }

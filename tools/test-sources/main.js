@@ -10,6 +10,8 @@ const { checkCommands } = require('./commands');
 const { checkDialects } = require('./dialects');
 const { checkAges } = require('./ages');
 const { checkParsers } = require('./parsers');
+const { checkTest262 } = require('./test262');
+const { checkTypeScript } = require('./typescript-cases');
 const { Files } = require('./files');
 
 const INSTALLED = '/usr/share/nodejs';
@@ -36,8 +38,14 @@ function filesOf(words) {
   return words.length > 0 ? words : filesBelow(INSTALLED);
 }
 
-function main(words) {
-  const tally = new Tally();
+const COLLECTIONS = { '--test262': checkTest262, '--typescript': checkTypeScript };
+
+// A collection of sources: its folder, and of how many files one is taken.
+function checkCollection(tally, [word, folder, stride = '1', ...ways]) {
+  COLLECTIONS[word](tally, folder, Number(stride), ways.length > 0 ? ways : ['acorn', 'estree', 'typescript']);
+}
+
+function checkAll(tally, words) {
   checkCases(tally);
   checkDialects(tally);
   checkDifferences(tally);
@@ -48,6 +56,12 @@ function main(words) {
   const files = new Files(tally);
   for (const file of filesOf(words)) files.check(file);
   files.print();
+}
+
+function main(words) {
+  const tally = new Tally();
+  if (words[0] in COLLECTIONS) checkCollection(tally, words);
+  else checkAll(tally, words);
   console.log(`${tally.passed} passed, ${tally.failed} failed`);
   return tally.failed === 0 ? 0 : 1;
 }

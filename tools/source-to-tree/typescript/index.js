@@ -40,7 +40,7 @@ class TypeScriptConversion {
     this.text = text;
     this.writer = writer;
     this.annotations = annotations;
-    this.isTyped = writer.typed;
+    this.isTyped = writer.isTyped;
     this.afterHashbang = text.startsWith('#!') ? lineEndFrom(text, 2) : 0;
     this.hidden = [];
     this.longWays = new Map();
