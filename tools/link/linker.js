@@ -72,10 +72,12 @@ function askingRows(asked) {
   return rows;
 }
 
+const memberText = (name, rows) => Buffer.from(`{"name":${JSON.stringify(name)},"tree":${JSON.stringify(treeText(rows))}}`);
+
 function setText(linked, asked) {
-  const member = (name, rows) => Buffer.from(`{"name":${JSON.stringify(name)},"tree":${JSON.stringify(treeText(rows))}}`);
-  const members = linked.map((module) => member(`m${module.number}`, module.kind === 'module' ? module.outline.rows : DEFAULT_ONLY));
-  members.push(member(EMPTY, [ROOT]), member(ASKING, askingRows(asked)));
+  const rowsOf = (module) => (module.kind === 'module' ? module.outline.rows : DEFAULT_ONLY);
+  const members = linked.map((module) => memberText(`m${module.number}`, rowsOf(module)));
+  members.push(memberText(EMPTY, [ROOT]), memberText(ASKING, askingRows(asked)));
   const pieces = members.flatMap((one, place) => (place === 0 ? [one] : [Buffer.from(','), one]));
   return Buffer.concat([Buffer.from('{"modules":['), ...pieces, Buffer.from(']}')]);
 }
@@ -84,8 +86,8 @@ function setText(linked, asked) {
 function refusedSet(line, linked) {
   const found = /^link: (.*?)(\d+)(.*)$/.exec(line);
   const module = found === null ? undefined : linked[Number(found[2])];
-  const cause = line.replace(/^link: /, '');
-  return new RunFault(module === undefined ? `the linker refuses the set: ${cause}` : `the linker refuses ${module.shown}: ${cause}`);
+  const what = module === undefined ? 'the set' : module.shown;
+  return new RunFault(`the linker refuses ${what}: ${line.replace(/^link: /, '')}`);
 }
 
 // Lines `import MODULE NODE "NAME" OUTCOME ..`, in the order of modules and nodes.
@@ -110,17 +112,26 @@ function run(linked, asked) {
   throw new RunFault(FAILURES.get(status) || `the linker ended with ${signal || status}: ${line}`);
 }
 
+function importsByNode(module) {
+  return new Map((module.outline === null ? [] : module.outline.imports).map((one) => [one.node, one]));
+}
+
 // {imports: [{module, wanted, outcome}], exports: [{module, entry, outcome}]}; an outcome has `word` and `module`.
 function outcomes(modules) {
   const linked = modules.filter((module) => module.isLinked);
   const asked = leadingExports(modules);
-  const told = run(linked, asked).map(({ module, node, word, number }) => ({ at: module, node, outcome: { word, module: linked[number] || null } }));
-  const byNode = new Map(linked.map((module) => [module, new Map((module.outline === null ? [] : module.outline.imports).map((one) => [one.node, one]))]));
-  const own = told.filter(({ at }) => at < linked.length);
-  return {
-    imports: own.map(({ at, node, outcome }) => ({ module: linked[at], wanted: byNode.get(linked[at]).get(node), outcome })),
-    exports: told.slice(own.length).map(({ outcome }, place) => ({ ...asked[place], outcome })),
-  };
+  const byNode = linked.map(importsByNode);
+  const imports = [];
+  const exports = [];
+  for (const { module, node, word, number } of run(linked, asked)) {
+    const outcome = { word, module: linked[number] || null };
+    if (module < linked.length) {
+      imports.push({ module: linked[module], wanted: byNode[module].get(node), outcome });
+    } else {
+      exports.push({ ...asked[exports.length], outcome });
+    }
+  }
+  return { imports, exports };
 }
 
 module.exports = { linkedName, outcomes };
