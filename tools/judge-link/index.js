@@ -12,8 +12,9 @@ const { faultsOf } = require('./standard.js');
 const { placesOf, spoil } = require('./spoil.js');
 const { compareOutlines } = require('./outlines.js');
 
-const PACKAGES = ['lodash-es/lodash.js', 'terser/main.js', 'acorn/dist/acorn.mjs', 'globby/index.js', 'commander/esm.mjs', 'eslint-visitor-keys', 'magic-string']
-  .flatMap((name) => ['/usr/share/nodejs', '/usr/lib/nodejs'].map((folder) => path.join(folder, name)))
+// Modules that Debian installs.
+const PACKAGES = ['lodash-es/lodash.js', 'terser/main.js', 'acorn/dist/acorn.mjs', 'globby/index.js', 'commander/esm.mjs', 'magic-string']
+  .map((name) => path.join('/usr/share/nodejs', name))
   .filter((file) => fs.existsSync(file));
 
 const lineOf = ({ module, span, message }) => {
@@ -23,10 +24,8 @@ const lineOf = ({ module, span, message }) => {
 
 function clean() {
   return PACKAGES.map((entry) => {
-    const started = performance.now();
     const { set, outcomes, findings } = linkSet([entry]);
-    const time = Math.round(performance.now() - started);
-    console.log(`clean ${entry}: ${set.modules.length} modules, ${outcomes.imports.length} imports, ${findings.length} findings, ${time} ms`);
+    console.log(`clean ${entry}: ${set.modules.length} modules, ${outcomes.imports.length} imports, ${findings.length} findings`);
     findings.forEach((finding) => console.log(lineOf(finding)));
     return findings.length === 0;
   }).every(Boolean);
@@ -112,7 +111,10 @@ function ownAnswer(project, folder) {
   Object.entries(project).forEach(([name, text]) => fs.writeFileSync(path.join(folder, name), text));
   const { findings, outcomes } = linkSet([Object.keys(project)[0]], { cwd: folder });
   const placed = ({ module, span }) => ({ file: module.shown, line: module.positions.placeOf(span.start).line });
-  const led = [...outcomes.imports.map(({ module, wanted, outcome }) => ({ module, span: wanted.span, outcome })), ...outcomes.exports.map(({ module, entry, outcome }) => ({ module, span: entry.span, outcome }))];
+  const led = [
+    ...outcomes.imports.map(({ module, wanted, outcome }) => ({ module, span: wanted.span, outcome })),
+    ...outcomes.exports.map(({ module, entry, outcome }) => ({ module, span: entry.span, outcome })),
+  ];
   return {
     findings: findings.map((finding) => ({ ...placed(finding), rule: finding.rule, name: /^'(.*?)'/.exec(finding.message)?.[1] })),
     namespaces: led.filter(({ outcome }) => outcome.word === 'namespace').map(placed).map(lineAt),
@@ -167,14 +169,16 @@ function compareStandard({ own, namespaces, standard, project }) {
 
 function tellNode(all) {
   const errors = all.flatMap(({ theirs }) => theirs.errors);
-  const kinds = [/does not provide/, /conflicting star/, /Detected cycle/].map((kind) => errors.filter(({ message }) => kind.test(message)).length);
+  const KINDS = [/does not provide/, /conflicting star/, /Detected cycle/];
+  const kinds = KINDS.map((kind) => errors.filter(({ message }) => kind.test(message)).length);
   const accounted = all.flatMap(({ byNode }) => byNode.accounted);
   const sums = Object.keys(DIFFERENCES).map((name) => `${accounted.filter((one) => one === name).length} ${name}`);
   const whole = all.filter(({ theirs }) => theirs.isWhole).length;
-  console.log(`node: ${errors.length} errors of Node: ${kinds[0]} missing, ${kinds[1]} ambiguous, ${kinds[2]} rings; ${whole} projects to the end`);
+  const told = `${kinds[0]} missing, ${kinds[1]} ambiguous, ${kinds[2]} rings`;
+  console.log(`node: ${errors.length} errors of Node: ${told}; ${whole} projects to the end`);
   console.log(`node: accounted for by name: ${sums.join(', ')}`);
-  console.log(`node: beside the Standard ${all.flatMap(({ byStandard }) => byStandard.accounted).length} namespace`);
-  console.log(`node: the Standard's algorithm tells ${all.flatMap(({ standard }) => standard).length} lines, bolgwyr ${all.flatMap(({ own }) => own).length}`);
+  const counts = [({ standard }) => standard, ({ own }) => own, ({ byStandard }) => byStandard.accounted].map((part) => all.flatMap(part).length);
+  console.log(`node: the Standard's algorithm tells ${counts[0]} lines, bolgwyr ${counts[1]}; accounted for by name: ${counts[2]} namespace`);
 }
 
 const isDiffering = ({ lost, more }) => lost.length + more.length > 0;
