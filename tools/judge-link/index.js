@@ -69,11 +69,11 @@ function spoiledCopy(folder, entries, random, count) {
   });
 }
 
-const scripts = (folder, pattern) => fs.readdirSync(folder, { recursive: true }).filter((name) => pattern.test(name) && !/node_modules/.test(name)).sort();
+const scripts = (folder) => fs.readdirSync(folder, { recursive: true }).filter((name) => name.endsWith('.js')).sort();
 
 const SPOILED = [
-  ['/usr/share/nodejs/lodash-es', (copy) => scripts(copy, /\.js$/)],
-  ['/usr/share/nodejs/terser', (copy) => ['main.js', ...scripts(path.join(copy, 'lib'), /\.js$/).map((name) => `lib/${name}`)]],
+  ['/usr/share/nodejs/lodash-es', (copy) => scripts(copy)],
+  ['/usr/share/nodejs/terser', (copy) => ['main.js', ...scripts(path.join(copy, 'lib')).map((name) => `lib/${name}`)]],
 ];
 
 function spoiled({ seed, count = 100 }) {
@@ -98,8 +98,9 @@ function withFolder(run) {
 
 // What Node says of the projects.
 function nodeAnswers(projects) {
-  const input = (folder) => JSON.stringify({ folder, projects });
-  const run = withFolder((folder) => spawnSync(process.execPath, [path.join(__dirname, 'node-errors.js')], { input: input(folder), encoding: 'utf8', maxBuffer: Infinity }));
+  const program = path.join(__dirname, 'node-errors.js');
+  const options = (folder) => ({ input: JSON.stringify({ folder, projects }), encoding: 'utf8', maxBuffer: Infinity });
+  const run = withFolder((folder) => spawnSync(process.execPath, [program], options(folder)));
   if (run.status !== 0) {
     throw new Error(run.stderr);
   }

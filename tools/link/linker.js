@@ -17,6 +17,9 @@ const FAILURES = new Map([
   [7, 'the linker wants more memory'],
 ]);
 
+// A text in ASCII, as a file's name may have halves of characters, which the linker takes none of; texts that differ stay so.
+const ascii = (text) => text.replace(/[^ -[\]-~]/g, (unit) => `\\u${unit.charCodeAt(0).toString(16)};`);
+
 // What a module is called in the set. Of what stands outside of it the linker takes no `export *`: that leads to a module
 // without exports, and what it may pass on is told apart later.
 function linkedName(specifier) {
@@ -27,7 +30,7 @@ function linkedName(specifier) {
   if (isStar) {
     return EMPTY;
   }
-  return `x:${to.module === undefined ? to.external || specifier.text : to.module.file}`;
+  return `x:${ascii(to.module === undefined ? to.external || specifier.text : to.module.file)}`;
 }
 
 function rowText([depth, role, kind, text, mark]) {
