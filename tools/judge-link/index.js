@@ -7,7 +7,7 @@ const path = require('path');
 const { spawnSync } = require('child_process');
 const { linkSet } = require('../link/index.js');
 const { randomOf } = require('./random.js');
-const { projectOf } = require('./projects.js');
+const { FIXED, projectOf } = require('./projects.js');
 const { faultsOf } = require('./standard.js');
 const { placesOf, spoil } = require('./spoil.js');
 const { compareOutlines } = require('./outlines.js');
@@ -76,7 +76,7 @@ const SPOILED = [
   ['/usr/share/nodejs/terser', (copy) => ['main.js', ...scripts(path.join(copy, 'lib')).map((name) => `lib/${name}`)]],
 ];
 
-function spoiled({ seed, count = 100 }) {
+function spoiled({ seed, count = 120 }) {
   const random = randomOf(seed);
   const folders = SPOILED.filter(([folder]) => fs.existsSync(folder));
   return folders.map(([folder, entries]) => {
@@ -186,7 +186,7 @@ const isDiffering = ({ lost, more }) => lost.length + more.length > 0;
 
 function node({ seed, count = 200 }) {
   const random = randomOf(seed);
-  const projects = Array.from({ length: count }, () => projectOf(random));
+  const projects = [...FIXED, ...Array.from({ length: count }, () => projectOf(random))];
   const [owns, theirs] = [ownAnswers(projects), nodeAnswers(projects)];
   const all = projects.map((project, place) => {
     const one = { project, own: owns[place].findings, namespaces: owns[place].namespaces, theirs: theirs[place], standard: faultsOf(project) };
@@ -194,7 +194,7 @@ function node({ seed, count = 200 }) {
   });
   const differing = all.filter(({ byNode, byStandard }) => isDiffering(byNode) || isDiffering(byStandard));
   tellNode(all);
-  console.log(`node: ${count} projects, ${differing.length} differ`);
+  console.log(`node: ${projects.length} projects, ${differing.length} differ`);
   differing.slice(0, 3).forEach(({ project, byNode, byStandard }) => console.log(JSON.stringify({ project, byNode, byStandard }, null, 1)));
   return differing.length === 0;
 }
