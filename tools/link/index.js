@@ -28,7 +28,8 @@ const { moduleSet } = require('./set.js');
 
 // Of a file that isn't read the beginning is the place.
 function placeOf(module, span) {
-  const [from, to] = [span.start, span.end].map((byte) => (module.text === null ? { line: 1, column: 1 } : module.positions.placeOf(byte)));
+  const placed = (byte) => (module.text === null ? { line: 1, column: 1 } : module.positions.placeOf(byte));
+  const [from, to] = [placed(span.start), placed(span.end)];
   return { file: module.shown, line: from.line, column: from.column, endLine: to.line, endColumn: to.column, span };
 }
 
@@ -77,7 +78,8 @@ function moduleObject(module) {
 }
 
 function findingObject({ rule, module, span, message, related }) {
-  return { rule, ...placeOf(module, span), message, related: related.map((one) => ({ ...placeOf(one.module, one.span), message: one.message })) };
+  const others = related.map((one) => ({ ...placeOf(one.module, one.span), message: one.message }));
+  return { rule, ...placeOf(module, span), message, related: others };
 }
 
 function noteObject({ kind, module, span, name }) {
