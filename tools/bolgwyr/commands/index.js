@@ -6,6 +6,7 @@ const COMMANDS = [
   { name: 'check', add: require('./check.js').add },
   { name: 'rename', add: require('./rename.js').add },
   { name: 'link', add: require('./link.js').add },
+  { name: 'lsp', add: require('./lsp.js').add },
   { name: 'tables', add: require('./tables.js').add },
   { name: 'scopes', add: require('./scopes.js').add },
   { name: 'lint-names', add: require('./lint-names.js').add },
