@@ -54,4 +54,26 @@ function outlineKind(analysed, { node, flags }) {
   return flags.includes('ConstVariable') ? OUTLINE.constant : OUTLINE.variable;
 }
 
-module.exports = { OUTLINE, kindWord, outlineKind };
+// What opens a scope, by the kind of its node.
+const SCOPES = {
+  ArrowFunctionExpression: 'arrow function',
+  BlockStatement: 'block',
+  CatchClause: 'catch clause',
+  Class: 'class',
+  ForInStatement: 'for-in loop',
+  ForOfStatement: 'for-of loop',
+  ForStatement: 'for loop',
+  Function: 'function',
+  StaticBlock: 'static block',
+  SwitchStatement: 'switch',
+  TSEnumBody: 'enum',
+  TSInterfaceDeclaration: 'interface',
+  TSModuleBlock: 'namespace',
+  TSNamespaceDeclaration: 'namespace',
+  TSTypeAliasDeclaration: 'type',
+  WithStatement: 'with statement',
+};
+
+const scopeWord = (kind) => SCOPES[kind] ?? 'scope';
+
+module.exports = { OUTLINE, kindWord, outlineKind, scopeWord };

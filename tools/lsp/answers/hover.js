@@ -1,10 +1,10 @@
 'use strict';
 // What is known of the name below the pointer.
 
-const { plural, scopeKind } = require('../../analyse/page/names.js');
-const { ROLE, TEXT } = require('../../edits/rows.js');
+const { plural } = require('../../analyse/page/names.js');
+const { KIND, ROLE, TEXT } = require('../../edits/rows.js');
 const { declarationsOf } = require('../../rename/analysed.js');
-const { kindWord } = require('../kinds.js');
+const { kindWord, scopeWord } = require('../kinds.js');
 const { nameAt } = require('./navigation.js');
 
 const FLAGS = {
@@ -35,9 +35,9 @@ function ownName(analysed, node) {
 function scopeWords(analysed, id) {
   const { node, parent } = analysed.report.scopes[id];
   if (parent === null) {
-    return `the top of the ${analysed.tree.goal === 'module' ? 'module' : 'script'}`;
+    return `at the top of the ${analysed.tree.goal === 'module' ? 'module' : 'script'}`;
   }
-  return `the ${scopeKind(analysed.rows[node][2])}${ownName(analysed, node)} of ${analysed.placeOf(node)}`;
+  return `in the ${scopeWord(analysed.rows[node][KIND])}${ownName(analysed, node)} at ${analysed.placeOf(node)}`;
 }
 
 function usesWords(references) {
@@ -53,7 +53,7 @@ function symbolLines(analysed, symbol) {
   const declared = declarationsOf(symbol).length;
   const flags = [kindWord(analysed, symbol), ...wordsOf(symbol.flags), ...(declared > 1 ? [`declared ${declared} times`] : [])];
   const references = symbol.references.map((id) => analysed.report.references[id]);
-  return [flags.join(', '), `of ${scopeWords(analysed, symbol.scope)}`, usesWords(references)];
+  return [flags.join(', '), scopeWords(analysed, symbol.scope), usesWords(references)];
 }
 
 function freeLines(names, name) {
