@@ -91,17 +91,28 @@ async function tryWords() {
   expect('an unknown word', await unknown.ended, 2);
 }
 
+const AT_ONCE = 2;
+
+async function runAll(tasks) {
+  const waiting = [...tasks];
+  const run = async () => {
+    while (waiting.length > 0) {
+      await waiting.shift()();
+    }
+  };
+  await Promise.all(Array.from({ length: AT_ONCE }, run));
+}
+
 async function main() {
   const folder = fs.mkdtempSync(path.join(os.tmpdir(), 'bolgwyr-lsp-'));
+  fs.mkdirSync(path.join(folder, 'changes'));
   try {
-    await tryWords();
-    for (const conversation of CONVERSATIONS) {
-      await converse(conversation);
-    }
-    for (const kind of Object.keys(CLIENTS)) {
-      await askAll(kind, folder);
-    }
-    await tryAllChanges(folder);
+    await runAll([
+      ...Object.keys(CLIENTS).map((kind) => () => askAll(kind, folder)),
+      () => tryAllChanges(path.join(folder, 'changes')),
+      tryWords,
+      ...CONVERSATIONS.map((conversation) => () => converse(conversation)),
+    ]);
   } finally {
     fs.rmSync(folder, { recursive: true });
   }

@@ -61,29 +61,41 @@ class Connection {
     }
   }
 
-  handle({ id, method, params = {} }) {
+  handle({ id, method, params }) {
     this.log(isId(id) ? `request ${id} ${method}` : method);
     if (isId(id)) {
-      this.answer(id, method, params);
+      this.answer(id, method, params ?? {});
       return;
     }
     try {
-      this.notified(method, params);
+      this.notified(method, params ?? {});
     } catch (error) {
       this.log(`${method}: ${error instanceof ResponseFault ? error.message : error.stack}`);
     }
   }
 
-  async answer(id, method, params) {
+  // What can be answered at once is, so that answers come in the order of their requests.
+  answer(id, method, params) {
+    const succeed = (result) => this.send({ id, result: result ?? null });
+    const refuse = (error) => this.refuse(id, error);
     try {
-      const result = await this.request(method, params, id);
-      this.send({ id, result: result ?? null });
-    } catch (error) {
-      if (!(error instanceof ResponseFault)) {
-        this.log(error.stack);
+      const result = this.request(method, params, id);
+      if (result instanceof Promise) {
+        result.then(succeed, refuse);
+      } else {
+        succeed(result);
       }
-      this.fail(id, error instanceof ResponseFault ? error : new ResponseFault('internalError', error.message));
+    } catch (error) {
+      refuse(error);
     }
+  }
+
+  refuse(id, error) {
+    const isFault = error instanceof ResponseFault;
+    if (!isFault) {
+      this.log(error.stack);
+    }
+    this.fail(id, isFault ? error : new ResponseFault('internalError', error.message));
   }
 }
 

@@ -69,7 +69,11 @@ function changeLines(lines, { range, text }, encoding) {
     first -= 1;
     piece = lines[first] + piece;
   }
-  return replaceLines(lines, first, last.line - first + 1, splitLines(piece));
+  const pieces = splitLines(piece);
+  if (last.line < lines.length - 1) {
+    pieces.pop(); // what is behind the piece's last ending is the next line
+  }
+  return replaceLines(lines, first, last.line - first + 1, pieces);
 }
 
 module.exports = { changeLines, splitLines };

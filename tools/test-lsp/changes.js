@@ -96,7 +96,7 @@ async function tryChanges(editor) {
   editor.change({ range: range('1:0', '1:3'), text: 'let c =' }, { range: range('0:0', '0:0'), text: '// one\n' });
   expect('after changes of ranges', await editor.found(), ["2:4-2:5 1 no-unused: variable 'c' is never used tag 1"]);
   editor.change({ range: range('2:9', '90:0'), text: '\n' });
-  expect('after a change that breaks it', await editor.found(), [/./.test('') ? '' : '3:0-3:0 1 syntax: Unexpected token']);
+  expect('after a change that breaks it', await editor.found(), ['3:0-3:0 1 syntax: Unexpected token']);
   editor.change({ range: range('2:0', '3:0'), text: '' });
   expect('after a change that mends it', await editor.found(), ["1:4-1:5 1 no-unused: variable 'b' is never used tag 1"]);
 }
@@ -104,12 +104,18 @@ async function tryChanges(editor) {
 // Answers that a change or the client makes void.
 async function tryVoid(editor) {
   const { client } = editor;
-  const asked = editor.ask('documentSymbol');
-  editor.change({ text: 'let d;\n' });
+  let asked = 0;
+  client.together(() => {
+    asked = editor.ask('documentSymbol');
+    editor.change({ text: 'let d;\n' });
+  });
   expect('an answer to an old text', (await client.answerTo(asked)).error?.code, -32801);
-  const [first, second] = [editor.ask('documentSymbol'), editor.ask('documentSymbol')];
-  client.notify('$/cancelRequest', { id: second });
-  client.notify('$/cancelRequest', { id: 'never' });
+  let [first, second] = [0, 0];
+  client.together(() => {
+    [first, second] = [editor.ask('documentSymbol'), editor.ask('documentSymbol')];
+    client.notify('$/cancelRequest', { id: second });
+    client.notify('$/cancelRequest', { id: 'never' });
+  });
   expect('a request that is taken back', (await client.answerTo(second)).error?.code, -32800);
   expect('the request before it', (await client.answerTo(first)).result?.length, 1);
   const versions = ['e', 'f', 'g', 'h'].map((name) => editor.change({ text: `let ${name};\n` }));
@@ -120,8 +126,11 @@ async function tryVoid(editor) {
 
 async function tryClose(editor) {
   const { client, uri } = editor;
-  const asked = editor.ask('documentSymbol');
-  client.notify('textDocument/didClose', { textDocument: { uri } });
+  let asked = 0;
+  client.together(() => {
+    asked = editor.ask('documentSymbol');
+    client.notify('textDocument/didClose', { textDocument: { uri } });
+  });
   expect('an answer on a closed document', (await client.answerTo(asked)).error?.code, -32801);
   expect('diagnostics of a closed document', (await client.diagnosticsOf(uri, undefined)).params.diagnostics, []);
   expect('a request on a closed document', (await client.answerTo(editor.ask('documentSymbol'))).error?.code, -32602);

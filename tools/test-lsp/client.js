@@ -69,6 +69,13 @@ class Client {
     this.child.stdin.write(bytes);
   }
 
+  // Sends what `make` sends in one piece.
+  together(make) {
+    this.child.stdin.cork();
+    make();
+    this.child.stdin.uncork();
+  }
+
   notify(method, params) {
     this.write(frame({ method, params }));
   }
