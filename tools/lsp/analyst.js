@@ -136,10 +136,6 @@ class Analyst {
       this.worker.postMessage({ closed: uri });
     }
   }
-
-  end() {
-    return this.worker.terminate();
-  }
 }
 
 module.exports = { Analyst };

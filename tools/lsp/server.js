@@ -67,8 +67,14 @@ class Server {
     this.forget(uri);
     this.timers.set(uri, setTimeout(() => {
       this.timers.delete(uri);
-      this.analyst.askLater(uri, 'diagnostics', (diagnostics, version) => this.connection.notify(PUBLISH, { uri, version, diagnostics }));
+      this.analyst.askLater(uri, 'diagnostics', (diagnostics, version) => this.publish(uri, version, diagnostics));
     }, pause));
+  }
+
+  // While nobody asks, the tables are made ready for the next request.
+  publish(uri, version, diagnostics) {
+    this.connection.notify(PUBLISH, { uri, version, diagnostics });
+    this.analyst.askLater(uri, 'tables', () => {});
   }
 
   forget(uri) {
@@ -77,14 +83,12 @@ class Server {
   }
 
   // Ends with status 0 where the client said so before.
-  async end() {
-    if (this.isEnded) {
-      return;
+  end() {
+    if (!this.isEnded) {
+      this.isEnded = true;
+      this.timers.forEach((timer) => clearTimeout(timer));
+      this.ended(this.isShutDown ? 0 : 1);
     }
-    this.isEnded = true;
-    this.timers.forEach(clearTimeout);
-    await this.analyst?.end();
-    this.ended(this.isShutDown ? 0 : 1);
   }
 }
 

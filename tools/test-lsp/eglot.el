@@ -48,7 +48,7 @@
     (let* ((found (xref-backend-definitions 'eglot (xref-backend-identifier-at-point 'eglot)))
            (place (xref-item-location (car found))))
       (bolgwyr-expect "definition" (xref-location-line place) 1))
-    (bolgwyr-expect "references" (length (xref-backend-references 'eglot (xref-backend-identifier-at-point 'eglot))) 1)
+    (bolgwyr-expect "references" (length (xref-backend-references 'eglot (xref-backend-identifier-at-point 'eglot))) 2)
     (bolgwyr-expect "outline" (flatten-tree (mapcar (lambda (group) (mapcar #'car (cdr group))) (eglot-imenu))) '("alpha" "beta" "add"))
 
     (eglot-rename "gamma")
@@ -61,6 +61,8 @@
     (bolgwyr-go "unused")
     (eglot-code-actions (point) (point) "quickfix" t)
     (bolgwyr-expect "a code action" (bolgwyr-line 2) "/* 𝒳 */ function add(first, _unused) {")
+    ;; No idle timer runs here that would tell of the change.
+    (eglot--signal-textDocument/didChange)
     (bolgwyr-wait "no diagnostics" (lambda () (null (flymake-diagnostics))))
 
     (bolgwyr-go "add(beta)")

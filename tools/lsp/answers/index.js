@@ -25,6 +25,7 @@ function ofTables(answer) {
 
 const ANSWERS = {
   diagnostics,
+  tables: ofTables(async (document) => void await document.names()),
   'textDocument/definition': ofTables(definition),
   'textDocument/references': ofTables(references),
   'textDocument/documentHighlight': ofTables(documentHighlight),
