@@ -191,7 +191,7 @@ export interface LinkFinding extends LinkRelated { rule: LinkRule; related: Link
 export interface LinkNote extends LinkPlace { kind: 'absent' | 'unknown'; name: string }
 export interface LinkImport extends LinkPlace {
   name: string | null; local: string; specifier: string; outcome: string; target: string | null }
-export interface LinkSpecifier extends LinkPlace {
+export interface LinkSpecifier extends Omit<LinkPlace, 'file'> {
   text: string; way: 'import' | 'export' | 'dynamic' | 'require' | 'augment'; typed: boolean;
   file: string | null; external: string | null; nowhere: string | null }
 export interface LinkModule { file: string; kind: string; exports: string[]; specifiers: LinkSpecifier[] }

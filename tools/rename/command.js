@@ -46,7 +46,7 @@ function found(file, place, to, { parser, goal, project }) {
     return renameInProject({ file, ...place, to, entries: project });
   }
   const before = textOf(file);
-  const { text, edits, warnings } = rename(before, { filename: file, ...place, to, parser, goal });
+  const { text, edits, warnings } = rename(before, { file, ...place, to, parser, goal });
   return { changes: edits.length === 0 ? [] : [{ file, shown: file, before, after: text, edits }], warnings };
 }
 

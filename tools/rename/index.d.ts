@@ -1,8 +1,8 @@
 // The types of renaming in source text.
 
 export interface RenameOptions {
-  /** Tells the language, as `parser` and `goal` do in its place. */
-  filename: string;
+  /** The name of the file, which tells its language and goal; `input.js` where there is none. */
+  file?: string;
   /** The new name: an identifier. */
   to: string;
   /** Line and column of a declaration or a use, both from 1; a column counts characters. */

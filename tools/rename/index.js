@@ -24,17 +24,17 @@ function checkPlace({ line, column, name }) {
 }
 
 // Options:
-//   filename      tells the language, as `parser` and `goal` do in its place
+//   file          its name tells the language, as `parser` and `goal` do in its place
 //   line, column  of a declaration or a use, both from 1, or
 //   name          of the one symbol that has it
 //   to            the new name
 //   map           asks for a source map
 // Gives `{ text, edits, map, warnings }`, or throws a RenameRefusal, a UsageFault or a RunFault.
 function rename(text, options) {
-  const { filename, parser, goal, line, column, name, to, map = false } = options;
+  const { file = 'input.js', parser, goal, line, column, name, to, map = false } = options;
   checkName(to);
   checkPlace({ line, column, name });
-  const analysis = analysed(text, { filename, ...(parser && { parser }), ...(goal && { goal }) });
+  const analysis = analysed(text, { filename: file, ...(parser && { parser }), ...(goal && { goal }) });
   let symbol;
   try {
     symbol = symbolAt(analysis, { line, column, name });

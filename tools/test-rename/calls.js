@@ -6,7 +6,7 @@ const { rename } = require('../rename/index.js');
 
 function thrown(options, text = 'let a;') {
   try {
-    rename(text, { filename: 'a.mjs', ...options });
+    rename(text, { file: 'a.mjs', ...options });
   } catch (error) {
     return `${error.status} ${error.message}`;
   }
@@ -15,14 +15,14 @@ function thrown(options, text = 'let a;') {
 
 // Where the map says that a place of the new text comes from.
 function mapped(expect) {
-  const { map } = rename('let é = 1;\nf({ é });\n', { filename: 'a.mjs', name: 'é', to: 'other', map: true });
+  const { map } = rename('let é = 1;\nf({ é });\n', { file: 'a.mjs', name: 'é', to: 'other', map: true });
   const consumer = new SourceMapConsumer(JSON.parse(map.toString()));
   const { source, line, column, name } = consumer.originalPositionFor({ line: 2, column: 4 });
   expect('a source map', 'a.mjs 2:4 é', `${source} ${line}:${column} ${name}`);
 }
 
 function calls(expect) {
-  const { text, edits, map, warnings } = rename('let a;\nf({ a });', { filename: 'a.mjs', line: 1, column: 5, to: 'b' });
+  const { text, edits, map, warnings } = rename('let a;\nf({ a });', { file: 'a.mjs', line: 1, column: 5, to: 'b' });
   expect('a call', 'let b;\nf({ a: b });', text);
   expect('its edits', '4-5 1:5 a b, 11-12 2:5 a a: b', edits.map((one) => `${one.start}-${one.end} ${one.line}:${one.column} ${one.old} ${one.text}`).join(', '));
   expect('no map', 'null ', `${map} ${warnings.join()}`);
