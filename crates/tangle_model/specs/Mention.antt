@@ -54,6 +54,10 @@ abbrev pub named_noted : (Name → List Mention) → Option Node → List Mentio
 named_noted f None = []
 named_noted f (Some id) = f id.text
 
+-- of a function, if it is a declaration
+abbrev pub declaration_noted : Around → Node → List Mention
+declaration_noted a x = cond (is_statement x) (named_noted (function_noted a x) (child_of role.Id x)) []
+
 -- of an enum, at its body
 abbrev pub enum_noted : Option Node → Option Node → List Mention
 enum_noted (Some id) (Some body) = noted what.Block body.node_id id.text
@@ -63,7 +67,7 @@ enum_noted _ _ = []
 abbrev pub noted_by : AstType → Around → Node → List Mention
 noted_by kind.BindingIdentifier a x = identifier_noted a x.text
 noted_by kind.IdentifierReference a x = noted_if a.in_with what.InWith a.home x.text
-noted_by kind.Function a x = cond (is_statement x) (named_noted (function_noted a x) (child_of role.Id x)) []
+noted_by kind.Function a x = declaration_noted a x
 noted_by kind.TSNamespaceDeclaration a x = named_noted (noted what.Block x.node_id) (child_of role.Id x)
 noted_by kind.TSExternalModuleDeclaration a x = named_noted (noted what.Block x.node_id) (child_of role.Id x)
 noted_by kind.TSGlobalDeclaration a x = noted what.Block x.node_id (codes "global")

@@ -1,5 +1,5 @@
 -- Tangled names: those whose ties in the tables may part from the language's.
-use Rattle.std.specs.Prelude.{ℕ, ◌+◌, List, [], ◌∷◌, Bool, true, false, ◌&&◌, not, cond, map, filter, codes, bytes_eq}
+use Rattle.std.specs.Prelude.{ℕ, ◌+◌, List, [], ◌∷◌, Bool, true, false, ◌&&◌, ◌||◌, not, cond, map, filter, codes, bytes_eq}
 use Rattle.std.specs.List.{list_any}
 use Rattle.std.specs.Map.{lookup}
 use Rattle.std.specs.Option.{is_some}
@@ -101,16 +101,16 @@ abbrev pub told : ℕ → List Reason → List Tangle → List Tangle
 told n [] later = later
 told n (r ∷ rs) later = record { symbol = n; reasons = r ∷ rs } ∷ later
 
--- those of symbols that are numbered from n on, whose names don't stand before
-abbrev pub tangles_from : (Name → List Reason) → List Name → ℕ → List Symbol → List Tangle
+-- those of symbols that are numbered from n on, by whether a symbol before them has a name
+abbrev pub tangles_from : (Name → List Reason) → (before : Name → Bool) → ℕ → List Symbol → List Tangle
 tangles_from reasons before n [] = []
 tangles_from reasons before n (y ∷ ys) =
-    cond (list_any (bytes_eq y.name) before)
+    cond (before y.name)
     (tangles_from reasons before (n + 1) ys)
-    (told n (reasons y.name) (tangles_from reasons (y.name ∷ before) (n + 1) ys))
+    (told n (reasons y.name) (tangles_from reasons (λ x. bytes_eq x y.name || before x) (n + 1) ys))
 
 abbrev pub tangles_in : SourceType → List Mention → Tables → List Tangle
-tangles_in s ms t = tangles_from (reasons_in s ms t) [] 0 t.symbols
+tangles_in s ms t = tangles_from (reasons_in s ms t) (λ x. false) 0 t.symbols
 
 -- each tangled name of the program once, in order of first symbols
 abbrev pub tangles : Tree → List Tangle
