@@ -21,7 +21,7 @@ use Rattle.tangled_names.specs.declared.mention.Mention as stored
 -- ---- equal keys
 
 numbers_equal : (m n : ℕ) → (m == n) ≡ true → m ≡ n
-numbers_equal m n h = elim (eqb_tells m n) [ | inl a ↦ a.1 | inr b ↦ absurd cc ]
+numbers_equal m n h = elim (eqb_tells m n) [ inl a ↦ a.1 | inr b ↦ absurd cc ]
 
 keys_equal : (j k : Key) → same_key j k ≡ true → j ≡ k
 keys_equal j k h =

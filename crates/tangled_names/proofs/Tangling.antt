@@ -56,10 +56,10 @@ module _ (t : Tables) (i : ℕ) (reasons : Name → List Reason) where
       ap (λ xs. xs ++ tangles_from reasons (has_name (with_key_if true before (name_key text))) (i + 1) (drop (i + 1) t.symbols)) made
       ∙ append_assoc found (told i (reasons text) []) (tangles_from reasons (has_name (with_key_if true before (name_key text))) (i + 1) (drop (i + 1) t.symbols))
       ∙ ap (λ xs. found ++ xs) (sym (told_first i (reasons text) (tangles_from reasons (has_name (with_key_if true before (name_key text))) (i + 1) (drop (i + 1) t.symbols)))
-        ∙ ap (λ (f : Name → Bool). told i (reasons text) (tangles_from reasons f (i + 1) (drop (i + 1) t.symbols))) (λ j x. name_more_if true x text before j)
-        ∙ ap (λ y. told i (reasons y) (tangles_from reasons (λ x. bytes_eq x y || has_name before x) (i + 1) (drop (i + 1) t.symbols))) named
-        ∙ ap (λ b. cond b (tangles_from reasons (has_name before) (i + 1) (drop (i + 1) t.symbols)) (told i (reasons (symbol_of t i).name) (tangles_from reasons (λ x. bytes_eq x (symbol_of t i).name || has_name before x) (i + 1) (drop (i + 1) t.symbols)))) (sym new ∙ ap (has_name before) named)
-        ∙ sym (at_drop_more (tangles_from reasons (has_name before) i) t.symbols i no_symbol within))
+      ∙ ap (λ (f : Name → Bool). told i (reasons text) (tangles_from reasons f (i + 1) (drop (i + 1) t.symbols))) (λ j x. name_more_if true x text before j)
+      ∙ ap (λ y. told i (reasons y) (tangles_from reasons (λ x. bytes_eq x y || has_name before x) (i + 1) (drop (i + 1) t.symbols))) named
+      ∙ ap (λ b. cond b (tangles_from reasons (has_name before) (i + 1) (drop (i + 1) t.symbols)) (told i (reasons (symbol_of t i).name) (tangles_from reasons (λ x. bytes_eq x (symbol_of t i).name || has_name before x) (i + 1) (drop (i + 1) t.symbols)))) (sym new ∙ ap (has_name before) named)
+      ∙ sym (at_drop_more (tangles_from reasons (has_name before) i) t.symbols i no_symbol within))
       ∙ h
 
   pub tangle_turn : (before before' : List Key) (text : Name) (b : Bool) (rs : List Reason) (found found' goal : List Tangle) → i < length t.symbols → text ≡ (symbol_of t i).name → b ≡ not (has_name before text)

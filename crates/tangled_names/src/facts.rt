@@ -116,10 +116,7 @@ fn member_names<'a>(
 }
 
 /// The names of block functions that meet another declaration.
-fn block_functions<'a>(
-    alloc: Global,
-    mentions: &[Mention<'a>],
-) -> Result<KeySet<'a>, AllocError>
+fn block_functions<'a>(alloc: Global, mentions: &[Mention<'a>]) -> Result<KeySet<'a>, AllocError>
     ensures { IfOk result (λ names. (name : Name) → has_name names name ≡ any_mention (meets_declaration (map noted_of mentions.now)) (map noted_of mentions.now) name) }
 {
     let repeated = repeated_keys(alloc, mentions, What::Declaration)?;
@@ -127,10 +124,7 @@ fn block_functions<'a>(
 }
 
 /// The names of `var` in catch clauses that meet a catch name.
-fn catch_variables<'a>(
-    alloc: Global,
-    mentions: &[Mention<'a>],
-) -> Result<KeySet<'a>, AllocError>
+fn catch_variables<'a>(alloc: Global, mentions: &[Mention<'a>]) -> Result<KeySet<'a>, AllocError>
     ensures { IfOk result (λ names. (name : Name) → has_name names name ≡ any_mention (meets_catch_name (map noted_of mentions.now)) (map noted_of mentions.now) name) }
 {
     let caught = noted_keys(alloc, mentions, What::CatchName)?;

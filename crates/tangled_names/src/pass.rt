@@ -170,7 +170,12 @@ impl<'a> MentionPass<'a> {
         match node.ty() {
             AstType::BindingIdentifier => self.note_identifier(node.text(), around),
             AstType::IdentifierReference => {
-                self.note_if(around.in_with, What::InWith, around.home.index(), node.text())
+                self.note_if(
+                    around.in_with,
+                    What::InWith,
+                    around.home.index(),
+                    node.text(),
+                )
             }
             AstType::Function => self.note_declared(node, around),
             AstType::TSNamespaceDeclaration | AstType::TSExternalModuleDeclaration => {

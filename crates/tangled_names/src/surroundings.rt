@@ -84,11 +84,7 @@ pub fn around_in(node: AstKind<'_>, around: &Around) -> Around
 {
     let is_home = is_home(node);
     Around {
-        home: if is_home {
-            node.node_id()
-        } else {
-            around.home
-        },
+        home: if is_home { node.node_id() } else { around.home },
         is_strict: makes_strict(node) || around.is_strict,
         in_block: in_block(node, around),
         in_catch: !is_home && (node.ty() == AstType::CatchClause || around.in_catch),
