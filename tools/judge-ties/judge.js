@@ -12,25 +12,30 @@ function freshNames(tangled) {
   return ({ id, name }) => (tangled.has(name) ? null : `q${id}_`);
 }
 
+// The tables of a program, or null where the converter refuses it.
+function tablesOrNothing(source) {
+  try {
+    return tablesOf(source);
+  } catch (error) {
+    if (error instanceof Refusal) return null;
+    throw error;
+  }
+}
+
 // What becomes of one program: `refused` by V8 or by the converter, `same`, or `different` with both texts.
 function judged(seed, tangledOf) {
   const source = program(seed);
   const before = told(source);
   if (before === null) return { outcome: 'refused' };
-  let tables;
-  try {
-    tables = tablesOf(source);
-  } catch (error) {
-    if (error instanceof Refusal) return { outcome: 'refused' };
-    throw error;
-  }
+  const tables = tablesOrNothing(source);
+  if (tables === null) return { outcome: 'refused' };
   const tangled = tangledOf(tables);
   const names = new Set(tables.report.symbols.map(({ name }) => name));
   const counts = { names: names.size, tangled: [...names].filter((name) => tangled.has(name)).length };
   const other = renamed(source, tables, freshNames(tangled));
   const after = toldAgain(other);
   if (after === before) return { outcome: 'same', ...counts };
-  return { outcome: 'different', ...counts, source, other, before, after, tangled: [...tangled.keys()] };
+  return { outcome: 'different', ...counts, source, other, before, after };
 }
 
 // Judges programs, of the seeds from `first` on, until so many have run.
@@ -44,7 +49,7 @@ function judgeMany(many, first, tangledOf, tell) {
     }
     sum.programs += 1;
     sum.names += result.names;
-    sum.tangled += Array.isArray(result.tangled) ? result.tangled.length : result.tangled;
+    sum.tangled += result.tangled;
     if (result.outcome === 'different') {
       sum.different += 1;
       tell(seed, result);

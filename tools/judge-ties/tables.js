@@ -35,7 +35,7 @@ function tangledByProgram(json) {
   return found;
 }
 
-// The tree as JSON, its rows and the report, or null where the converter or V8 differ on what is a program.
+// The tree as JSON, its rows and the report.
 function tablesOf(source) {
   const { json } = treeOf(source, { filename: 'program.js', goal: 'script' });
   return { json, rows: JSON.parse(json).rows, report: parseReport(run(REPORT, json)) };
