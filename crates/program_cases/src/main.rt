@@ -1,5 +1,5 @@
 //! Runs the programs over the stored trees and sets of modules: the report, the report of early errors, the renamer, the
-//! lint of names and the linker, each over ends that fail, too. Behind these comes what the example of a caller prints. Each
+//! lint of names, that of tangled names and the linker, each over ends that fail, too. Behind these comes what the example of a caller prints. Each
 //! part has a folder of data, and is told in turn. That they stand in one program spares the gate a build of all of it for
 //! each of them.
 #![tactic(auto)]
@@ -11,6 +11,7 @@ mod found_names;
 mod links;
 mod renamings;
 mod reports;
+mod tangled_names;
 
 use std::io;
 
@@ -19,6 +20,7 @@ fn main(rt: HostRuntime) -> io::Result<()> {
     early_errors::write_all(&rt)?;
     renamings::write_all(&rt)?;
     found_names::write_all(&rt)?;
+    tangled_names::write_all(&rt)?;
     links::write_all(&rt)?;
     example::write_all(&rt)
 }

@@ -1,4 +1,5 @@
-//! The renamer, the lint of names and the linker of modules: the first word says which of them runs on the words behind it.
+//! The renamer, the lint of names, the lint of tangled names and the linker of modules: the first word says which of them runs
+//! on the words behind it.
 //! They are one program since two compilers make each program whole, whatever stands in it.
 #![tactic(auto)]
 
@@ -10,9 +11,10 @@ use report_ends::Writing;
 use std::env::Env;
 use std::process::ExitCode;
 use std::str;
+use tangle_lint::run_tangled;
 
 /// The line on a first word that names no tool.
-const USAGE: &str = "usage: tools_main renamer|name_lint|module_linker [WORD ..]\n";
+const USAGE: &str = "usage: tools_main renamer|name_lint|tangled_names|module_linker [WORD ..]\n";
 
 /// Room for the name of a tool, in bytes.
 const LONGEST: usize = 16;
@@ -20,11 +22,12 @@ const LONGEST: usize = 16;
 /// How many words name the program: its own name, and the tool's.
 const NAMES: usize = 2;
 
-/// A program of the three.
+/// A program of the four.
 #[derive(Clone, Copy)]
 enum Tool {
     Renamer,
     NameLint,
+    TangleLint,
     ModuleLinker,
 }
 
@@ -35,6 +38,7 @@ fn tool_of(rt: &HostRuntime) -> Option<Tool> {
     match str::from_utf8(name.get(..length)?).ok()? {
         "renamer" => Some(Tool::Renamer),
         "name_lint" => Some(Tool::NameLint),
+        "tangled_names" => Some(Tool::TangleLint),
         "module_linker" => Some(Tool::ModuleLinker),
         _ => None,
     }
@@ -62,6 +66,17 @@ fn lint(rt: &HostRuntime) -> u8 {
     .code()
 }
 
+/// Runs the lint of tangled names, and gives its exit status.
+fn find_tangled(rt: &HostRuntime) -> u8 {
+    run_over_standard_ends(
+        rt,
+        NAMES,
+        tangle_lint::USAGE,
+        |alloc, words, source, out, errs| { run_tangled(alloc, words, source, out, errs) },
+    )
+    .code()
+}
+
 /// Runs the linker, and gives its exit status.
 fn link(rt: &HostRuntime) -> u8 {
     run_over_standard_ends(
@@ -83,6 +98,7 @@ fn main(rt: HostRuntime) -> ExitCode {
     let code = match tool_of(&rt) {
         Some(Tool::Renamer) => rename(&rt),
         Some(Tool::NameLint) => lint(&rt),
+        Some(Tool::TangleLint) => find_tangled(&rt),
         Some(Tool::ModuleLinker) => link(&rt),
         None => refuse_words(&rt),
     };
