@@ -1,0 +1,10 @@
+//! A mangler: local names become short ones, where no reference changes its symbol and no name that others see changes.
+#![tactic(auto)]
+
+mod comparing;
+mod new_names;
+mod written;
+
+pub use comparing::are_renamed;
+pub use new_names::NewNames;
+pub use written::written_size;
