@@ -2,7 +2,12 @@
 #![tactic(auto)]
 
 mod comparing;
+mod good_names;
+mod name_set;
 mod new_names;
+mod predicates;
+mod seen_nodes;
+mod spot;
 mod written;
 
 pub use comparing::are_renamed;
