@@ -6,3 +6,5 @@ pub mod NameTexts
 pub mod AnyOf
 pub mod PredicateNames
 pub mod SeenSteps
+pub mod Withs
+pub mod Barred

@@ -5,6 +5,7 @@ mod comparing;
 mod good_names;
 mod name_set;
 mod new_names;
+mod passing;
 mod predicates;
 mod seen_nodes;
 mod spot;

@@ -1,5 +1,5 @@
 //! New names for symbols.
-ghost use Rattle.std.specs.Prelude.{◌≡◌, ◌++◌, [], ◌∷◌, Some, None, option_map, IfOk, OnOk};
+ghost use Rattle.std.specs.Prelude.{◌≡◌, ◌++◌, [], ◌∷◌, Some, None, length, option_map, OnOk};
 ghost use Rattle.std.specs.Str.{chars};
 ghost use Rattle.mangle_model.specs.Assignment.{listed};
 
@@ -49,13 +49,27 @@ impl NewNames {
         Ok(())
     }
 
+    /// How many symbols are spoken of.
+    pub fn len(&self) -> usize
+        ensures { result ≡ length self.now }
+    {
+        self.names.len()
+    }
+
+    /// The new name of the symbol of this number, if any.
+    pub fn name_at(&self, number: usize) -> Option<&str>
+        ensures { option_map (λ name. chars name.now) result ≡ listed self.now number }
+    {
+        match self.names.get(number) {
+            Some(Some(name)) => Some(name.as_str()),
+            _ => None,
+        }
+    }
+
     /// The new name of the symbol, if any.
     pub fn get(&self, symbol: SymbolId) -> Option<&str>
         ensures { option_map (λ name. chars name.now) result ≡ listed self.now symbol }
     {
-        match self.names.get(symbol.index()) {
-            Some(Some(name)) => Some(name.as_str()),
-            _ => None,
-        }
+        self.name_at(symbol.index())
     }
 }
