@@ -8,3 +8,8 @@ pub mod PredicateNames
 pub mod SeenSteps
 pub mod Withs
 pub mod Barred
+pub mod NamedChildren
+pub mod SeenSets
+pub mod Changes
+pub mod Identified
+pub mod Mangles
