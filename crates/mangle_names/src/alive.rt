@@ -7,7 +7,7 @@ use std::alloc::{AllocError, Global};
 
 /// The symbols that are alive in each scope, but for those that belong to it, and the last symbol that was met there.
 #[derive(Drop)]
-struct Alive {
+struct Noted {
     symbols: Vec<Vec<usize>>,
     last: Vec<usize>,
 }
@@ -15,7 +15,7 @@ struct Alive {
 /// Notes the symbol in the scopes from one outward, up to its own or to one where it is noted.
 fn note_outward(
     scoping: &Scoping,
-    alive: &mut Alive,
+    alive: &mut Noted,
     symbol: usize,
     home: usize,
     from: usize,
@@ -37,7 +37,7 @@ fn note_outward(
 /// Notes the symbol wherever it is alive.
 fn note_symbol(
     scoping: &Scoping,
-    alive: &mut Alive,
+    alive: &mut Noted,
     entry: &Uses,
     symbol: usize,
     home: usize,
@@ -50,12 +50,12 @@ fn note_symbol(
 }
 
 /// The symbols that are alive in each scope, but for those that belong to it.
-pub fn alive(
+pub fn alive_symbols(
     alloc: Global,
     scoping: &Scoping,
     uses: &[Uses],
 ) -> Result<Vec<Vec<usize>>, AllocError> {
-    let mut alive = Alive {
+    let mut alive = Noted {
         symbols: lists(alloc, scoping.scopes_len())?,
         last: filled(alloc, scoping.scopes_len(), NONE)?,
     };

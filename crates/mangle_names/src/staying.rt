@@ -101,7 +101,7 @@ fn keep_block_functions(scoping: &Scoping, stays: &mut Vec<bool>) {
 }
 
 /// For each symbol, whether it keeps its name.
-pub fn staying(
+pub fn staying_symbols(
     alloc: Global,
     scoping: &Scoping,
     uses: &[Uses],

@@ -2,28 +2,28 @@
 use Rattle.std.proofs.Common.{◌≡◌, ◌≤◌, ◌&&◌, ◌||◌, ℕ, List, [], Option, None, Some, Bool, true, false, not, bytes_eq, refl, sym, ap, subst, ◌∙◌}
 use Rattle.std.specs.List.{list_any}
 use Rattle.std.proofs.lemmas.Bool.{and_parts}
-use Rattle.semantic_diagnostics.specs.declared.diagnostic.Diagnostic.{Diagnostic}
-use Rattle.semantic_syntax.specs.NodeEntries.{NodeEntries}
 use Rattle.semantic_syntax.specs.Tables.{Name, Tables}
 use Rattle.semantic_tree.specs.Children.{node_count}
 use Rattle.semantic_tree.specs.Faults.{first_fault}
+use Rattle.semantic_tree.specs.Forest.{Forest, nothing, tree}
 use Rattle.semantic_tree.specs.Tree.{Tree, IsNumbered}
-use Rattle.semantic_model.specs.Analysis.{Analysis, analysis_of}
+use Rattle.semantic_model.specs.Analysis.{Analysis, analysis_of, symbol_at, tied_at}
 use Rattle.semantic_model.specs.Moment.{ListsBeginWithOwn}
 use Rattle.semantic_model.specs.TablesOf.{tables_of}
 use Rattle.semantic_model.proofs.fits.Afterwards.{lists_begin}
 use Rattle.rename_model.specs.Same.{first_difference}
 use Rattle.rename_model.specs.WithName.{AreIdentifiers}
 use Rattle.rename_model.proofs.Differences.{exact_none}
-use Rattle.mangle_model.specs.Assignment.{Assignment, listed}
+use Rattle.mangle_model.specs.Assignment.{Assignment, first_name, is_new, listed, nothing_new}
 use Rattle.mangle_model.specs.GoodNames.{is_ascii_identifier, is_free_name, is_good_name, is_kept_name, is_reserved}
 use Rattle.mangle_model.specs.MayMangle.{Options}
 use Rattle.mangle_model.specs.Mangling.{all_identifiers, all_pass, is_no_node, may_change, passes, IsMangled}
-use Rattle.mangle_model.specs.Renamed.{given, renamed_by}
+use Rattle.mangle_model.specs.Renamed.{given, new_name, renamed_by}
 use Rattle.mangle_model.specs.Tests.{are_renamed}
-use Rattle.mangle_model.specs.WithNames.{is_given, with_names_in, AreSomeNames}
+use Rattle.mangle_model.specs.WithNames.{is_given, with_names_in, AreSomeNames, IsSomeName}
 use Rattle.mangle_model.proofs.Decided.{renamed_decides}
 use Rattle.mangle_model.proofs.NamesShape.{no_fault_made, numbers_kept}
+use Rattle.mangle_model.proofs.OneName.{none_is_itself}
 use Rattle.mangle_model.proofs.Settled.{each_passes, each_identifier, from_zero, good_some, some_given, itself}
 use Rattle.mangler.specs.Alikes.{AreAlike, AreGivable, IsGoodCopy}
 use Rattle.mangler.specs.Passing.{good_by, passes_by}
@@ -106,8 +106,34 @@ mangled_by o p names a may made q faultless numbered e same g is (here, (alike, 
 
 -- ---- the program itself
 
-none_given : (a : Analysis) → AreSomeNames (given (listed []) a)
-none_given a = some_given (listed []) (λ s name e. absurd cc) a
+nothing_given : (a : Analysis) (id : ℕ) → given (listed []) a id ≡ None
+nothing_given a id = go (symbol_at a id) (tied_at a id)
+  where
+    none : (o : Option ℕ) → new_name (listed []) o ≡ None
+    none None = refl
+    none (Some s) = refl
 
-pub no_names : (a : Analysis) (names : List (Option Name)) → names ≡ [] → AreSomeNames (given (listed names) a)
-no_names a names e = subst (λ n. AreSomeNames (given (listed n) a)) (sym e) (none_given a)
+    go : (x y : Option ℕ) → first_name (new_name (listed []) x) (new_name (listed []) y) ≡ None
+    go None y = none y
+    go (Some s) y = none y
+
+none_identified : (given : ℕ → Option Name) → ((id : ℕ) → given id ≡ None) → (f : Forest) → AreIdentifiers (is_given given) f
+none_identified given h nothing = tt
+none_identified given h (tree r k span text marks below id after) =
+    ((λ e. let no : false ≡ true = sym (ap is_new (h id)) ∙ e in absurd cc), none_identified given h below, none_identified given h after)
+
+none_some : (given : ℕ → Option Name) → ((id : ℕ) → given id ≡ None) → AreSomeNames given
+none_some given h id = subst IsSomeName (sym (h id)) tt
+
+module _ (a : Analysis) (names : List (Option Name)) (none : names ≡ []) where
+  pub no_names_some : AreSomeNames (given (listed names) a)
+  no_names_some = subst (λ n. AreSomeNames (given (listed n) a)) (sym none) (none_some (given (listed []) a) (nothing_given a))
+
+  pub no_names_identified : (f : Forest) → AreIdentifiers (is_given (given (listed names) a)) f
+  no_names_identified f = subst (λ n. AreIdentifiers (is_given (given (listed n) a)) f) (sym none) (none_identified (given (listed []) a) (nothing_given a) f)
+
+pub itself_by : (o : Options) (p : Tree) (names : List (Option Name)) (a : Analysis) (q : Tree) → first_fault p ≡ None → IsNumbered p.root → a ≡ analysis_of p → names ≡ [] → q ≡ with_names_in (given (listed names) a) p → IsMangled o p names q
+itself_by o p names a q faultless numbered e none is =
+    let none_listed : listed [] ≡ nothing_new = λ i s. None in
+    let copy : q ≡ p = is ∙ (λ i. with_names_in (given (listed (none i)) (e i)) p) ∙ ap (λ n. renamed_by n p) none_listed ∙ none_is_itself p in
+    subst (λ (t : Tree). IsMangled o p names t) (sym copy) (subst (λ n. IsMangled o p n p) (sym none) (itself o p faultless numbered))

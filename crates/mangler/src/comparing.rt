@@ -10,7 +10,7 @@ mod scopes;
 mod symbols;
 mod values;
 
-use crate::new_names::NewNames;
+use mangle_names::NewNames;
 use free_names::{are_same_free_names, are_same_pure};
 use references::{are_same_references, are_same_uses};
 use scopes::{are_same_bindings, are_same_scopes};

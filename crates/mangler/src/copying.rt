@@ -16,7 +16,7 @@ ghost use Rattle.renamer.specs.Told.{told_by};
 ghost use Rattle.mangler.specs.Copies.{alone};
 
 use crate::giving::{given, is_given};
-use crate::new_names::NewNames;
+use mangle_names::NewNames;
 use renamer::Analysed;
 use semantic_syntax::{SourceType, Text};
 use semantic_tree::{AstKind, AstType, Comment, Mark, Marks, Node, Program, Role};

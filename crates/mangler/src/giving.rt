@@ -9,7 +9,7 @@ ghost use Rattle.mangle_model.specs.Renamed.{given, new_name};
 ghost use Rattle.mangle_model.specs.WithNames.{is_given};
 ghost use Rattle.renamer.specs.Told.{told_by};
 
-use crate::new_names::NewNames;
+use mangle_names::NewNames;
 use renamer::Analysed;
 use semantic_syntax::{NodeId, SymbolId};
 use semantic_tree::{AstType, Node};

@@ -13,13 +13,15 @@ ghost use Rattle.mangler.specs.Alikes.{AreAlike, AreGivable, IsGoodCopy, IsMangl
 ghost use Rattle.mangler.specs.Changing.{options_of};
 ghost use Rattle.mangler.specs.Passing.{at};
 
+use crate::changing::changing_symbols;
 use crate::comparing::are_renamed;
 use crate::copying::renamed_by;
 use crate::giving::are_identifiers;
-use crate::new_names::NewNames;
 use crate::options::MangleOptions;
 use crate::passing::{all_pass, barred_names};
+use crate::seen::seen_in;
 use crate::written::written_size;
+use mangle_names::{NewNames, proposed};
 use renamer::{Analysed, first_difference};
 use semantic::{SemanticBuilder, SemanticBuilderReturn, drop_analysis};
 use semantic_tree::Program;
@@ -178,4 +180,60 @@ fn itself(
         program: copy,
         names,
     })
+}
+
+/// The program with the new names, if it is a mangled one, else the program itself.
+fn mangled_or_itself(
+    alloc: Global,
+    options: MangleOptions,
+    program: &Program,
+    analysed: &Analysed<'_>,
+    may: &[bool],
+    names: NewNames,
+) -> Result<Mangled, AllocError>
+    requires analysis { told_by analysed.now ≡ analysis_of program.now }
+    requires may { (s : ℕ) → at may.now s ≡ may_change (options_of options) program.now s }
+    ensures { IfOk result (IsMangling (options_of options) program.now) }
+{
+    match mangled_with(alloc, options, program, analysed, may, &names)? {
+        Some(program) => Ok(Mangled { program, names }),
+        None => itself(alloc, options, program, analysed),
+    }
+}
+
+/// Mangles an analysed program.
+fn mangle_analysed(
+    alloc: Global,
+    options: MangleOptions,
+    program: &Program,
+    analysed: &Analysed<'_>,
+) -> Result<Mangled, AllocError>
+    requires { told_by analysed.now ≡ analysis_of program.now }
+    ensures { IfOk result (IsMangling (options_of options) program.now) }
+{
+    let seen = seen_in(alloc, program, analysed)?;
+    let may = changing_symbols(alloc, options, program, analysed, &seen)?;
+    let names = proposed(
+        alloc,
+        program,
+        analysed.scoping,
+        analysed.tables,
+        may.as_slice(),
+    )?;
+    mangled_or_itself(alloc, options, program, analysed, may.as_slice(), names)
+}
+
+/// The program in which symbols have short names, each node means the same, and no name that others see changes. Which
+/// symbols get which names is a matter of size: the names are never longer than they were. The only error is want of memory.
+pub fn mangle_program(
+    alloc: Global,
+    p: &Program,
+    options: MangleOptions,
+) -> Result<Mangled, AllocError>
+    ensures { IfOk result (λ m. IsMangled (options_of options) p.now m.names m.program) }
+{
+    let analysis = SemanticBuilder::new().build(alloc, p)?;
+    let result = mangle_analysed(alloc, options, p, &analysed_by(&analysis));
+    drop_analysis(analysis);
+    result
 }

@@ -7,9 +7,9 @@ ghost use Rattle.mangle_model.specs.GoodNames.{is_ascii_identifier, is_free_name
 ghost use Rattle.mangle_model.specs.Mangling.{all_pass};
 ghost use Rattle.mangler.specs.Passing.{at, good_by, passes_by, passes_option};
 
-use crate::good_names::{is_ascii_identifier, is_reserved};
-use crate::name_set::NameSet;
-use crate::new_names::NewNames;
+use mangle_names::{is_ascii_identifier, is_reserved};
+use mangle_names::NameSet;
+use mangle_names::NewNames;
 use scoping::Scoping;
 use semantic_syntax::SymbolId;
 use std::alloc::{AllocError, Global};

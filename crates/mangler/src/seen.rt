@@ -13,7 +13,7 @@ ghost use Rattle.mangle_model.specs.MayMangle.{fixes_symbol, is_predicate};
 ghost use Rattle.mangler.specs.Changing.{IsSeen};
 ghost use Rattle.mangler.specs.Withs.{EndsWith};
 
-use crate::name_set::NameSet;
+use mangle_names::NameSet;
 use crate::predicates::add_predicates;
 use crate::seen_nodes::push_seen;
 use crate::spot::Spot;

@@ -9,7 +9,7 @@ ghost use Rattle.mangle_model.specs.Tests.{same_binding, same_scope};
 ghost use Rattle.scoping.specs.Names.{name_of};
 
 use super::values::{is_same_scope_id, is_same_text};
-use crate::new_names::NewNames;
+use mangle_names::NewNames;
 use scoping::Scoping;
 use semantic_syntax::{Ident, ScopeId, SymbolId};
 

@@ -10,7 +10,7 @@ ghost use Rattle.mangle_model.specs.Assignment.{listed, name_or};
 ghost use Rattle.mangle_model.specs.Tests.{same_declaration, same_symbol};
 
 use super::values::{are_same_declarations, is_same_span, is_same_text};
-use crate::new_names::NewNames;
+use mangle_names::NewNames;
 use scoping::Scoping;
 use semantic_syntax::SymbolId;
 

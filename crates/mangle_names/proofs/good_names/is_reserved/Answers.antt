@@ -2,7 +2,7 @@ use Rattle.std.proofs.Common.{◌∙◌, Bor, List, ℕ, bytes_eq, ap}
 use Rattle.std.specs.List.{list_any}
 use Rattle.std.specs.Str.{chars}
 use Rattle.semantic_kinds.proofs.Words.{one_of-chars}
-use Rattle.mangler.proofs.good_names.is_reserved.Goals as goal
+use Rattle.mangle_names.proofs.good_names.is_reserved.Goals as goal
 
 pub returns : goal.returns
 returns c =
