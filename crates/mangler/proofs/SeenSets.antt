@@ -1,5 +1,5 @@
 -- Sets that grow item by item.
-use Rattle.std.proofs.Common.{◌≡◌, ◌||◌, ◌+◌, ◌<◌, ◌≤◌, ℕ, List, Bool, false, Result, Ok, Err, IfOk, length, drop, get_or, ap, sym, ◌∙◌}
+use Rattle.std.proofs.Common.{◌≡◌, ◌||◌, ◌+◌, ◌<◌, ◌≤◌, ℕ, List, Bool, false, Option, Some, None, Result, Ok, Err, IfOk, IfSome, length, drop, get_or, ap, sym, ◌∙◌}
 use Rattle.std.specs.List.{list_any}
 use Rattle.std.proofs.Math.ListN.{drop_of_length-le}
 use Rattle.semantic_syntax.proofs.Truth.{or_false, drop_here}
@@ -22,3 +22,7 @@ module _ {A : Type 0} (test : A → Bool) where
 pub if_ok : {A E : Type 0} {P Q : A → Type 0} (r : Result A E) → ((x : A) → P x → Q x) → IfOk r P → IfOk r Q
 if_ok (Ok x) f h = f x h
 if_ok (Err e) f h = tt
+
+pub if_some : {A : Type 0} {P Q : A → Type 0} (o : Option A) → ((x : A) → P x → Q x) → IfSome o P → IfSome o Q
+if_some (Some x) f h = f x h
+if_some None f h = tt

@@ -138,8 +138,10 @@ fn may_be_given(
     ensures { IfOk result (λ good. good ≡ true → AreGivable (at may.now) program.now names.now) }
 {
     let barred = barred_names(alloc, analysed.scoping, may)?;
-    Ok(all_pass(may, &barred, names)
-        && are_identifiers(analysed, names, program.root().node()))
+    if !all_pass(may, &barred, names) {
+        return Ok(false);
+    }
+    Ok(are_identifiers(analysed, names, program.root().node()))
 }
 
 /// The program with the new names, if it is a mangled one.
@@ -156,7 +158,8 @@ fn mangled_with(
     ensures { IfOk result (λ found. IfSome found (λ q. IsMangled (options_of options) program.now names.now q)) }
 {
     let _root = program.root();
-    if !may_be_given(alloc, program, analysed, may, names)? {
+    let given = may_be_given(alloc, program, analysed, may, names)?;
+    if !given {
         return Ok(None);
     }
     let made = renamed_by(alloc, program, analysed, names)?;
