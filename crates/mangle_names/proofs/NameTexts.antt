@@ -1,11 +1,10 @@
 -- Names among texts in a set.
-use Rattle.std.proofs.Common.{◌≡◌, ◌+◌, ◌<◌, ◌≤◌, ℕ, List, [], ◌∷◌, ◌++◌, Bool, true, false, ◌||◌, if◌then◌else◌, String, map, refl, sym, ap, ◌∙◌, length, get_or, drop}
+use Rattle.std.proofs.Common.{◌≡◌, ℕ, List, [], ◌∷◌, ◌++◌, Bool, true, false, ◌||◌, if◌then◌else◌, String, map, refl, sym, ap, ◌∙◌}
 use Rattle.std.specs.List.{list_any}
 use Rattle.std.specs.Str.{bytes_eq, chars, IsUtf8}
 use Rattle.std.specs.String.{string_bytes}
-use Rattle.std.specs.declared.alloc.Global.{Global}
 use Rattle.std.proofs.lemmas.Str.{IsUtf8-string_bytes}
-use Rattle.std.proofs.lemmas.List.{at_drop_more, at_drop_all, map-append}
+use Rattle.std.proofs.lemmas.List.{map-append}
 use Rattle.std.proofs.lemmas.Slice.Eq.{bytes_eq-Decides}
 use Rattle.indexmap.specs.IndexSet.{insert_key}
 use Rattle.semantic_syntax.proofs.SameTexts.{same_texts}
@@ -70,4 +69,3 @@ module _ {Z : Type 0} where
           ∙ known_append (texts keys) (texts (x ∷ [])) name
           ∙ ap (λ b. is_known (texts keys) name || b) (or_false (bytes_eq name (chars (string_bytes x))))
           ∙ swaps (is_known (texts keys) name) (bytes_eq name (chars (string_bytes x)))
-

@@ -129,12 +129,7 @@ fn costs_more(plan: &Plan<'_>, symbol: SymbolId, name: &str) -> bool
 }
 
 /// Keeps the symbols for which their new names would cost more, and says whether there are any.
-fn keep_costly(
-    plan: &Plan<'_>,
-    slots: &Slots,
-    names: &[String],
-    stays: &mut Vec<bool>,
-) -> bool {
+fn keep_costly(plan: &Plan<'_>, slots: &Slots, names: &[String], stays: &mut Vec<bool>) -> bool {
     let mut found = false;
     for number in 0..(plan.scoping.symbols_len() as u32) {
         let slot = at(slots.of_symbols.as_slice(), number as usize);

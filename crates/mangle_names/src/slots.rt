@@ -47,7 +47,9 @@ fn clause_around(scoping: &Scoping, scope: ScopeId) -> usize
     match scoping.scope_parent_id(scope) {
         Some(parent) => {
             if parent.index() < scoping.scopes_len()
-                && scoping.scope_flags(parent).intersects(ScopeFlags::CatchClause)
+                && scoping
+                    .scope_flags(parent)
+                    .intersects(ScopeFlags::CatchClause)
             {
                 parent.index()
             } else {

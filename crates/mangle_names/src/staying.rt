@@ -17,13 +17,7 @@ fn hider(scoping: &Scoping, symbol: SymbolId) -> usize
         return NONE;
     }
     match scoping.get_binding(scope, scoping.symbol_ident(symbol)) {
-        Some(found) => {
-            if found == symbol {
-                NONE
-            } else {
-                found.index()
-            }
-        }
+        Some(found) => { if found == symbol { NONE } else { found.index() } }
         None => NONE,
     }
 }
@@ -47,12 +41,7 @@ fn saves_nothing(scoping: &Scoping, uses: &[Uses], symbol: SymbolId) -> bool
 }
 
 /// Keeps the symbol that the scope binds to the other's name, and says whether variables go no further outward.
-fn keep_bound(
-    scoping: &Scoping,
-    stays: &mut Vec<bool>,
-    scope: ScopeId,
-    symbol: SymbolId,
-) -> bool
+fn keep_bound(scoping: &Scoping, stays: &mut Vec<bool>, scope: ScopeId, symbol: SymbolId) -> bool
     requires { symbol < length scoping.now.symbols }
 {
     if scope.index() >= scoping.scopes_len() {
@@ -71,7 +60,9 @@ fn is_block_function(scoping: &Scoping, symbol: SymbolId, home: ScopeId) -> bool
     requires scope { home < length scoping.now.scopes }
 {
     let flags = scoping.scope_flags(home);
-    scoping.symbol_flags(symbol).intersects(SymbolFlags::Function)
+    scoping
+        .symbol_flags(symbol)
+        .intersects(SymbolFlags::Function)
         && !flags.intersects(ScopeFlags::StrictMode)
         && !flags.intersects(ScopeFlags::Var)
 }

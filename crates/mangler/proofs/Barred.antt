@@ -6,9 +6,9 @@ use Rattle.std.proofs.lemmas.Bool.Decides.{same_from_decides}
 use Rattle.std.proofs.lemmas.Slice.Eq.{bytes_eq-Decides}
 use Rattle.semantic_syntax.proofs.Truth.{or_false}
 use Rattle.semantic_syntax.specs.Reading.{no_symbol}
-use Rattle.semantic_syntax.specs.Tables.{Name, Symbol, Tables, FreeLists}
+use Rattle.semantic_syntax.specs.Tables.{Name, Symbol, FreeLists}
 use Rattle.mangle_model.specs.Assignment.{listed}
-use Rattle.mangle_model.specs.GoodNames.{is_free_name, is_kept_name}
+use Rattle.mangle_model.specs.GoodNames.{is_kept_name}
 use Rattle.mangle_model.specs.Mangling.{all_pass}
 use Rattle.mangler.specs.Passing.{passes_option}
 use Rattle.mangler.proofs.AnyOf.{or_assoc}

@@ -1,5 +1,5 @@
 -- Which symbols may change, symbol by symbol.
-use Rattle.std.proofs.Common.{◌≡◌, ◌⊎◌, inl, inr, ℕ, zero, suc, ◌+◌, ◌<◌, ◌≤◌, List, [], ◌∷◌, ◌++◌, Option, Some, None, Bool, true, false, not, ◌&&◌, ◌||◌, nat_lt, length, get_or, refl, sym, ap, ◌∙◌, arith}
+use Rattle.std.proofs.Common.{◌≡◌, ◌⊎◌, inl, inr, ℕ, zero, suc, ◌+◌, ◌<◌, ◌≤◌, List, [], ◌∷◌, ◌++◌, Some, None, Bool, true, false, not, ◌&&◌, ◌||◌, nat_lt, length, get_or, refl, sym, ap, ◌∙◌, arith}
 use Rattle.std.specs.Prelude.{slice_get}
 use Rattle.std.specs.List.{list_any}
 use Rattle.std.proofs.lemmas.Bool.Decides.{Decides-ltb, nat_tests}
@@ -8,7 +8,7 @@ use Rattle.semantic_syntax.specs.Reading.{no_symbol}
 use Rattle.semantic_syntax.specs.SourceTypes.{is_typescript_definition}
 use Rattle.semantic_syntax.specs.Tables.{Symbol, Tables}
 use Rattle.semantic_tree.specs.Tree.{Tree}
-use Rattle.semantic_model.specs.Analysis.{Analysis, analysis_of}
+use Rattle.semantic_model.specs.Analysis.{analysis_of}
 use Rattle.semantic_model.specs.Exported.{exported_names}
 use Rattle.semantic_model.specs.Step.{Step, steps}
 use Rattle.rename_model.specs.Renamed.{bears_name}

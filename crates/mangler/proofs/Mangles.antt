@@ -1,5 +1,5 @@
 -- When a program is a mangled one.
-use Rattle.std.proofs.Common.{◌≡◌, ◌≤◌, ◌&&◌, ◌||◌, ℕ, List, [], Option, None, Some, Bool, true, false, not, bytes_eq, refl, sym, ap, subst, ◌∙◌}
+use Rattle.std.proofs.Common.{◌≡◌, ◌&&◌, ◌||◌, ℕ, List, [], Option, None, Some, Bool, true, false, not, bytes_eq, refl, sym, ap, subst, ◌∙◌}
 use Rattle.std.specs.List.{list_any}
 use Rattle.std.proofs.lemmas.Bool.{and_parts}
 use Rattle.semantic_syntax.specs.Tables.{Name, Tables}
@@ -43,7 +43,7 @@ pub alike_by : (names : Assignment) (p q : Tree) (a b : Analysis) (test : Bool) 
     → test ≡ (are_renamed names a.tables b.tables && is_no_node (first_difference a b 0 (node_count p.root))) → test ≡ true → AreAlike names p q
 alike_by names p q a b test e f is passed =
     let parts = and_parts (are_renamed names (analysis_of p).tables (analysis_of q).tables) (is_no_node (first_difference (analysis_of p) (analysis_of q) 0 (node_count p.root)))
-        (sym (is ∙ (λ i. are_renamed names (e i).tables (f i).tables && is_no_node (first_difference (e i) (f i) 0 (node_count p.root)))) ∙ passed) in
+    (sym (is ∙ (λ i. are_renamed names (e i).tables (f i).tables && is_no_node (first_difference (e i) (f i) 0 (node_count p.root)))) ∙ passed) in
     record {
       tables = (renamed_decides names (tables_of p) (tables_of q)).0 parts.0;
       nodes = no_node (first_difference (analysis_of p) (analysis_of q) 0 (node_count p.root)) parts.1;

@@ -1,10 +1,10 @@
 -- Children that get other names, one after the other.
-use Rattle.std.proofs.Common.{◌≡◌, ℕ, ◌+◌, ◌<◌, ◌≤◌, List, Option, None, length, drop, get_or, refl, ap, sym, ◌∙◌}
+use Rattle.std.proofs.Common.{◌≡◌, ℕ, ◌+◌, ◌<◌, ◌≤◌, List, Option, None, length, drop, get_or, ap, sym, ◌∙◌}
 use Rattle.semantic_kinds.specs.declared.role.Role.{Role}
 use Rattle.semantic_syntax.specs.Tables.{Name}
-use Rattle.semantic_tree.specs.Children.{forest_of, single, node_count}
+use Rattle.semantic_tree.specs.Children.{forest_of, single}
 use Rattle.semantic_tree.specs.Faults.{first_fault}
-use Rattle.semantic_tree.specs.Forest.{Forest, nothing, tree, count, join}
+use Rattle.semantic_tree.specs.Forest.{Forest, join}
 use Rattle.semantic_tree.specs.Tree.{Tree, IsNumbered, numbered_tree}
 use Rattle.semantic_tree.specs.declared.node.Node.{Node}
 use Rattle.std.proofs.Math.ListN.{drop_of_length-le}
@@ -39,4 +39,3 @@ module _ (names : ℕ → Option Name) where
   pub no_fault_again : (p : Tree) → IsNumbered p.root → first_fault p ≡ None → AreSomeNames names → AreIdentifiers (is_given names) p.root.children → (q : Tree) → q.source ≡ p.source → q.source_type ≡ p.source_type → q.comments ≡ p.comments → q.root ≡ record p.root { children = with_names names p.root.children; node_id = 0 }
       → first_fault (numbered_tree q) ≡ None
   no_fault_again p h none some all q source source_type comments root = ap first_fault (numbered_again p h q source source_type comments root) ∙ no_fault_made names some p all none
-

@@ -1,5 +1,5 @@
 -- The names that type predicates have, child by child.
-use Rattle.std.proofs.Common.{◌≡◌, ◌+◌, ◌<◌, ℕ, List, [], ◌∷◌, ◌++◌, Bool, true, false, ◌||◌, bytes_eq, length, drop, get_or, refl, sym, ap, ◌∙◌}
+use Rattle.std.proofs.Common.{◌≡◌, ◌+◌, ◌<◌, ℕ, List, ◌++◌, Bool, ◌||◌, bytes_eq, length, drop, get_or, sym, ap, ◌∙◌}
 use Rattle.std.specs.List.{list_any}
 use Rattle.semantic_kinds.specs.declared.role.Role.{Role}
 use Rattle.semantic_syntax.specs.Tables.{Name}

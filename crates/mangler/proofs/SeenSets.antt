@@ -1,5 +1,5 @@
 -- Sets that grow item by item.
-use Rattle.std.proofs.Common.{◌≡◌, ◌||◌, ◌+◌, ◌<◌, ◌≤◌, ℕ, List, Bool, false, Option, Some, None, Result, Ok, Err, IfOk, IfSome, length, drop, get_or, ap, sym, ◌∙◌}
+use Rattle.std.proofs.Common.{◌≡◌, ◌||◌, ◌+◌, ◌<◌, ◌≤◌, ℕ, List, Bool, Option, Some, None, Result, Ok, Err, IfOk, IfSome, length, drop, get_or, ap, sym, ◌∙◌}
 use Rattle.std.specs.List.{list_any}
 use Rattle.std.proofs.Math.ListN.{drop_of_length-le}
 use Rattle.semantic_syntax.proofs.Truth.{or_false, drop_here}

@@ -17,7 +17,7 @@ use Rattle.semantic_tree.specs.Views.{is}
 use Rattle.semantic_tree.specs.declared.node.Node.{Node}
 use Rattle.semantic_model.specs.Cursor.{on_entering}
 use Rattle.semantic_model.specs.Place.{Place, OpenScope, parent_holds}
-use Rattle.semantic_model.specs.Step.{Step, entering, opening, header_ending, closing, leaving, steps_below, steps, root_place}
+use Rattle.semantic_model.specs.Step.{Step, entering, steps_below, steps, root_place}
 use Rattle.semantic_model.proofs.steps.Turn.{Turn, turn_at}
 use Rattle.mangle_model.specs.MayMangle.{is_predicate, fixes_symbol, is_property_parameter, is_parameter_property}
 use Rattle.mangler.specs.Predicates.{predicate_at, predicates_below, predicates_from}

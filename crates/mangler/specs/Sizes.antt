@@ -1,5 +1,5 @@
 -- The lengths of names, node by node.
-use Rattle.std.specs.Prelude.{ℕ, ◌+◌, Option, Some, None, cond, bytes_eq}
+use Rattle.std.specs.Prelude.{ℕ, ◌+◌, Option, Some, cond, bytes_eq}
 use Rattle.semantic_tree.specs.declared.node.Node.{Node}
 use Rattle.mangle_model.specs.Written.{size_of}
 

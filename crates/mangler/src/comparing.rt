@@ -10,13 +10,12 @@ mod scopes;
 mod symbols;
 mod values;
 
-use mangle_names::NewNames;
 use free_names::{are_same_free_names, are_same_pure};
+use mangle_names::NewNames;
 use references::{are_same_references, are_same_uses};
 use scopes::{are_same_bindings, are_same_scopes};
 use scoping::Scoping;
 use symbols::are_same_symbols;
-
 pub use values::is_same_text;
 
 /// Whether the other tables are the first with the new names.

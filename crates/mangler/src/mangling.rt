@@ -69,7 +69,12 @@ fn is_alike(
     ensures { IfOk result (λ same. same ≡ true → AreAlike (listed names.now) program.now made.now) }
 {
     let analysis = SemanticBuilder::new().build(alloc, made)?;
-    let same = are_alike(names, analysed, &analysed_by(&analysis), program.node_count());
+    let same = are_alike(
+        names,
+        analysed,
+        &analysed_by(&analysis),
+        program.node_count(),
+    );
     drop_analysis(analysis);
     Ok(same)
 }

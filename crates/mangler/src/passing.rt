@@ -7,9 +7,7 @@ ghost use Rattle.mangle_model.specs.GoodNames.{is_ascii_identifier, is_free_name
 ghost use Rattle.mangle_model.specs.Mangling.{all_pass};
 ghost use Rattle.mangler.specs.Passing.{at, good_by, passes_by, passes_option};
 
-use mangle_names::{is_ascii_identifier, is_reserved};
-use mangle_names::NameSet;
-use mangle_names::NewNames;
+use mangle_names::{NameSet, NewNames, is_ascii_identifier, is_reserved};
 use scoping::Scoping;
 use semantic_syntax::SymbolId;
 use std::alloc::{AllocError, Global};
@@ -22,11 +20,7 @@ pub fn is_marked(marks: &[bool], number: usize) -> bool
 }
 
 /// Adds the free names.
-fn add_free_names(
-    alloc: Global,
-    names: &mut NameSet,
-    scoping: &Scoping,
-) -> Result<(), AllocError>
+fn add_free_names(alloc: Global, names: &mut NameSet, scoping: &Scoping) -> Result<(), AllocError>
     ensures { OnOk result ((q : List ℕ) → list_any (bytes_eq q) names.new ≡ (list_any (bytes_eq q) names.old || is_free_name scoping.now q)) }
 {
     for (name, _) in scoping.root_unresolved_references().iter() {
@@ -68,11 +62,7 @@ fn add_kept_names(
 }
 
 /// The free names, and those of symbols that must keep theirs.
-pub fn barred_names(
-    alloc: Global,
-    scoping: &Scoping,
-    may: &[bool],
-) -> Result<NameSet, AllocError>
+pub fn barred_names(alloc: Global, scoping: &Scoping, may: &[bool]) -> Result<NameSet, AllocError>
     ensures { IfOk result (λ names. (q : List ℕ) → list_any (bytes_eq q) names ≡ (is_free_name scoping.now q || is_kept_name (at may.now) q 0 scoping.now.symbols)) }
 {
     let mut names = NameSet::new(alloc);

@@ -13,10 +13,10 @@ ghost use Rattle.mangle_model.specs.MayMangle.{fixes_symbol, is_predicate};
 ghost use Rattle.mangler.specs.Changing.{IsSeen};
 ghost use Rattle.mangler.specs.Withs.{EndsWith};
 
-use mangle_names::NameSet;
 use crate::predicates::add_predicates;
 use crate::seen_nodes::push_seen;
 use crate::spot::Spot;
+use mangle_names::NameSet;
 use renamer::Analysed;
 use scoping::Scoping;
 use semantic_queries::node_symbols::exported_names;

@@ -1,4 +1,4 @@
-use Rattle.std.proofs.Common.{◌∙◌, sym, ap}
+use Rattle.std.proofs.Common.{◌∙◌, ap}
 use Rattle.mangle_model.specs.GoodNames.{is_ascii_identifier}
 use Rattle.mangle_names.proofs.AsciiNames.{by_bytes}
 use Rattle.mangle_names.proofs.good_names.is_ascii_identifier.Goals as goal

@@ -1,4 +1,4 @@
-use Rattle.std.proofs.Common.{◌≤◌, length, refl, ap, ◌∙◌, arith}
+use Rattle.std.proofs.Common.{◌≤◌, length, ap, ◌∙◌, arith}
 use Rattle.semantic_model.specs.Analysis.{Analysis}
 use Rattle.mangle_model.specs.Mangling.{may_change}
 use Rattle.mangler.specs.Changing.{options_of}

@@ -7,7 +7,7 @@ use Rattle.semantic_tree.specs.Forest.{Forest, count, join}
 use Rattle.semantic_tree.specs.declared.node.Node.{Node}
 use Rattle.mangle_model.specs.Assignment.{listed}
 use Rattle.mangle_model.specs.Renamed.{given}
-use Rattle.mangle_model.specs.WithNames.{is_given, with_names}
+use Rattle.mangle_model.specs.WithNames.{with_names}
 use Rattle.renamer.specs.Told.{told_by}
 use Rattle.renamer.proofs.KnownMarks.{known_turn}
 use Rattle.mangler.proofs.NamedChildren.{names_turn, names_end}

@@ -5,7 +5,7 @@ use Rattle.semantic_tree.specs.declared.node.Node.{Node}
 use Rattle.semantic_tree.proofs.ShapedLaws.{IsShaped-no_fault}
 use Rattle.mangle_model.specs.Assignment.{listed}
 use Rattle.mangle_model.specs.Renamed.{given}
-use Rattle.mangle_model.specs.WithNames.{is_given, with_names}
+use Rattle.mangle_model.specs.WithNames.{with_names}
 use Rattle.renamer.specs.Renaming.{AreKnown}
 use Rattle.renamer.specs.Told.{told_by}
 use Rattle.renamer.proofs.KnownMarks.{shaped_known}

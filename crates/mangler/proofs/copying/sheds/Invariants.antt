@@ -6,7 +6,7 @@ use Rattle.semantic_tree.specs.Views.{children_of}
 use Rattle.renamer.specs.Told.{told_by}
 use Rattle.mangle_model.specs.Assignment.{listed}
 use Rattle.mangle_model.specs.Renamed.{given}
-use Rattle.mangle_model.specs.WithNames.{is_given, with_names}
+use Rattle.mangle_model.specs.WithNames.{is_given}
 use Rattle.rename_model.specs.WithName.{is_named_value}
 use Rattle.mangler.proofs.copying.sheds.Given as goal
 

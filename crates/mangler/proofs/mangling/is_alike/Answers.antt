@@ -1,4 +1,4 @@
-use Rattle.std.proofs.Common.{ap, sym, ◌∙◌}
+use Rattle.std.proofs.Common.{ap, ◌∙◌}
 use Rattle.semantic_model.specs.Analysis.{Analysis}
 use Rattle.rename_model.specs.Same.{first_difference}
 use Rattle.mangle_model.specs.Assignment.{listed}

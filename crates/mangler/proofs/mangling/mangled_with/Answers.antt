@@ -17,5 +17,5 @@ renamed_by-requires-clause-identifiers c =
 pub returns : goal.returns
 returns c =
     if_ok c.good_copy.result (λ found h. if_some found (λ q good.
-      mangled_by (options_of c.args.options) c.args.program.now c.args.names.now (told_by c.args.analysed.now) (at c.args.may.now) c.in_ok-made.made q (IsShaped-no_fault c.args.program.now c.root-root.ensures.shaped) c.root-root.ensures.numbered
-      c.requires.analysis c.requires.may (c.in_ok-given.ensures c.if-not-given.false) c.in_ok-made.ensures good) h) c.good_copy.ensures
+    mangled_by (options_of c.args.options) c.args.program.now c.args.names.now (told_by c.args.analysed.now) (at c.args.may.now) c.in_ok-made.made q (IsShaped-no_fault c.args.program.now c.root-root.ensures.shaped) c.root-root.ensures.numbered
+    c.requires.analysis c.requires.may (c.in_ok-given.ensures c.if-not-given.false) c.in_ok-made.ensures good) h) c.good_copy.ensures

@@ -1,4 +1,4 @@
-use Rattle.std.proofs.Common.{ℕ, ◌<◌, ◌||◌, ◌&&◌, not, bytes_eq, length, ap, ◌∙◌, arith}
+use Rattle.std.proofs.Common.{◌<◌, ◌||◌, ◌&&◌, not, bytes_eq, length, ap, ◌∙◌, arith}
 use Rattle.std.specs.List.{list_any}
 use Rattle.semantic_syntax.specs.Reading.{symbol_of}
 use Rattle.mangler.specs.Passing.{at}

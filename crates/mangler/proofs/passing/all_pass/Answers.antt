@@ -1,4 +1,4 @@
-use Rattle.std.proofs.Common.{ℕ, ◌<◌, ◌≤◌, length, ap, sym, ◌∙◌, arith}
+use Rattle.std.proofs.Common.{◌<◌, ◌≤◌, length, ap, sym, ◌∙◌, arith}
 use Rattle.mangler.specs.Passing.{at, passes_by, passes_option}
 use Rattle.mangler.proofs.Barred.{pass_next, pass_fails, pass_end}
 use Rattle.mangler.proofs.passing.all_pass.Goals as goal

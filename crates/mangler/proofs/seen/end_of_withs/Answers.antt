@@ -1,4 +1,4 @@
-use Rattle.std.proofs.Common.{◌≡◌, ◌<◌, ◌≤◌, ◌+◌, Bool, true, false, length, slice_index_or, subst, sym, ap, ◌∙◌, arith}
+use Rattle.std.proofs.Common.{◌≡◌, ◌<◌, ◌≤◌, ◌+◌, length, slice_index_or, subst, sym, ap, ◌∙◌, arith}
 use Rattle.semantic_syntax.specs.Reading.{no_scope}
 use Rattle.semantic_syntax.specs.Sets.{meets}
 use Rattle.semantic_syntax.specs.declared.scope_flags.ScopeFlags.{ScopeFlags}
@@ -18,8 +18,8 @@ loop-number-preserved c =
     let tested : opens_with (slice_index_or scopes n no_scope) ≡ c.intersects.result =
     ap (λ m. opens_with (slice_index_or scopes m no_scope)) (sym c.new.ensures) ∙ ap (λ (f : ScopeFlags). meets f.bits scope.With.bits) (sym c.scope_flags-flags.ensures) ∙ sym c.intersects.ensures in
     elim c.if-intersects.branch [
-      then-intersects w ↦ subst (SoFar scopes (n + 1)) (sym w.end-is) (with_found scopes n c.loop-number.end within (tested ∙ w.if-intersects.true) c.loop-number.invariant)
-    | else-intersects w ↦ subst (SoFar scopes (n + 1)) (sym w.end-is) (with_passes scopes n c.loop-number.end within (tested ∙ w.if-intersects.false) c.loop-number.invariant)
+      | then-intersects w ↦ subst (SoFar scopes (n + 1)) (sym w.end-is) (with_found scopes n c.loop-number.end within (tested ∙ w.if-intersects.true) c.loop-number.invariant)
+      | else-intersects w ↦ subst (SoFar scopes (n + 1)) (sym w.end-is) (with_passes scopes n c.loop-number.end within (tested ∙ w.if-intersects.false) c.loop-number.invariant)
     ]
 
 pub returns : goal.returns

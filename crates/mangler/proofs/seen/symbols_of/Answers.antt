@@ -1,4 +1,4 @@
-use Rattle.std.proofs.Common.{◌<◌, ◌≤◌, ◌||◌, nat_eq, length, drop, ap, ◌∙◌, arith}
+use Rattle.std.proofs.Common.{◌<◌, ◌≤◌, nat_eq, length, arith}
 use Rattle.std.specs.HashSet.{contains as has_key}
 use Rattle.rename_model.specs.Renamed.{bears_name}
 use Rattle.renamer.specs.Told.{told_by}

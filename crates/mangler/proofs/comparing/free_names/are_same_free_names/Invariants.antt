@@ -1,4 +1,4 @@
-use Rattle.std.proofs.Common.{◌≡◌, drop, length, bytes_eq, map, []}
+use Rattle.std.proofs.Common.{◌≡◌}
 use Rattle.std.specs.Cmp.Lexicographic.{pointwise}
 use Rattle.mangle_model.specs.Tests.{same_free}
 use Rattle.mangler.proofs.comparing.free_names.are_same_free_names.Given as goal

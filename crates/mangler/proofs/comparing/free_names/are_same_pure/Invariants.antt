@@ -1,5 +1,4 @@
-use Rattle.std.proofs.Common.{◌≡◌, drop, length, bytes_eq, map, []}
-use Rattle.std.specs.Cmp.Lexicographic.{pointwise}
+use Rattle.std.proofs.Common.{◌≡◌, bytes_eq}
 use Rattle.mangler.proofs.comparing.free_names.are_same_pure.Given as goal
 
 abbrev pub invariant-loop-symbol : goal.invariant-loop-symbol

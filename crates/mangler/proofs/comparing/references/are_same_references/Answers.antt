@@ -1,4 +1,4 @@
-use Rattle.std.proofs.Common.{◌≡◌, ◌<◌, ◌≤◌, length, Bool, true, false, ap, sym, ◌∙◌, arith}
+use Rattle.std.proofs.Common.{◌≡◌, ◌<◌, ◌≤◌, length, true, false, ap, sym, ◌∙◌, arith}
 use Rattle.semantic_syntax.specs.Reading.{no_reference, reference_of}
 use Rattle.mangle_model.specs.Tests.{same_reference}
 use Rattle.mangler.proofs.Pairs.{pair_passes, pair_fails, pairs_end}

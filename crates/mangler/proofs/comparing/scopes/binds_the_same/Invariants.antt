@@ -1,4 +1,4 @@
-use Rattle.std.proofs.Common.{◌≡◌, drop, length, bytes_eq, map, []}
+use Rattle.std.proofs.Common.{◌≡◌, map}
 use Rattle.std.specs.Cmp.Lexicographic.{pointwise}
 use Rattle.mangle_model.specs.Tests.{same_binding}
 use Rattle.mangle_model.specs.Assignment.{listed}

@@ -1,5 +1,5 @@
 use Rattle.std.proofs.Common.{◌≡◌, ◌<◌, ◌≤◌, ℕ, List, length, true, false, slice_index_or, ap, sym, ◌∙◌, arith}
-use Rattle.std.specs.Cmp.Lexicographic.{pointwise, unequal}
+use Rattle.std.specs.Cmp.Lexicographic.{unequal}
 use Rattle.semantic_syntax.specs.Reading.{no_symbol, symbol_of}
 use Rattle.semantic_syntax.specs.Tables.{Symbol}
 use Rattle.mangle_model.specs.Assignment.{Assignment, listed}

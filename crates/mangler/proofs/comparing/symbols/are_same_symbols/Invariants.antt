@@ -1,4 +1,4 @@
-use Rattle.std.proofs.Common.{◌≡◌, drop, length, bytes_eq, map, []}
+use Rattle.std.proofs.Common.{◌≡◌, drop}
 use Rattle.std.specs.Cmp.Lexicographic.{pointwise}
 use Rattle.mangle_model.specs.Tests.{same_symbol}
 use Rattle.mangle_model.specs.Assignment.{listed}

@@ -1,5 +1,4 @@
-use Rattle.std.proofs.Common.{◌≡◌, drop, length, bytes_eq, map, []}
-use Rattle.std.specs.Cmp.Lexicographic.{pointwise}
+use Rattle.std.proofs.Common.{◌≡◌, drop, bytes_eq}
 use Rattle.mangler.proofs.comparing.values.are_same_ids.Given as goal
 
 abbrev pub invariant-loop-number : goal.invariant-loop-number
