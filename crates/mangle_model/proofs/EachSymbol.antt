@@ -109,7 +109,7 @@ module _ (o : Options) (p : Tree) where
   changes s y e h =
       let (dts, own) = and_parts (not (is_typescript_definition p.source_type)) (may_mangle_symbol o p walk a s (slice_get symbols s)) h in
       let chain : may_mangle_symbol o p walk a s (Some y) ≡ true = ap (may_mangle_symbol o p walk a s) (sym e) ∙ own in
-      let (c0, r0) = and_parts (not (is_open_scope walk y.scope (slice_get a.tables.scopes y.scope))) _ chain in
+      let (c0, r0) = and_parts (not (is_open_scope a.tables.scopes y.scope (slice_get a.tables.scopes y.scope))) _ chain in
       let (c1, r1) = and_parts (not (is_global o p.source_type y.scope)) _ r0 in
       let (c2, r2) = and_parts (not (is_of_wrapper p.source_type y)) _ r1 in
       let (c3, c4) = and_parts (not (is_kept_symbol walk y)) (not (list_any (fixes_symbol (exported_names walk) (bears_name a s)) walk)) r2 in
