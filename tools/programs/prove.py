@@ -271,6 +271,9 @@ def main():
     words.add_argument("crates", nargs="+")
     given = words.parse_args()
     names = given.crates
+    unknown = [it for it in names if it not in Listed().named]
+    if unknown:
+        words.error(f"crates.txt has no crate {unknown[0]}")
     progress, caller = Progress(), Caller(given.with_parent)
     say_waiting = lambda: progress.say("another call proves in this repository; this one waits")
     try:
@@ -282,6 +285,9 @@ def main():
     except Ended as ended:
         progress.say(f"{' and '.join(names)}: broken off; the next call goes on from here")
         end_by(ended.number)
+    except PermissionError as error:
+        progress.say(f"{error.filename} can't be written: prove as the owner of {TOP}")
+        return 1
     except (Unbuilt, OSError) as error:
         progress.say(str(error))
         return 1
