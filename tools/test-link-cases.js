@@ -86,6 +86,7 @@ const PATHS = [
   ['the same, strictly', { 'a.js': "import React from 'react';\n" }, ["a.js:1:19: 'react' is not installed"], { strict: true, notes: ['absent react'] }],
   ['URLs, loaders and queries', { 'a.js': "import 'https://example.org/x.js';\nimport 'style!./x.css';\nimport raw from './lib.js?raw';\nimport 'data:text/javascript,1';\n", 'lib.js': LIB }, []],
   ['a URL of a file', { 'a.js': "import 'file:///no/such/file.js';\n" }, [], { notes: [] }],
+  ['texts with halves of characters', { 'a.js': "import { x } from './\\ud800';\nimport { y } from '\\udc00é';\n" }, ["a.js:1:19: './\ufffdd800' leads to no file"], { notes: ['absent \ufffddc00é'] }],
   ['a text without sense', { 'a.js': "import '';\nimport './\\0';\nimport './';\n" },
     ["a.js:1:8: '' leads to no file", "a.js:2:8: './␀' leads to no file", "a.js:3:8: './' leads to no file"]],
 ];

@@ -18,7 +18,13 @@ function tellVersion() {
   throw new CommanderError(0, 'commander.version', '');
 }
 
-function programOf() {
+// The command that is asked for; all of them where help or nothing that is known is.
+function commandsFor([word]) {
+  const named = COMMANDS.filter(({ name }) => name === word);
+  return named.length === 0 ? COMMANDS : named;
+}
+
+function programOf(words) {
   const program = new Command('bolgwyr')
     .description('Scopes, names and early errors of JavaScript and TypeScript, by an analysis that is proved.')
     .option('--version', 'tell the version, and how the programs were made')
@@ -28,7 +34,7 @@ function programOf() {
     .configureOutput({ outputError: (text, write) => write(text.replace(/^error: /, 'bolgwyr: ')) })
     .exitOverride()
     .addHelpText('after', STATUSES);
-  for (const { name, add } of COMMANDS) {
+  for (const { name, add } of commandsFor(words)) {
     add(program, name);
   }
   for (const command of program.commands) {
@@ -64,7 +70,7 @@ function heedOutput() {
 async function main(words) {
   heedOutput();
   try {
-    await programOf().parseAsync(words, { from: 'user' });
+    await programOf(words).parseAsync(words, { from: 'user' });
   } catch (error) {
     process.exitCode = statusOf(error);
   }

@@ -39,7 +39,7 @@ const WRAPPED = new Set(['arguments']);
 function knownSets(named, free, goal) {
   const environments = named === null ? guessed(free) : named;
   const isWrapped = goal !== 'module' && environments.some((environment) => WRAPPERS.includes(environment));
-  return [...[LANGUAGE, ...environments].map(namesOf), ...(isWrapped ? [WRAPPED] : [])];
+  return [...[...new Set([LANGUAGE, ...environments])].map(namesOf), ...(isWrapped ? [WRAPPED] : [])];
 }
 
 module.exports = { environments, knownSets };

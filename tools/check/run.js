@@ -37,7 +37,9 @@ function runThread(workerData, told) {
 }
 
 async function checkByThreads(jobs, threads, settings, told) {
-  const shares = Array.from({ length: threads }, (_, place) => ({ jobs: shareOf(jobs, place, threads), settings: { ...settings, shells: 1, prefix: `${place}-` } }));
+  const shares = Array.from({ length: threads }, (_, place) => {
+    return { jobs: shareOf(jobs, place, threads), settings: { ...settings, shells: 1, prefix: `${place}-` } };
+  });
   await Promise.all(shares.map((share) => runThread(share, told)));
 }
 

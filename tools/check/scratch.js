@@ -8,8 +8,20 @@ const { RunFault } = require('../bolgwyr/faults.js');
 
 const MEMORY = '/dev/shm';
 
+// The room that the trees of the largest files want, some for each processor. Containers often have less in memory.
+const ROOM_BYTES = 1 << 30;
+
+function hasRoom(place) {
+  try {
+    const { bavail, bsize } = fs.statfsSync(place);
+    return bavail * bsize >= ROOM_BYTES;
+  } catch {
+    return false;
+  }
+}
+
 function made() {
-  for (const place of [MEMORY, os.tmpdir()]) {
+  for (const place of [MEMORY, os.tmpdir()].filter((one) => one !== MEMORY || hasRoom(one))) {
     try {
       return fs.mkdtempSync(path.join(place, 'bolgwyr-'));
     } catch {

@@ -7,13 +7,14 @@ const path = require('path');
 const { spawnSync } = require('child_process');
 const { linkSet } = require('../link/index.js');
 const { randomOf } = require('./random.js');
-const { projectOf } = require('./projects.js');
+const { FIXED, projectOf } = require('./projects.js');
 const { faultsOf } = require('./standard.js');
 const { placesOf, spoil } = require('./spoil.js');
 const { compareOutlines } = require('./outlines.js');
 
-const PACKAGES = ['lodash-es/lodash.js', 'terser/main.js', 'acorn/dist/acorn.mjs', 'globby/index.js', 'commander/esm.mjs', 'eslint-visitor-keys', 'magic-string']
-  .flatMap((name) => ['/usr/share/nodejs', '/usr/lib/nodejs'].map((folder) => path.join(folder, name)))
+// Modules that Debian installs.
+const PACKAGES = ['lodash-es/lodash.js', 'terser/main.js', 'acorn/dist/acorn.mjs', 'globby/index.js', 'commander/esm.mjs', 'magic-string']
+  .map((name) => path.join('/usr/share/nodejs', name))
   .filter((file) => fs.existsSync(file));
 
 const lineOf = ({ module, span, message }) => {
@@ -23,10 +24,8 @@ const lineOf = ({ module, span, message }) => {
 
 function clean() {
   return PACKAGES.map((entry) => {
-    const started = performance.now();
     const { set, outcomes, findings } = linkSet([entry]);
-    const time = Math.round(performance.now() - started);
-    console.log(`clean ${entry}: ${set.modules.length} modules, ${outcomes.imports.length} imports, ${findings.length} findings, ${time} ms`);
+    console.log(`clean ${entry}: ${set.modules.length} modules, ${outcomes.imports.length} imports, ${findings.length} findings`);
     findings.forEach((finding) => console.log(lineOf(finding)));
     return findings.length === 0;
   }).every(Boolean);
@@ -70,14 +69,14 @@ function spoiledCopy(folder, entries, random, count) {
   });
 }
 
-const scripts = (folder, pattern) => fs.readdirSync(folder, { recursive: true }).filter((name) => pattern.test(name) && !/node_modules/.test(name)).sort();
+const scripts = (folder) => fs.readdirSync(folder, { recursive: true }).filter((name) => name.endsWith('.js')).sort();
 
 const SPOILED = [
-  ['/usr/share/nodejs/lodash-es', (copy) => scripts(copy, /\.js$/)],
-  ['/usr/share/nodejs/terser', (copy) => ['main.js', ...scripts(path.join(copy, 'lib'), /\.js$/).map((name) => `lib/${name}`)]],
+  ['/usr/share/nodejs/lodash-es', (copy) => scripts(copy)],
+  ['/usr/share/nodejs/terser', (copy) => ['main.js', ...scripts(path.join(copy, 'lib')).map((name) => `lib/${name}`)]],
 ];
 
-function spoiled({ seed, count = 100 }) {
+function spoiled({ seed, count = 120 }) {
   const random = randomOf(seed);
   const folders = SPOILED.filter(([folder]) => fs.existsSync(folder));
   return folders.map(([folder, entries]) => {
@@ -99,8 +98,9 @@ function withFolder(run) {
 
 // What Node says of the projects.
 function nodeAnswers(projects) {
-  const input = (folder) => JSON.stringify({ folder, projects });
-  const run = withFolder((folder) => spawnSync(process.execPath, [path.join(__dirname, 'node-errors.js')], { input: input(folder), encoding: 'utf8', maxBuffer: Infinity }));
+  const program = path.join(__dirname, 'node-errors.js');
+  const options = (folder) => ({ input: JSON.stringify({ folder, projects }), encoding: 'utf8', maxBuffer: Infinity });
+  const run = withFolder((folder) => spawnSync(process.execPath, [program], options(folder)));
   if (run.status !== 0) {
     throw new Error(run.stderr);
   }
@@ -112,7 +112,10 @@ function ownAnswer(project, folder) {
   Object.entries(project).forEach(([name, text]) => fs.writeFileSync(path.join(folder, name), text));
   const { findings, outcomes } = linkSet([Object.keys(project)[0]], { cwd: folder });
   const placed = ({ module, span }) => ({ file: module.shown, line: module.positions.placeOf(span.start).line });
-  const led = [...outcomes.imports.map(({ module, wanted, outcome }) => ({ module, span: wanted.span, outcome })), ...outcomes.exports.map(({ module, entry, outcome }) => ({ module, span: entry.span, outcome }))];
+  const led = [
+    ...outcomes.imports.map(({ module, wanted, outcome }) => ({ module, span: wanted.span, outcome })),
+    ...outcomes.exports.map(({ module, entry, outcome }) => ({ module, span: entry.span, outcome })),
+  ];
   return {
     findings: findings.map((finding) => ({ ...placed(finding), rule: finding.rule, name: /^'(.*?)'/.exec(finding.message)?.[1] })),
     namespaces: led.filter(({ outcome }) => outcome.word === 'namespace').map(placed).map(lineAt),
@@ -167,21 +170,23 @@ function compareStandard({ own, namespaces, standard, project }) {
 
 function tellNode(all) {
   const errors = all.flatMap(({ theirs }) => theirs.errors);
-  const kinds = [/does not provide/, /conflicting star/, /Detected cycle/].map((kind) => errors.filter(({ message }) => kind.test(message)).length);
+  const KINDS = [/does not provide/, /conflicting star/, /Detected cycle/];
+  const kinds = KINDS.map((kind) => errors.filter(({ message }) => kind.test(message)).length);
   const accounted = all.flatMap(({ byNode }) => byNode.accounted);
   const sums = Object.keys(DIFFERENCES).map((name) => `${accounted.filter((one) => one === name).length} ${name}`);
   const whole = all.filter(({ theirs }) => theirs.isWhole).length;
-  console.log(`node: ${errors.length} errors of Node: ${kinds[0]} missing, ${kinds[1]} ambiguous, ${kinds[2]} rings; ${whole} projects to the end`);
+  const told = `${kinds[0]} missing, ${kinds[1]} ambiguous, ${kinds[2]} rings`;
+  console.log(`node: ${errors.length} errors of Node: ${told}; ${whole} projects to the end`);
   console.log(`node: accounted for by name: ${sums.join(', ')}`);
-  console.log(`node: beside the Standard ${all.flatMap(({ byStandard }) => byStandard.accounted).length} namespace`);
-  console.log(`node: the Standard's algorithm tells ${all.flatMap(({ standard }) => standard).length} lines, bolgwyr ${all.flatMap(({ own }) => own).length}`);
+  const counts = [({ standard }) => standard, ({ own }) => own, ({ byStandard }) => byStandard.accounted].map((part) => all.flatMap(part).length);
+  console.log(`node: the Standard's algorithm tells ${counts[0]} lines, bolgwyr ${counts[1]}; accounted for by name: ${counts[2]} namespace`);
 }
 
 const isDiffering = ({ lost, more }) => lost.length + more.length > 0;
 
 function node({ seed, count = 200 }) {
   const random = randomOf(seed);
-  const projects = Array.from({ length: count }, () => projectOf(random));
+  const projects = [...FIXED, ...Array.from({ length: count }, () => projectOf(random))];
   const [owns, theirs] = [ownAnswers(projects), nodeAnswers(projects)];
   const all = projects.map((project, place) => {
     const one = { project, own: owns[place].findings, namespaces: owns[place].namespaces, theirs: theirs[place], standard: faultsOf(project) };
@@ -189,7 +194,7 @@ function node({ seed, count = 200 }) {
   });
   const differing = all.filter(({ byNode, byStandard }) => isDiffering(byNode) || isDiffering(byStandard));
   tellNode(all);
-  console.log(`node: ${count} projects, ${differing.length} differ`);
+  console.log(`node: ${projects.length} projects, ${differing.length} differ`);
   differing.slice(0, 3).forEach(({ project, byNode, byStandard }) => console.log(JSON.stringify({ project, byNode, byStandard }, null, 1)));
   return differing.length === 0;
 }

@@ -3,8 +3,7 @@
 
 const { runTool } = require('../programs/index.js');
 const { moduleSet } = require('../link/index.js');
-const { outcomes } = require('../link/linker.js');
-const { linkedName } = require('../link/linker.js');
+const { linkedName, outcomes } = require('../link/linker.js');
 
 // The whole tree with each specifier as the set of outlines has it.
 function wholeTree(module) {
@@ -26,13 +25,14 @@ const comparable = (words) => words.split(' ').slice(0, 2).join(' ');
 function compareOutlines(entry) {
   const { modules } = moduleSet([entry], { trees: true });
   const linked = modules.filter((module) => module.kind === 'module');
-  const own = outcomes(modules).imports.map(({ outcome }) => (outcome.module === null ? outcome.word : `${outcome.word} ${linked.indexOf(outcome.module)}`));
+  const own = outcomes(modules).imports.map(({ outcome: { word, module } }) => (module === null ? word : `${word} ${linked.indexOf(module)}`));
   const set = { modules: linked.map((module) => ({ name: `m${module.number}`, tree: wholeTree(module) })) };
   const run = runTool('module_linker', [], JSON.stringify(set));
   if (run.status > 1) {
     throw new Error(run.stderr);
   }
-  const whole = run.stdout.toString('utf8').split('\n').filter((line) => line.startsWith('import ')).map((line) => comparable(wordsOf(line)));
+  const lines = run.stdout.toString('utf8').split('\n').filter((line) => line.startsWith('import '));
+  const whole = lines.map((line) => comparable(wordsOf(line)));
   const differing = whole.filter((words, place) => words !== own[place]).length + Math.abs(whole.length - own.length);
   return { imports: whole.length, differing };
 }

@@ -63,4 +63,17 @@ function projectOf(random) {
   return project;
 }
 
-module.exports = { projectOf };
+// What random projects seldom have: one namespace by two ways.
+const twice = (lines) => ({
+  'm0.js': "export {};\nimport { a as local1 } from './m1.js';\n",
+  'm1.js': "export * from './m2.js';\nexport * from './m3.js';\n",
+  'm2.js': `${lines}\n`,
+  'm3.js': `${lines}\n`,
+  'm4.js': 'export const b = 1;\n',
+});
+const FIXED = [
+  twice("import * as local1 from './m4.js';\nexport { local1 as a };"),
+  twice("export * as a from './m4.js';"),
+];
+
+module.exports = { FIXED, projectOf };

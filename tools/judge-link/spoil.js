@@ -3,15 +3,24 @@
 
 const fs = require('fs');
 const { Positions } = require('../analyse/positions.js');
+const { isRelative } = require('../link/kinds.js');
 
 // Where something can be spoiled: {module, specifier, span, into, at}, where `into` takes the place of the span and the finding
 // stands `at` bytes behind its beginning. Names of imports and of exports that lead on, and paths (`isPath`).
 function placesOf({ set, outcomes }) {
   const imports = outcomes.imports.map(({ module, wanted }, place) => importPlace(module, wanted, place)).filter((place) => place !== null);
-  const exports = outcomes.exports.filter(({ entry }) => entry.what === 'passed').map(({ module, entry }, place) => exportPlace(module, entry, place));
-  const paths = set.modules.flatMap((module) => module.specifiers.filter(({ to }) => to.module !== undefined)
-    .map((specifier, place) => ({ module, specifier, span: specifier.span, into: JSON.stringify(`${specifier.text}-spoiled${place}`), at: 0, isPath: true })));
+  const passed = outcomes.exports.filter(({ entry }) => entry.what === 'passed');
+  const exports = passed.map(({ module, entry }, place) => exportPlace(module, entry, place));
+  const paths = set.modules.flatMap((module) => module.specifiers.filter(isOwn).map((specifier, place) => pathPlace(module, specifier, place)));
   return [...imports, ...exports, ...paths];
+}
+
+// A package of another name wouldn't be told: it isn't installed.
+const isOwn = ({ text, to }) => isRelative(text) && to.module !== undefined;
+
+function pathPlace(module, specifier, place) {
+  const into = JSON.stringify(`${specifier.text}-spoiled${place}`);
+  return { module, specifier, span: specifier.span, into, at: 0, isPath: true };
 }
 
 // A default import that stands alone becomes one of a name that isn't there.

@@ -7,12 +7,14 @@ const { load } = require('../source-to-tree/load.js');
 // A service that knows one file and no library.
 function serviceFor(file, text) {
   const ts = load('typescript');
+  const { ScriptTarget, ModuleKind } = ts;
+  const settings = { noLib: true, noResolve: true, target: ScriptTarget.Latest, module: ModuleKind.ESNext, experimentalDecorators: true };
   const host = {
     getScriptFileNames: () => [file],
     getScriptVersion: () => '1',
     getScriptSnapshot: (name) => (name === file ? ts.ScriptSnapshot.fromString(text) : undefined),
     getCurrentDirectory: () => '/',
-    getCompilationSettings: () => ({ noLib: true, noResolve: true, target: ts.ScriptTarget.Latest, module: ts.ModuleKind.ESNext, experimentalDecorators: true }),
+    getCompilationSettings: () => settings,
     getDefaultLibFileName: () => 'lib.d.ts',
     fileExists: (name) => name === file,
     readFile: (name) => (name === file ? text : undefined),

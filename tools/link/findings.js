@@ -66,12 +66,11 @@ function lackOf(context, { module, name }, local) {
   }
   const names = namesOf(context, module);
   if (name === 'default') {
-    const braces = names.has(local) ? ` (did you mean '{ ${local} }'?)` : '';
-    return `${named(module)} has no default export${braces}`;
+    return `${named(module)} has no default export${names.has(local) ? meant(`{ ${local} }`) : ''}`;
   }
   const near = context.nearest(name, names);
-  const only = near === undefined && names.size === 1 && names.has('default') ? ': it has a default export only' : meant(near);
-  return `'${name}' is not exported by ${named(module)}${only}`;
+  const isDefaultOnly = near === undefined && names.size === 1 && names.has('default');
+  return `'${name}' is not exported by ${named(module)}${isDefaultOnly ? ': it has a default export only' : meant(near)}`;
 }
 
 function missing(context, from, { local }) {
@@ -99,7 +98,8 @@ function ambiguous(context, from) {
     return { rule: 'ambiguous-export', message: `'${from.name}' is ambiguous: several modules export it`, related: [] };
   }
   const ends = ways.map((way) => named(way[way.length - 1].module));
-  return { rule: 'ambiguous-export', message: `'${from.name}' is ambiguous: ${ends.join(' and ')} both export it`, related: ways.flatMap(steps) };
+  const message = `'${from.name}' is ambiguous: ${ends.join(' and ')} both export it`;
+  return { rule: 'ambiguous-export', message, related: ways.flatMap(steps) };
 }
 
 const FAULTS = { missing, ring: circular, ambiguous };
@@ -124,8 +124,8 @@ function importFindings(context, imports) {
 
 // An export that leads nowhere is told where it stands; one of a name that the module imports was told at the import.
 function exportFindings(context, exports) {
-  const own = exports.filter(hasFault).filter(({ module, entry }) => entry.what === 'passed' || importOf(module, entry.local) === undefined);
-  return own.flatMap(({ module, entry, outcome }) => {
+  const isOwn = ({ module, entry }) => entry.what === 'passed' || importOf(module, entry.local) === undefined;
+  return exports.filter(hasFault).filter(isOwn).flatMap(({ module, entry, outcome }) => {
     const to = entry.specifier === null ? null : entry.specifier.to.module;
     const from = to === null ? { module, name: entry.name } : { module: to, name: entry.local };
     return nameFinding(context, { module, span: entry.span, from, local: undefined, word: outcome.word });
@@ -144,7 +144,8 @@ function nearFile(context, wanted, files) {
   if (same !== undefined) {
     return same;
   }
-  const near = context.nearest(stem, files.filter((file) => ending === '' || endingOf(file) === ending).map(stemOf));
+  const others = files.filter((file) => ending === '' || endingOf(file) === ending);
+  const near = context.nearest(stem, others.map(stemOf));
   return near === undefined ? undefined : `${near}${ending}`;
 }
 
@@ -155,7 +156,7 @@ function nearPath(context, module, text) {
     context.folders.set(folder, listed(folder));
   }
   const near = text.endsWith(wanted) ? nearFile(context, wanted, context.folders.get(folder)) : undefined;
-  return near === undefined ? undefined : `${text.slice(0, text.length - wanted.length)}${near}`;
+  return near === undefined ? undefined : text.slice(0, text.length - wanted.length) + near;
 }
 
 function listed(folder) {
@@ -166,21 +167,29 @@ function listed(folder) {
   }
 }
 
+// What is wrong with where a specifier leads: {rule, message}, or null.
+function specifierFault(context, module, { to, text }) {
+  if (to.nowhere !== undefined) {
+    const near = isRelative(text) ? nearPath(context, module, text) : undefined;
+    return { rule: 'unresolved-import', message: `${to.nowhere}${meant(near)}` };
+  }
+  if (to.why === 'absent') {
+    return context.strict ? { rule: 'uninstalled-package', message: `'${text}' is not installed` } : null;
+  }
+  if (to.module !== undefined && to.module.kind === 'unreadable' && !to.module.isPackaged) {
+    return { rule: 'unreadable-module', message: `'${text}' leads to ${named(to.module)}: ${to.module.refusal.message}` };
+  }
+  return null;
+}
+
 function specifierFindings(context, module) {
   return module.specifiers.flatMap((specifier) => {
     const { to, span, text } = specifier;
-    if (to.nowhere !== undefined) {
-      const near = isRelative(text) ? nearPath(context, module, text) : undefined;
-      return [{ rule: 'unresolved-import', module, span, message: `${to.nowhere}${meant(near)}`, related: [] }];
-    }
     if (to.why === 'absent') {
       context.notes.push({ kind: 'absent', module, span, name: text });
-      return context.strict ? [{ rule: 'uninstalled-package', module, span, message: `'${text}' is not installed`, related: [] }] : [];
     }
-    if (to.module !== undefined && to.module.kind === 'unreadable' && !to.module.isPackaged) {
-      return [{ rule: 'unreadable-module', module, span, message: `'${text}' leads to ${named(to.module)}: ${to.module.refusal.message}`, related: [] }];
-    }
-    return [];
+    const fault = specifierFault(context, module, specifier);
+    return fault === null ? [] : [{ ...fault, module, span, related: [] }];
   });
 }
 
@@ -190,17 +199,18 @@ function spanAt(module, index) {
   return { start, end: start };
 }
 
+function duplicateFinding(module, { name, span, first }) {
+  const related = [{ module, span: first, message: 'it is exported here' }];
+  return { rule: 'duplicate-export', module, span, message: `'${name}' is exported twice`, related };
+}
+
 function moduleFindings(context, module) {
   if (module.kind === 'refused') {
-    return [{ rule: 'unparsable-module', module, span: spanAt(module, module.refusal.index), message: module.refusal.message, related: [] }];
+    const span = spanAt(module, module.refusal.index);
+    return [{ rule: 'unparsable-module', module, span, message: module.refusal.message, related: [] }];
   }
   const repeated = module.outline === null ? [] : module.outline.repeated;
-  return [
-    ...specifierFindings(context, module),
-    ...repeated.map(({ name, span, first }) => ({
-      rule: 'duplicate-export', module, span, message: `'${name}' is exported twice`, related: [{ module, span: first, message: 'it is exported here' }],
-    })),
-  ];
+  return [...specifierFindings(context, module), ...repeated.map((one) => duplicateFinding(module, one))];
 }
 
 function inOrder(a, b) {

@@ -6,6 +6,7 @@ const path = require('path');
 const { treeOf } = require('../source-to-tree/convert.js');
 const { readText } = require('../analyse/files.js');
 const { Positions } = require('../analyse/positions.js');
+const { Refusal } = require('../analyse/refusal.js');
 const { BOUNDS } = require('../analyse/tree.js');
 const { goalOfName, isDeclarations, isInPackage, isTyped, kindOf } = require('./kinds.js');
 const { outlineOf } = require('./outline.js');
@@ -138,7 +139,7 @@ function readModule(module, { typeOf, isEntry, keepTree }) {
   try {
     module.text = readText(module.file);
   } catch (error) {
-    if (error.constructor.name !== 'Refusal') {
+    if (!(error instanceof Refusal)) {
       throw error;
     }
     module.refusal = { message: error.message, index: null };

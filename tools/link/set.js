@@ -53,7 +53,8 @@ function entryFile(name, { cwd, resolver }) {
   if (!stat.isDirectory()) {
     return kindOf(file) === 'source' ? { file: fs.realpathSync(file) } : { fault: 'no file of JavaScript or TypeScript' };
   }
-  return folderEntry(fs.realpathSync(file), resolver) || { fault: 'a folder without a package.json that names an entry, and without an index file' };
+  const none = { fault: 'a folder without a package.json that names an entry, and without an index file' };
+  return folderEntry(fs.realpathSync(file), resolver) || none;
 }
 
 function addModule(set, file) {

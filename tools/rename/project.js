@@ -80,7 +80,8 @@ function isExported(module, symbol) {
 }
 
 function refuseImported(module, symbol) {
-  if (symbol.flags.some((flag) => flag.includes('Import')) && module.outline.imports.some(({ local, name }) => local === symbol.name && name === local)) {
+  const isImport = symbol.flags.some((flag) => flag.includes('Import'));
+  if (isImport && module.outline.imports.some(({ local, name }) => local === symbol.name && name === local)) {
     throw new RenameRefusal(`\`${symbol.name}\` is imported: name the place where it is declared`, symbol.span);
   }
 }
@@ -125,8 +126,8 @@ function refuseOtherLinks(project, changes, asked) {
 }
 
 function warningsOf(project, followers, name) {
-  const { entries } = project.linked.set;
-  return entries.filter((entry) => followers.exporting.has(entry)).map((entry) => `\`${name}\` is exported by the entry ${entry.shown}: others may import it`);
+  const exporting = project.linked.set.entries.filter((entry) => followers.exporting.has(entry));
+  return exporting.map((entry) => `\`${name}\` is exported by the entry ${entry.shown}: others may import it`);
 }
 
 function renamedInAll(project, module, symbol, to) {

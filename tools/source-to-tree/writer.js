@@ -2,7 +2,7 @@
 // Writes a tree as JSON: the rows of its nodes in preorder, each node opened before its children and closed behind them.
 
 const { Refusal } = require('./refusal');
-const { Bytes } = require('./bytes');
+const { Bytes, wordsOf } = require('./bytes');
 
 const DEEPEST = 1000;
 const MOST_BYTES = 67108864;
@@ -21,31 +21,36 @@ const MODULE_STATEMENTS = new Set(['ImportDeclaration', 'ExportDeclaration', 'Ex
 const FUNCTIONS = new Set(['Function', 'ArrowFunctionExpression']);
 
 const COMMA = 0x2c;
-const OPEN = 0x5b;
+
+// How a row begins, by its depth; the first one is the root's.
+const BEGINS = Array.from({ length: DEEPEST + 1 }, (_, depth) => wordsOf(depth === 0 ? '[0' : `,[${depth}`));
 
 // What is written of each kind, and what a kind tells of the file: made when the kind is met first.
 class Kind {
   constructor(name) {
     this.name = name;
-    this.heads = new Map(); // by role: the bytes of role and kind
+    this.heads = new Map(); // by role: role and kind as they are written
+    this.lastRole = '';
+    this.lastHead = null;
     this.isFunction = FUNCTIONS.has(name);
     this.isTyped = name.startsWith('TS');
     this.isJsx = name.startsWith('JSX');
     this.isModuleStatement = MODULE_STATEMENTS.has(name);
     this.isExternal = name === 'TSExternalModuleReference';
     this.isAwait = name === 'AwaitExpression';
-    this.isPlain = !(this.isFunction || this.isTyped || this.isJsx || this.isModuleStatement || this.isAwait);
+    this.mayAwait = this.isAwait || name === 'ForOfStatement' || name === 'VariableDeclaration';
+    this.isPlain = !(this.isFunction || this.isTyped || this.isJsx || this.isModuleStatement || this.mayAwait);
   }
 
   headFor(role) {
-    const head = this.heads.get(role);
-    return head === undefined ? this.makeHead(role) : head;
+    if (role !== this.lastRole) this.findHead(role);
+    return this.lastHead;
   }
 
-  makeHead(role) {
-    const head = Buffer.from(`,"${role}","${this.name}",`);
-    this.heads.set(role, head);
-    return head;
+  findHead(role) {
+    if (!this.heads.has(role)) this.heads.set(role, wordsOf(`,"${role}","${this.name}",`));
+    this.lastRole = role;
+    this.lastHead = this.heads.get(role);
   }
 }
 
@@ -59,16 +64,17 @@ function kindOf(name) {
 }
 
 // The end of a row, from behind its text on, for each mark alone and for none.
-const NO_MARK_END = Buffer.from(',[]]');
-const ENDS = new Map(MARKS.map((mark) => [mark, Buffer.from(`,["${mark}"]]`)]));
+const BARE_END = wordsOf(',"",[]]'); // where there is no text either
+const NO_MARK_END = wordsOf(',[]]');
+const ENDS = new Map(MARKS.map((mark) => [mark, wordsOf(`,["${mark}"]]`)]));
 
 function endFor(marks) {
   if (marks.length === 1) return ENDS.get(marks[0]);
   const sorted = marks.sort((a, b) => PLACE.get(a) - PLACE.get(b));
-  return Buffer.from(`,["${sorted.join('","')}"]]`);
+  return wordsOf(`,["${sorted.join('","')}"]]`);
 }
 
-const ROW_ROOM = 256; // for a row without its text: no role, kind or list of marks is half as long
+const ROW_ROOM = 512; // for a row without its text: no role, kind or list of marks is half as long
 const BYTES_PER_UNIT = 9; // of a tree, by its source: more than most have
 
 class TreeWriter {
@@ -77,9 +83,11 @@ class TreeWriter {
     this.offsets = offsets;
     this.isTyped = lang !== 'js' && lang !== 'jsx';
     this.start = gap;
+    this.most = gap + MOST_BYTES;
     this.bytes = new Bytes(gap + ROW_ROOM + Math.min(BYTES_PER_UNIT * offsets.last, MOST_BYTES));
     this.bytes.end = gap;
-    this.opened = [];
+    this.opened = []; // the kinds of the nodes that are open
+    this.depth = 0;
     this.functions = 0;
     this.isModule = false;
     this.hasJsx = false;
@@ -87,50 +95,56 @@ class TreeWriter {
 
   // A node whose children follow until close.
   open(role, name, start, end, text = '', marks = NO_MARKS) {
-    const { bytes, offsets, opened } = this;
-    const depth = opened.length;
-    if (depth > DEEPEST) throw new Refusal('too deep');
     const kind = kindOf(name);
+    this.row(kind, role, start, end, text, marks);
+    if (kind.isFunction) this.functions++;
+    this.opened[this.depth] = kind;
+    this.depth += 1;
+  }
+
+  close() {
+    this.depth -= 1;
+    if (this.opened[this.depth].isFunction) this.functions--;
+  }
+
+  leaf(role, name, start, end, text = '', marks = NO_MARKS) {
+    this.row(kindOf(name), role, start, end, text, marks);
+  }
+
+  row(kind, role, start, end, text, marks) {
+    const { bytes, offsets, depth } = this;
+    if (depth > DEEPEST) throw new Refusal('too deep');
     if (kind.isTyped && !this.isTyped) throw new Refusal(TYPED_ONLY, start);
-    bytes.reserve(ROW_ROOM);
-    if (depth > 0) bytes.byte(COMMA);
-    bytes.byte(OPEN);
-    bytes.number(depth);
+    bytes.reserve(ROW_ROOM + text.length);
+    bytes.copy(BEGINS[depth]);
     bytes.copy(kind.headFor(role));
     bytes.number(offsets.at(start));
     bytes.byte(COMMA);
     bytes.number(offsets.at(end));
-    bytes.byte(COMMA);
-    this.finishRow(text, marks);
-    this.notice(kind, depth, text, marks);
-    opened.push(kind);
+    if (text === '' && marks.length === 0) bytes.copy(BARE_END);
+    else this.finishRow(text, marks);
+    if (bytes.end > this.most) throw new Refusal('too large');
+    if (!kind.isPlain) this.notice(kind, text, marks);
   }
 
   finishRow(text, marks) {
     const { bytes } = this;
+    bytes.byte(COMMA);
     bytes.quoted(text);
     bytes.reserve(ROW_ROOM);
     bytes.copy(marks.length === 0 ? NO_MARK_END : endFor(marks));
-    if (bytes.end - this.start > MOST_BYTES) throw new Refusal('too large');
-  }
-
-  close() {
-    if (this.opened.pop().isFunction) this.functions--;
-  }
-
-  leaf(role, kind, start, end, text, marks) {
-    this.open(role, kind, start, end, text, marks);
-    this.close();
   }
 
   // What tells that the file is a module, or has elements.
-  notice(kind, depth, text, marks) {
-    if (kind.isPlain && marks[0] !== 'await' && text !== 'await using') return;
+  notice(kind, text, marks) {
     if (kind.isJsx) this.hasJsx = true;
-    else if (kind.isFunction) this.functions++;
-    else if (depth === 1 && kind.isModuleStatement) this.isModule = true;
-    else if (depth === 2 && kind.isExternal) this.isModule = true;
-    else if (this.functions === 0 && (kind.isAwait || marks[0] === 'await' || text === 'await using')) this.isModule = true;
+    else if (kind.mayAwait) this.noticeAwait(kind, text, marks);
+    else if (this.depth === 1 && kind.isModuleStatement) this.isModule = true;
+    else if (this.depth === 2 && kind.isExternal) this.isModule = true;
+  }
+
+  noticeAwait(kind, text, [mark]) {
+    if (this.functions === 0 && (kind.isAwait || mark === 'await' || text === 'await using')) this.isModule = true;
   }
 
   // The whole text of the tree, as bytes.

@@ -70,6 +70,8 @@ function answers({ put, run, patched }, expect) {
   put('page.js', 'var a;');
   expect('a script', `0|--- page.js\n+++ page.js\n@@ -1,1 +1,1 @@\n-var a;\n\\ No newline at end of file\n+var b;\n\\ No newline at end of file\n|${SCRIPT_WARNING}`,
     told(run(['page.js:a', 'b'])));
+  put('common.js', 'var a;\nexports.b = a;\n');
+  expect('a module of CommonJS', '', run(['common.js:a', 'c']).errs);
   put('ends.mjs', 'let a;\r\n\r\n\r\n\r\n\r\n\r\n\r\n\r\n\r\na\r\n');
   const ends = run(['ends.mjs:a', 'b']).out;
   expect('two hunks', 2, ends.split('\n').filter((line) => line.startsWith('@@')).length);
@@ -103,7 +105,7 @@ function meanwhile({ at, put, read, run }, expect) {
   expect('programs that are not there', '3||true', `${missing.status}|${missing.out}|${missing.errs.includes("can't be run")}`);
 }
 
-function faults({ at, put, run }, expect) {
+function faults({ put, run }, expect) {
   const lines = (words) => { const { status, errs } = run(words); return `${status} ${errs.split('\n')[0]}`; };
   expect('no words', "2 bolgwyr: missing required argument 'place'", lines([]));
   expect('one word', "2 bolgwyr: missing required argument 'name'", lines(['sum.mjs:3:7']));

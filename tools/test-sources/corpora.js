@@ -6,6 +6,7 @@ const fs = require('fs');
 const path = require('path');
 const { treeOf, Refusal } = require('../source-to-tree/convert');
 const { parsersFor } = require('../source-to-tree/parsers');
+const { goalOf } = require('../source-to-tree/languages');
 const acorn = require('../source-to-tree/ways/acorn');
 const { reportOf } = require('./analysis');
 
@@ -26,7 +27,7 @@ function* filesBelow(folder, isWanted) {
 function handedOver(source, { filename, goal }) {
   const [parser] = parsersFor('acorn', __dirname);
   const text = source.replace(/^\ufeff/, '');
-  const { ast, comments } = acorn.read(text, { lang: 'js', filename, goal, folder: __dirname, parser });
+  const { ast, comments } = acorn.read(text, { lang: 'js', filename, goal: goal || goalOf(filename), folder: __dirname, parser });
   const nodes = comments.map(({ block, start, end }) => ({ type: block ? 'Block' : 'Line', start, end }));
   return JSON.parse(JSON.stringify({ ...ast, comments: nodes }, (key, value) => (typeof value === 'bigint' ? null : value)));
 }

@@ -50,8 +50,7 @@ class EstreeConversion {
   }
 
   leaf(role, kind, node, text, marks) {
-    this.open(role, kind, node, text, marks);
-    this.close();
+    this.writer.leaf(role, kind, this.start(node), this.end(node), text, marks);
   }
 
   refuse(node, message) {

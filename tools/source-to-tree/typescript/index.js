@@ -90,8 +90,7 @@ class TypeScriptConversion {
   }
 
   leaf(role, kind, node, text, marks) {
-    this.open(role, kind, node, text, marks);
-    this.close();
+    this.writer.leaf(role, kind, this.start(node), node.end, text, marks);
   }
 
   // True for a link of a chain that has `?.`.
