@@ -137,7 +137,8 @@ class Crate:
 
     def finish(self):
         """Notes that the proof ended, and whether it is one."""
-        is_proved = self.running.returncode == 0 and PROVED.search(self.told()) is not None
+        self.ended_with = self.running.returncode
+        is_proved = self.ended_with == 0 and PROVED.search(self.told()) is not None
         self.running = None
         if is_proved and self.is_program:
             is_proved = self.link()
@@ -173,6 +174,11 @@ class Crate:
         """What the proof wrote."""
         self.log.seek(0)
         return self.log.read()
+
+    def cause(self):
+        """What a proof that failed wrote, and how it ended where it was killed."""
+        killed = f"rattle was ended by signal {-self.ended_with}, for want of memory perhaps" if self.ended_with < 0 else ""
+        return "\n".join(filter(None, [self.told().rstrip(), killed]))
 
 
 class Proof:
@@ -260,7 +266,7 @@ def prove(names, progress, caller):
     finally:
         proof.end()
     if failed:
-        raise Unbuilt(f"{failed.told().rstrip()}\n{proof.names}: {failed.name} can't be built")
+        raise Unbuilt(f"{failed.cause()}\n{proof.names}: {failed.name} can't be built")
     progress.say(f"{proof.names}: proved, {progress.seconds() / 60:.0f} minutes")
 
 
