@@ -9,10 +9,14 @@ const { ResponseFault } = require('./faults.js');
 
 const WORKER = path.join(__dirname, 'worker.js');
 
+// A thread that dies is started again, but not for ever.
+const MOST_DEATHS = 5;
+
 class Analyst {
-  // `told(notice)` hears what people are to know.
-  constructor({ documents, client, told, log }) {
-    Object.assign(this, { documents, client, told, log });
+  // `told(notice)` hears what people are to know, and `lost()` that no thread stays alive.
+  constructor({ documents, client, told, lost, log }) {
+    Object.assign(this, { documents, client, told, lost, log });
+    this.deaths = 0;
     this.waiting = new Map(); // questions by their keys, in order
     this.due = new Map(); // what is asked of documents when nobody waits, by URI
     this.running = null;
@@ -24,16 +28,25 @@ class Analyst {
     this.worker = new Worker(WORKER, { workerData: { client: this.client }, stdout: true });
     this.worker.stdout.pipe(process.stderr);
     this.worker.on('message', (message) => this.hear(message));
-    this.worker.on('error', (error) => this.restart(error));
+    let cause = new Error('it ended by itself');
+    this.worker.on('error', (error) => { cause = error; });
+    this.worker.on('exit', () => this.restart(cause));
   }
 
   // A thread that died takes its question with it.
-  restart(error) {
-    this.log(`the thread that analyses ended: ${error.stack}`);
+  restart(cause) {
+    this.log(`the thread that analyses ended: ${cause.stack}`);
+    this.deaths += 1;
+    if (this.deaths > MOST_DEATHS) {
+      this.lost();
+      return;
+    }
     const job = this.running;
     this.running = null;
     this.start();
-    job?.reject(new ResponseFault('internalError', `the analysis ended: ${error.message}`));
+    if (job !== null && !job.isVoid) {
+      job.reject(new ResponseFault('internalError', `the analysis ended: ${cause.message}`));
+    }
     this.next();
   }
 
