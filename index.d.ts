@@ -180,3 +180,26 @@ export function analyse(text: string, options?: AnalyseOptions): Tables;
 
 /** The findings of a text, in order of their places. Throws a Refusal for a text that is too large or too deep. */
 export function check(text: string, options?: CheckOptions): Finding[];
+
+/** A place in a module, with lines and columns from 1. */
+export interface LinkPlace {
+  file: string; line: number; column: number; endLine: number; endColumn: number; span: { start: number; end: number } }
+export interface LinkRelated extends LinkPlace { message: string }
+export type LinkRule = 'unresolved-import' | 'uninstalled-package' | 'missing-export' | 'circular-export' |
+  'ambiguous-export' | 'duplicate-export' | 'unreadable-module' | 'unparsable-module';
+export interface LinkFinding extends LinkRelated { rule: LinkRule; related: LinkRelated[] }
+export interface LinkNote extends LinkPlace { kind: 'absent' | 'unknown'; name: string }
+export interface LinkImport extends LinkPlace {
+  name: string | null; local: string; specifier: string; outcome: string; target: string | null }
+export interface LinkSpecifier extends Omit<LinkPlace, 'file'> {
+  text: string; way: 'import' | 'export' | 'dynamic' | 'require' | 'augment'; typed: boolean;
+  file: string | null; external: string | null; nowhere: string | null }
+export interface LinkModule { file: string; kind: string; exports: string[]; specifiers: LinkSpecifier[] }
+export interface LinkFault { entry: string; message: string }
+export interface LinkOptions { cwd?: string; strict?: boolean; packages?: boolean }
+export interface LinkAnswer {
+  modules: LinkModule[]; imports: LinkImport[]; findings: LinkFinding[]; notes: LinkNote[]; faults: LinkFault[] }
+/** Which imports of the modules that entries (files or folders) reach lead nowhere. */
+export function link(entries: string[], options?: LinkOptions): LinkAnswer;
+
+export * from './tools/rename/index';

@@ -7,7 +7,7 @@ tools="$(cd "$(dirname "$0")" && pwd)"
 folder="${1:-$tools/../out/c}"
 archive="${BOLGWYR_ARCHIVE:-$tools/../crates/analysis_c/out/libanalysis_c.a}"
 
-[ -n "${BOLGWYR_ARCHIVE:-}" ] || python3 "$tools/build_program.py" analysis_c </dev/null >&2
+[ -n "${BOLGWYR_ARCHIVE:-}" ] || python3 "$tools/programs/prove.py" analysis_c </dev/null >&2
 mkdir -p "$folder"
 folder="$(cd "$folder" && pwd)"
 room="$(mktemp -d)"

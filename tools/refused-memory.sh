@@ -2,14 +2,18 @@
 # Refuses the report program each request for memory in turn: those of the report of each of some programs, with all that the
 # words ask for, and some of those of a script that is made. A run of which one is refused ends with status 7, a front of the
 # report and a front of the line on it, or as the run without a refusal does. It prints how many runs ended so. The words are
-# programs of crates/program_cases/data/reports/programs. REPORT names the program, which is else the proved one. It needs a C compiler.
+# programs of crates/program_cases/data/reports/programs. REPORT names the program, which is else the one that bin/report runs. It needs a C compiler.
 set -eu
 cd "$(dirname "$0")/.."
 [ $# -gt 0 ] || set -- let-a-1-a-2 try-catch-a-a let-a-let-a import-readfile-from-fs-const-limit-10-e
 room="$(mktemp -d)"
 trap 'rm -rf "$room"' EXIT
-report="${REPORT:-crates/report_main/out/report_main}"
-[ -n "${REPORT:-}" ] || bin/report <samples/function.json >"$room/sample"
+report="${REPORT:-}"
+if [ -z "$report" ]; then
+    bin/report <samples/function.json >"$room/sample"
+    report="$(tools/programs/ready.sh report_main)"
+    report="${report#* }"
+fi
 cc -O2 -shared -fPIC -o "$room/refuse.so" tools/refused-memory/refuse.c
 echo 'out of memory' >"$room/line"
 failed=0

@@ -1,21 +1,18 @@
 #!/bin/sh
-# Runs the proved program of a crate with the words and the standard input given. Before, if it isn't there or a file of
-# the crates is newer, it proves and builds it and says on standard error how far it is.
+# Runs the program of a crate with the words and the standard input given: the proved one where there is one of the sources as they
+# stand, else one built without a proof, which is built first if need be. What is built, and how far it is, stands on standard error.
 # The exit status is the program's, or if it can't be built UNBUILT, which is 8 where it isn't set.
 # usage: tools/run-program.sh CRATE WORD..
 set -eu
-tools="$(cd "$(dirname "$0")" && pwd)"
+programs="$(dirname "$0")/programs"
 crate="$1"
 shift
-program="$tools/../crates/$crate/out/$crate"
+unbuilt="${UNBUILT:-8}"
 
-# The first file or folder that is newer than the program, if there is one.
-newer() {
-    find "$tools/../crates.txt" "$tools"/../crates/*/src "$tools"/../crates/*/specs "$tools"/../crates/*/proofs \
-        -newer "$program" -print -quit 2>/dev/null || true
-}
-
-if [ ! -x "$program" ] || [ -n "$(newer)" ]; then
-    python3 "$tools/build_program.py" "$crate" </dev/null >&2 || exit "${UNBUILT:-8}"
+ready="$("$programs/ready.sh" "$crate")"
+[ "$ready" = none ] || exec "${ready#* }" "$@"
+if ! command -v python3 >/dev/null 2>&1; then
+    echo "$crate: Python is wanted to build it: apt-get install python3" >&2
+    exit "$unbuilt"
 fi
-exec "$program" "$@"
+exec python3 "$programs/build.py" --unbuilt "$unbuilt" --run "$crate" "$@"

@@ -1,11 +1,13 @@
 #!/bin/sh
-# Installs what the tools round the analyser need and isn't there: Node, the parsers (node-acorn has acorn-jsx too), GNU
-# parallel, rsync for runs on other machines, a C compiler, Python, and a browser for tests. Debian's packages by apt-get
-# alone, as root or with sudo. It can be run again at any time.
+# Installs what the tools round the analyser need and isn't there: Node, the modules that package.json names (node-acorn has
+# acorn-jsx too) and that tests compare with, GNU parallel, rsync for runs on other machines, a C compiler, Python, and a browser
+# for tests. Debian's packages by apt-get alone, as root or with sudo; none of them stands against a Node from elsewhere. It can be
+# run again at any time.
 # usage: tools/setup.sh [--without-browser]
 set -eu
 
-packages="node-acorn node-typescript node-eslint-scope parallel rsync time"
+packages="node-acorn node-typescript node-commander node-globby node-ignore node-enhanced-resolve node-magic-string node-source-map"
+packages="$packages node-globals node-chalk node-eslint-scope parallel rsync time"
 [ "${1:-}" = --without-browser ] || packages="$packages chromium"
 
 # A Node from elsewhere serves as well as Debian's.

@@ -86,6 +86,7 @@ const PATHS = [
   ['the same, strictly', { 'a.js': "import React from 'react';\n" }, ["a.js:1:19: 'react' is not installed"], { strict: true, notes: ['absent react'] }],
   ['URLs, loaders and queries', { 'a.js': "import 'https://example.org/x.js';\nimport 'style!./x.css';\nimport raw from './lib.js?raw';\nimport 'data:text/javascript,1';\n", 'lib.js': LIB }, []],
   ['a URL of a file', { 'a.js': "import 'file:///no/such/file.js';\n" }, [], { notes: [] }],
+  ['texts with halves of characters', { 'a.js': "import { x } from './\\ud800';\nimport { y } from '\\udc00é';\n" }, ["a.js:1:19: './\ufffdd800' leads to no file"], { notes: ['absent \ufffddc00é'] }],
   ['a text without sense', { 'a.js': "import '';\nimport './\\0';\nimport './';\n" },
     ["a.js:1:8: '' leads to no file", "a.js:2:8: './␀' leads to no file", "a.js:3:8: './' leads to no file"]],
 ];
@@ -160,6 +161,7 @@ const TYPED = [
     'node_modules/q/package.json': '{"exports":{"import":"./q.mjs"}}', 'node_modules/q/q.mjs': 'export const u = 1;\n', 'node_modules/q/q.d.mts': 'export type U = 1;\nexport const u: U;\n',
     'node_modules/@s/r/index.js': 'export const v = 1;\n', 'node_modules/@types/s__r/index.d.ts': 'export type V = 1;\nexport const v: V;\n',
   }, ["a.ts:3:13: 'W' is not exported by ./node_modules/@types/s__r/index.d.ts"]],
+  ['a default that TypeScript makes', { 'a.ts': "import p, { x, y } from 'p';\n", 'node_modules/p/index.d.ts': 'export const x: 1;\n' }, ["a.ts:1:16: 'y' is not exported by ./node_modules/p/index.d.ts"], { notes: ['unknown default'] }],
   ['types without a package', { 'a.ts': "import type { Node } from 'estree';\nimport { Gone } from 'estree';\n", 'node_modules/@types/estree/index.d.ts': 'export interface Node {}\n' }, ["a.ts:2:10: 'Gone' is not exported by ./node_modules/@types/estree/index.d.ts (did you mean 'Node'?)"]],
 ];
 

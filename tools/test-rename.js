@@ -3,6 +3,7 @@
 // Tries bolgwyr rename: texts before and after, refusals with their places, and the command itself. It needs the programs of the crates.
 
 const { renamings } = require('./test-rename/renamings.js');
+const { calls } = require('./test-rename/calls.js');
 const { commands } = require('./test-rename/commands.js');
 
 function main() {
@@ -16,6 +17,7 @@ function main() {
     }
   };
   renamings(expect);
+  calls(expect);
   commands(expect);
   process.stdout.write(`${done - failed} of ${done} cases of renaming as wanted\n`);
   return failed === 0 ? 0 : 1;

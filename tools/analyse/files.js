@@ -2,6 +2,7 @@
 // The text of a source file.
 
 const fs = require('fs');
+const { Positions } = require('./positions.js');
 const { Refusal } = require('./refusal.js');
 
 // The report program takes no longer tree, and a tree holds its source.
@@ -16,8 +17,9 @@ const CAUSES = {
   ENAMETOOLONG: 'its name is too long',
 };
 
+// With commas between thousands.
 function counted(number) {
-  return number.toLocaleString('en-US');
+  return String(number).replace(/\B(?=(?:\d{3})+$)/g, ',');
 }
 
 // Refuses what is longer than any tree that is taken.
@@ -27,11 +29,19 @@ function checkSize(size, what) {
   }
 }
 
+let input = null;
+
+// Standard input, which can be read once.
+function inputBytes() {
+  input ??= fs.readFileSync(0);
+  return input;
+}
+
 // The bytes of a file; `-` is standard input.
 function bytesOf(file) {
   try {
     if (file === '-') {
-      return fs.readFileSync(0);
+      return inputBytes();
     }
     checkSize(fs.statSync(file).size, 'the file');
     return fs.readFileSync(file);
@@ -58,7 +68,8 @@ function decode(bytes) {
   const text = bytes.toString('utf8');
   if (Buffer.byteLength(text, 'utf8') !== bytes.length || !Buffer.from(text, 'utf8').equals(bytes)) {
     const start = firstFault(bytes, text);
-    throw new Refusal(`not UTF-8 at byte ${start}`, { start });
+    const before = bytes.toString('utf8', 0, start);
+    throw new Refusal(`not UTF-8 at byte ${start}`, { ...new Positions(before).placeAt(before.length), start });
   }
   return text;
 }

@@ -27,7 +27,8 @@ function entriesOf(folder) {
   }
 }
 
-// Files with such an ending, by their names below the folder. Links to folders aren't followed, so there are no rings.
+// Files with such an ending, by their names below the folder. `skips(name, whole, isFolder)` says what is left out. Links to
+// folders aren't followed, so there are no rings.
 function sourceFiles(folder, skips) {
   const files = [];
   const waiting = [''];
@@ -35,14 +36,16 @@ function sourceFiles(folder, skips) {
     const below = waiting.pop();
     for (const entry of entriesOf(path.join(folder, below))) {
       const name = path.join(below, entry.name);
-      if (entry.isDirectory() && !skips(entry.name, path.join(folder, name))) {
+      const whole = path.join(folder, name);
+      const isFolder = entry.isDirectory();
+      if (isFolder && !skips(entry.name, whole, true)) {
         waiting.push(name);
-      } else if (!entry.isDirectory() && ENDINGS.has(path.extname(entry.name))) {
-        files.push({ name, size: sizeOf(path.join(folder, name)) });
+      } else if (!isFolder && ENDINGS.has(path.extname(entry.name)) && !skips(entry.name, whole, false)) {
+        files.push({ name, size: sizeOf(whole) });
       }
     }
   }
   return files.filter((file) => file.size !== null).sort((left, right) => (left.name < right.name ? -1 : 1));
 }
 
-module.exports = { sourceFiles };
+module.exports = { ENDINGS, sourceFiles };

@@ -3,26 +3,38 @@
 // bolgwyr: one command, with a module for each of its commands in commands/.
 
 const { load } = require('../source-to-tree/load.js');
-const { tell } = require('../analyse/output.js');
+const { say, tell } = require('../analyse/output.js');
 const { COMMANDS } = require('./commands/index.js');
 const { STATUS } = require('./faults.js');
-const { version } = require('../../package.json');
+const { versionText } = require('./version.js');
 
 const { Command, CommanderError } = load('commander');
 
 const STATUSES = `
 Status: 0 nothing found; 1 findings; 2 words that aren't known; 3 something could not be read or run.`;
 
-function programOf() {
+function tellVersion() {
+  say(versionText());
+  throw new CommanderError(0, 'commander.version', '');
+}
+
+// The command that is asked for; all of them where help or nothing that is known is.
+function commandsFor([word]) {
+  const named = COMMANDS.filter(({ name }) => name === word);
+  return named.length === 0 ? COMMANDS : named;
+}
+
+function programOf(words) {
   const program = new Command('bolgwyr')
     .description('Scopes, names and early errors of JavaScript and TypeScript, by an analysis that is proved.')
-    .version(version, '--version', 'tell the version')
+    .option('--version', 'tell the version, and how the programs were made')
+    .on('option:version', tellVersion)
     .option('--no-color', 'no colours, also in a terminal')
     .showHelpAfterError('(bolgwyr --help tells the words)')
     .configureOutput({ outputError: (text, write) => write(text.replace(/^error: /, 'bolgwyr: ')) })
     .exitOverride()
     .addHelpText('after', STATUSES);
-  for (const { name, add } of COMMANDS) {
+  for (const { name, add } of commandsFor(words)) {
     add(program, name);
   }
   for (const command of program.commands) {
@@ -36,19 +48,36 @@ function statusOf(error) {
   if (error instanceof CommanderError) {
     return error.exitCode === 0 ? STATUS.CLEAN : STATUS.USAGE;
   }
-  if (error.status === undefined) {
+  // A module that isn't installed is a refusal of the converter's; what the system refuses names the call.
+  const failed = error.name === 'Refusal' || error.syscall !== undefined;
+  if (error.status === undefined && !failed) {
     throw error;
   }
   tell(`bolgwyr: ${error.message}`);
-  return error.status;
+  return error.status ?? STATUS.FAILED;
+}
+
+// A reader of standard output that went away ends the command quietly; a full disk and the like end it in a line.
+function heedOutput() {
+  process.stdout.on('error', (error) => {
+    if (error.code !== 'EPIPE') {
+      tell(`bolgwyr: standard output can't be written: ${error.message}`);
+    }
+    process.exit(error.code === 'EPIPE' ? STATUS.CLEAN : STATUS.FAILED);
+  });
 }
 
 async function main(words) {
+  heedOutput();
   try {
-    await programOf().parseAsync(words, { from: 'user' });
+    await programOf(words).parseAsync(words, { from: 'user' });
   } catch (error) {
     process.exitCode = statusOf(error);
   }
 }
 
-main(process.argv.slice(2));
+if (require.main === module) {
+  main(process.argv.slice(2));
+}
+
+module.exports = { programOf };

@@ -2,7 +2,6 @@
 // Findings of earlier runs, by the bytes of the file and all else that they depend on. A cache that can't be read or written
 // is passed over.
 
-const crypto = require('crypto');
 const fs = require('fs');
 const os = require('os');
 const path = require('path');
@@ -34,9 +33,6 @@ function readEntries(file) {
   }
 }
 
-// What the name of a file tells of how it is read: all from its first dot on.
-const endingOf = (name) => path.basename(name).replace(/^[^.]*/, '');
-
 function removeIfThere(file) {
   if (fs.existsSync(file)) {
     fs.rmSync(file);
@@ -52,11 +48,11 @@ class Cache {
     this.isChanged = false;
   }
 
-  keyOf(bytes, { file, ...settings }) {
-    const rest = JSON.stringify([this.stamp, endingOf(file), settings]);
-    return crypto.createHash('sha256').update(rest).update('\0').update(bytes).digest('base64');
+  get isEmpty() {
+    return this.entries.size === 0;
   }
 
+  // The findings of a key, which was used last from now on.
   get(key) {
     const findings = this.entries.get(key);
     if (findings !== undefined) {
@@ -88,6 +84,6 @@ class Cache {
 }
 
 // In the place of a cache, where none is wanted.
-const NO_CACHE = { keyOf: () => null, get: () => undefined, set() {}, save() {} };
+const NO_CACHE = { stamp: '', isEmpty: true, get: () => undefined, set() {}, save() {} };
 
 module.exports = { Cache, NO_CACHE, cacheFolder };

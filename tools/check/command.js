@@ -63,17 +63,28 @@ function mostWarnings(text) {
   return Number(text);
 }
 
+// The settings of files by their configuration, each made once.
+function settingsMaker({ parser, goal, ...options }) {
+  const fromWords = worded(options);
+  const made = new Map();
+  return (config) => {
+    if (!made.has(config)) {
+      made.set(config, { ...settingsOf(config, fromWords), parser, goal });
+    }
+    return made.get(config);
+  };
+}
+
 // The files to check with their settings. What a configuration leaves out is checked where it is named.
 function jobsOf(words, options) {
   const configs = new Configs(options.config);
-  const fromWords = worded(options);
-  const { parser, goal } = options;
+  const settingsFor = settingsMaker(options);
   const jobs = [];
   for (const { file, isNamed } of sourcesOf(words.length === 0 ? ['.'] : words)) {
     const name = nameOf(file, options);
     const config = configs.of(name);
     if (isNamed || !config.ignores(name)) {
-      jobs.push({ file, name, settings: { ...settingsOf(config, fromWords), file: name, parser, goal } });
+      jobs.push({ file, name, settings: settingsFor(config) });
     }
   }
   return jobs;

@@ -24,28 +24,37 @@ const TAKES = {
   global: (asked, text) => namesIn(text).forEach(([name, value]) => asked.globals.set(name, !isOff(value))),
   exported: (asked, text) => namesIn(text).forEach(([name]) => asked.exported.add(name)),
   'eslint-env': (asked, text) => {
-    const known = new Set(environments());
-    asked.env = [...(asked.env ?? []), ...listOf(text).map((name) => (name === 'es6' ? 'es2015' : name)).filter((name) => known.has(name))];
+    const known = environments();
+    asked.env ??= [];
+    asked.env.push(...listOf(text).map((name) => (name === 'es6' ? 'es2015' : name)).filter((name) => known.includes(name)));
   },
 };
 TAKES.globals = TAKES.global;
 
 // The lines that a comment speaks of: those on which it begins and ends, or the one behind it.
-function linesOf(where, positions, start, end) {
+function linesOf(where, positions, [start, end]) {
   const last = positions.placeOf(end).line;
   return where === 'line' ? [positions.placeOf(start).line, last] : [last + 1];
 }
 
+// What isn't told somewhere: all rules, or some.
+const nothing = () => ({ all: false, rules: new Set() });
+
+function leaveOut(ignored, rules) {
+  ignored.all ||= rules.length === 0;
+  rules.forEach((rule) => ignored.rules.add(rule));
+}
+
 // Notes a place where rules aren't told; no rules are all of them.
-function ignore(asked, [, where, rest], positions, [start, end]) {
+function ignore({ file, lines }, [, where, rest], positions, span) {
   const rules = listOf(rest);
-  const told = rules.length === 0 ? null : new Set(rules);
   if (where === 'file') {
-    asked.ignored.file.push(told);
+    leaveOut(file, rules);
     return;
   }
-  for (const line of linesOf(where, positions, start, end)) {
-    asked.ignored.lines.set(line, [...(asked.ignored.lines.get(line) ?? []), told]);
+  for (const line of linesOf(where, positions, span)) {
+    lines.set(line, lines.get(line) ?? nothing());
+    leaveOut(lines.get(line), rules);
   }
 }
 
@@ -57,13 +66,13 @@ function readComment(asked, answers, [start, end, kind]) {
   if (names !== null) {
     TAKES[names[1]](asked, names[2]);
   } else if (ignored !== null) {
-    ignore(asked, ignored, answers.positions, [start, end]);
+    ignore(asked.ignored, ignored, answers.positions, [start, end]);
   }
 }
 
 // What the comments of a file ask for.
 function askedOf(answers) {
-  const asked = { globals: new Map(), exported: new Set(), env: null, ignored: { file: [], lines: new Map() } };
+  const asked = { globals: new Map(), exported: new Set(), env: null, ignored: { file: nothing(), lines: new Map() } };
   if (ASKS.test(answers.text)) {
     for (const comment of answers.tree.head.comments) {
       readComment(asked, answers, comment);
@@ -72,9 +81,8 @@ function askedOf(answers) {
   return asked;
 }
 
-function isIgnored(ignored, { rule, line }) {
-  const holds = (told) => told === null || told.has(rule);
-  return ignored.file.some(holds) || (ignored.lines.get(line) ?? []).some(holds);
+function isIgnored({ file, lines }, { rule, line }) {
+  return [file, lines.get(line)].some((ignored) => ignored !== undefined && (ignored.all || ignored.rules.has(rule)));
 }
 
 module.exports = { askedOf, isIgnored };

@@ -4,7 +4,7 @@
 const { load } = require('../source-to-tree/load.js');
 
 // The names of the language, which each file knows.
-const LANGUAGE = 'es2021';
+const LANGUAGE = 'builtin';
 
 // Where nobody names an environment: what Node and browsers share, and those of which a file has one of these names, free.
 const SHARED = 'shared-node-browser';
@@ -31,9 +31,15 @@ function guessed(free) {
   return [SHARED, ...found.map(([environment]) => environment)];
 }
 
+// Node runs a file that is no module as the body of a function.
+const WRAPPERS = ['node', 'commonjs'];
+const WRAPPED = new Set(['arguments']);
+
 // Sets of names that are known in a file; `named` is null where nobody names an environment.
-function knownSets(named, free) {
-  return [LANGUAGE, ...(named === null ? guessed(free) : named)].map(namesOf);
+function knownSets(named, free, goal) {
+  const environments = named === null ? guessed(free) : named;
+  const isWrapped = goal !== 'module' && environments.some((environment) => WRAPPERS.includes(environment));
+  return [...[...new Set([LANGUAGE, ...environments])].map(namesOf), ...(isWrapped ? [WRAPPED] : [])];
 }
 
 module.exports = { environments, knownSets };

@@ -1,66 +1,12 @@
 'use strict';
-// Checks many files.
+// Checks files: those that the cache knows at once, a few here, many with the processors that there are.
 
 const fs = require('fs');
 const os = require('os');
-const { bytesOf, decode } = require('../analyse/files.js');
-const { Positions } = require('../analyse/positions.js');
-const { Refusal } = require('../analyse/refusal.js');
-const { checkBy, checkText } = require('./check.js');
-const { syntaxFinding } = require('./findings.js');
-const { Runner } = require('./runner.js');
+const { keptResult, resultOf } = require('./one-file.js');
 
-// How many trees wait for a shell: enough that none is idle.
-const WAITING = 3;
-
-// What is said of bytes that are no text, at the place of the first.
-function binaryFinding(bytes, { message, start }) {
-  const before = bytes.toString('utf8', 0, start);
-  return syntaxFinding({ message, start, ...new Positions(before).placeAt(before.length) });
-}
-
-// A file's text, or the findings that it has in its place.
-function textOf(bytes) {
-  try {
-    return { text: decode(bytes) };
-  } catch (error) {
-    return { text: bytes.toString('latin1'), findings: [{ ...binaryFinding(bytes, error), span: null }] };
-  }
-}
-
-function failed(file, error) {
-  if (!(error instanceof Refusal)) {
-    throw error;
-  }
-  return { file, text: null, findings: [], failure: error.message };
-}
-
-// What the bytes of a file come to: `check` gives the findings of a text.
-async function findingsOf(bytes, settings, check) {
-  const { text, findings } = textOf(bytes);
-  return { text, findings: findings ?? await check(text, settings) };
-}
-
-// The same, from the cache where it has them.
-async function keptFindings(bytes, settings, check, cache) {
-  const key = cache.keyOf(bytes, settings);
-  const findings = cache.get(key);
-  if (findings !== undefined) {
-    return { findings, text: findings.length === 0 ? null : textOf(bytes).text };
-  }
-  const found = await findingsOf(bytes, settings, check);
-  cache.set(key, found.findings);
-  return found;
-}
-
-async function resultOf({ file, settings }, check, cache) {
-  try {
-    const { text, findings } = await keptFindings(bytesOf(file), settings, check, cache);
-    return { file, text: findings.length === 0 ? null : text, findings };
-  } catch (error) {
-    return failed(file, error);
-  }
-}
+// What a thread more is worth: it has to compile all code anew, which takes as long as a fraction of so many bytes do.
+const BYTES_A_THREAD = 5 << 20;
 
 function sizeOf(file) {
   return fs.statSync(file, { throwIfNoEntry: false })?.size ?? 0;
@@ -68,50 +14,78 @@ function sizeOf(file) {
 
 // The largest first, so that none of them is begun late.
 function largestFirst(jobs) {
-  return jobs.map((job, place) => ({ ...job, place, size: sizeOf(job.file) })).sort((left, right) => right.size - left.size);
+  return jobs.map((job) => ({ ...job, size: sizeOf(job.file) })).sort((left, right) => right.size - left.size);
 }
 
-const breath = () => new Promise((resolve) => { setImmediate(resolve); });
-
-// Converts here while shells run the programs.
-async function checkMany(jobs, cache, told) {
-  const runner = new Runner(Math.min(os.availableParallelism(), jobs.length));
-  const results = [];
-  const waiting = new Set();
-  const faults = [];
-  const begin = (job) => {
-    const done = resultOf(job, (text, settings) => checkBy(runner, text, settings), cache).then((result) => {
-      results[job.place] = result;
-      told(result);
-    }).catch((fault) => faults.push(fault)).finally(() => waiting.delete(done));
-    waiting.add(done);
-  };
-  try {
-    for (const job of largestFirst(jobs)) {
-      begin(job);
-      await (waiting.size >= WAITING * runner.size ? Promise.race(waiting) : breath());
-      if (faults.length > 0) {
-        throw faults[0];
-      }
-    }
-    await Promise.all(waiting);
-  } finally {
-    runner.close();
-  }
-  if (faults.length > 0) {
-    throw faults[0];
-  }
-  return results;
+// Each n-th job, so that shares are about equally large.
+function shareOf(jobs, place, shares) {
+  return jobs.filter((job, at) => at % shares === place);
 }
 
-// The results of files, in their order. Jobs: `{ file, settings }`; `told` hears each result as it comes.
+function faultOf({ message, status, stack }) {
+  return Object.assign(new Error(message), status === undefined ? { stack } : { status });
+}
+
+function runThread(workerData, told) {
+  const { Worker } = require('worker_threads');
+  const worker = new Worker(require.resolve('./worker.js'), { workerData });
+  return new Promise((resolve, reject) => {
+    worker.on('message', ({ place, result, fault }) => (fault === undefined ? told(place, result) : reject(faultOf(fault))));
+    worker.on('error', reject);
+    worker.on('exit', resolve);
+  });
+}
+
+async function checkByThreads(jobs, threads, settings, told) {
+  const shares = Array.from({ length: threads }, (_, place) => {
+    return { jobs: shareOf(jobs, place, threads), settings: { ...settings, shells: 1, prefix: `${place}-` } };
+  });
+  await Promise.all(shares.map((share) => runThread(share, told)));
+}
+
+// Checks what isn't kept, in a scratch folder that goes with the process.
+async function checkAnew(jobs, stamp, told) {
+  const { programsToRun } = require('./runner.js');
+  const { scratchFolder } = require('./scratch.js');
+  const processors = os.availableParallelism();
+  const sorted = largestFirst(jobs);
+  const bytes = sorted.reduce((sum, { size }) => sum + size, 0);
+  const threads = Math.min(processors, Math.floor(bytes / BYTES_A_THREAD));
+  const settings = { stamp, programs: programsToRun(), folder: scratchFolder() };
+  if (threads > 1) {
+    await checkByThreads(sorted, threads, settings, told);
+  } else {
+    const { checkMany } = require('./many-files.js');
+    await checkMany(sorted, { ...settings, shells: Math.min(processors, jobs.length), prefix: '' }, told);
+  }
+}
+
+async function checkOne(job, stamp, told) {
+  const { checkText } = require('./check.js');
+  told(job.place, await resultOf(job, stamp, checkText));
+}
+
+// The results of files, in their order. Jobs: `{ file, name, settings }`; `told` hears that a result is there.
 async function checkFiles(jobs, cache, told) {
-  if (jobs.length !== 1) {
-    return checkMany(jobs, cache, told);
-  }
-  const result = await resultOf(jobs[0], checkText, cache);
-  told(result);
-  return [result];
+  const results = [];
+  const take = (place, { key, ...result }) => {
+    results[place] = result;
+    if (key !== undefined) {
+      cache.set(key, result.findings);
+    }
+    told();
+  };
+  const left = [];
+  jobs.forEach((job, place) => {
+    const kept = cache.isEmpty ? undefined : keptResult(job, cache);
+    if (kept === undefined) {
+      left.push({ ...job, place });
+    } else {
+      take(place, kept);
+    }
+  });
+  await (left.length === 1 ? checkOne(left[0], cache.stamp, take) : left.length > 1 && checkAnew(left, cache.stamp, take));
+  return results;
 }
 
 module.exports = { checkFiles };

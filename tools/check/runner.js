@@ -1,6 +1,6 @@
 'use strict';
 // Runs programs on many trees by shells that stay: to start a process from Node takes longer than a program does. Trees and
-// answers are files, in memory where the system has a place for that.
+// answers are files of a scratch folder.
 
 const { spawn } = require('child_process');
 const fs = require('fs');
@@ -8,9 +8,7 @@ const os = require('os');
 const path = require('path');
 const readline = require('readline');
 const { RunFault } = require('../bolgwyr/faults.js');
-const { TOOLS, programPath } = require('../programs/index.js');
-
-const MEMORY = '/dev/shm';
+const { CRATES, TOOLS, prepare, programPath } = require('../programs/index.js');
 
 // Reads lines `ID TOOL ..`, and for each tool writes `ID TOOL STATUS` once its answer stands in the files `ID.TOOL`.
 const SCRIPT = `while read -r id tools; do
@@ -26,23 +24,13 @@ done`;
 // Statuses from here on stand for signals.
 const SIGNALS = 128;
 
-function scratchFolder() {
-  for (const place of [MEMORY, os.tmpdir()]) {
-    try {
-      return fs.mkdtempSync(path.join(place, 'bolgwyr-'));
-    } catch {
-      // The next place may do.
-    }
-  }
-  throw new RunFault(`${os.tmpdir()} can't be written to`);
-}
-
 function nameOfSignal(number) {
   return Object.keys(os.constants.signals).find((name) => os.constants.signals[name] === number) ?? `signal ${number}`;
 }
 
 // The programs of the script, in its order; without one of them no file gets an answer.
-function programs() {
+function programsToRun() {
+  prepare(CRATES);
   return ['report', 'name_lint'].map((tool) => programPath(TOOLS[tool].crate)).map((program) => {
     try {
       fs.accessSync(program, fs.constants.X_OK);
@@ -54,21 +42,14 @@ function programs() {
 }
 
 class Runner {
-  // `size` is how many shells there are once there is something to run.
-  constructor(size) {
-    this.size = size;
-    this.shells = [];
+  // `size` is how many shells there are; files in the folder have names that begin with `prefix`.
+  constructor({ programs, size, folder, prefix }) {
+    this.programs = programs;
+    this.folder = folder;
+    this.prefix = prefix;
     this.jobs = new Map();
     this.next = 0;
-    this.removal = () => {};
-  }
-
-  begin() {
-    this.programs = programs();
-    this.folder = scratchFolder();
-    this.removal = () => fs.rmSync(this.folder, { recursive: true, force: true });
-    process.on('exit', this.removal);
-    this.shells = Array.from({ length: this.size }, () => this.start());
+    this.shells = Array.from({ length: size }, () => this.start());
   }
 
   start() {
@@ -87,10 +68,7 @@ class Runner {
 
   // The runs of these tools on a tree, by their names.
   run(tools, json) {
-    if (this.shells.length === 0) {
-      this.begin();
-    }
-    const id = this.next;
+    const id = `${this.prefix}${this.next}`;
     this.next += 1;
     try {
       fs.writeFileSync(this.file(id, 'tree'), json);
@@ -108,7 +86,7 @@ class Runner {
   // An answer of one tool. What nobody waits for any more is passed over.
   take(line) {
     const [id, tool, status] = line.split(' ');
-    const job = this.jobs.get(Number(id));
+    const job = this.jobs.get(id);
     if (job === undefined) {
       return;
     }
@@ -116,7 +94,7 @@ class Runner {
     job.left -= 1;
     if (job.left === 0) {
       fs.unlinkSync(this.file(id, 'tree'));
-      this.jobs.delete(Number(id));
+      this.jobs.delete(id);
       job.shell.waiting -= 1;
       job.resolve(job.runs);
     }
@@ -145,9 +123,7 @@ class Runner {
     for (const shell of this.shells) {
       shell.stdin.end();
     }
-    this.removal();
-    process.off('exit', this.removal);
   }
 }
 
-module.exports = { Runner };
+module.exports = { Runner, programsToRun };

@@ -3,10 +3,11 @@
 
 const fs = require('fs');
 const path = require('path');
+const { ENDINGS, sourceFiles } = require('../analyse/folder.js');
 const { UsageFault } = require('../bolgwyr/faults.js');
 const { load } = require('../source-to-tree/load.js');
+const { GitIgnore } = require('./gitignore.js');
 
-const ENDINGS = '{js,mjs,cjs,jsx,ts,mts,cts,tsx}';
 const LEFT_OUT = ['**/node_modules/**', '**/.git/**'];
 
 function isFolder(name) {
@@ -16,61 +17,34 @@ function isFolder(name) {
 // Characters that a glob has. A name with them that is there is taken as it is.
 const isGlob = (word) => /[*?[\]{}()!]/.test(word);
 
-// The folders around this one up to the repository's top, the outermost first; none outside of a repository.
-function foldersAround(folder) {
-  const around = [];
-  for (let at = path.resolve(folder); !fs.existsSync(path.join(at, '.git')); at = path.dirname(at)) {
-    if (path.dirname(at) === at) {
-      return [];
-    }
-    around.unshift(path.dirname(at));
-  }
-  return around;
-}
-
-// What the .gitignore of folders around this one leaves out; globby reads those inside.
-function ignoredFromAround(folder) {
-  const lists = foldersAround(folder).filter((around) => fs.existsSync(path.join(around, '.gitignore'))).map((around) => {
-    const patterns = load('ignore')().add(fs.readFileSync(path.join(around, '.gitignore'), 'utf8'));
-    return (file) => patterns.ignores(path.relative(around, file).split(path.sep).join('/'));
-  });
-  return (file) => lists.some((ignores) => ignores(file));
-}
-
-// Paths that a glob finds below a folder.
-function found(pattern, folder) {
-  const options = { cwd: path.resolve(folder), gitignore: true, ignore: LEFT_OUT, expandDirectories: false, suppressErrors: true, absolute: true };
-  const ignored = ignoredFromAround(folder);
-  return load('globby').globbySync(pattern, options).filter((file) => !ignored(file)).sort();
-}
-
-// A path as the user would write it: below the folder that was named, or from here.
-function shown(file, folder) {
-  return path.join(folder, path.relative(path.resolve(folder), file));
-}
-
+// The source files below a folder, but for hidden ones.
 function filesOfFolder(folder) {
-  return found(`**/*.${ENDINGS}`, folder).map((file) => shown(file, folder));
+  const top = path.resolve(folder);
+  const ignored = new GitIgnore(top);
+  const skips = (name, whole, isBelow) => {
+    return name.startsWith('.') || name === 'node_modules' || ignored.leavesOut(whole, isBelow);
+  };
+  return sourceFiles(top, skips).map(({ name }) => path.join(folder, name));
 }
 
-// A glob is looked for from the folder that stands before its first sign.
+// A glob is looked for from the folder that stands before its first sign; what it finds may have any ending.
 function filesOfGlob(word) {
   const plain = /^(?:[^*?[\]{}()!]*\/)?/.exec(word)[0];
-  const folder = plain === '' ? '.' : plain;
-  return found(word.slice(plain.length), folder).map((file) => shown(file, folder));
+  const top = path.resolve(plain);
+  const ignored = new GitIgnore(top);
+  const names = load('globby').sync(word.slice(plain.length), { cwd: top, ignore: LEFT_OUT, expandDirectories: false, suppressErrors: true });
+  return names.filter((name) => !ignored.leavesOut(path.join(top, name), false)).sort().map((name) => path.join(plain, name));
 }
 
 // The files of one word. A file that is named is taken, whatever leaves it out.
 function filesOf(word) {
-  if (word === '-' || (fs.existsSync(word) && !isFolder(word))) {
+  const isThere = word !== '-' && fs.existsSync(word);
+  if (isThere ? !isFolder(word) : !isGlob(word)) {
     return [{ file: word, isNamed: true }];
   }
-  if (!isFolder(word) && !isGlob(word)) {
-    return [{ file: word, isNamed: true }];
-  }
-  const files = isFolder(word) ? filesOfFolder(word) : filesOfGlob(word);
+  const files = isThere ? filesOfFolder(word) : filesOfGlob(word);
   if (files.length === 0) {
-    throw new UsageFault(`${word}: no source files there (${ENDINGS.slice(1, -1).split(',').map((ending) => `.${ending}`).join(' ')})`);
+    throw new UsageFault(`${word}: no source files there (${[...ENDINGS].join(' ')})`);
   }
   return files.map((file) => ({ file, isNamed: false }));
 }

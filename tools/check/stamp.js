@@ -1,10 +1,11 @@
 'use strict';
 // What stands for the tools, the parsers and the programs: where it is the same, a file has the findings that it had.
 
+const crypto = require('crypto');
 const fs = require('fs');
 const path = require('path');
 const { load } = require('../source-to-tree/load.js');
-const { TOOLS, programPath } = require('../programs/index.js');
+const { CRATES, prepare, programPath } = require('../programs/index.js');
 const { version } = require('../../package.json');
 
 const FOLDERS = ['analyse', 'check', 'programs', 'source-to-tree'].map((name) => path.join(__dirname, '..', name));
@@ -34,8 +35,10 @@ function traceOfPackage(name) {
 
 function stamp() {
   load('globals');
-  const programs = [...new Set(Object.values(TOOLS).map(({ crate }) => programPath(crate)))];
-  return [version, process.version, ...[...FOLDERS.flatMap(filesBelow), ...programs].map(traceOf), ...PACKAGES.map(traceOfPackage)];
+  prepare(CRATES);
+  const programs = CRATES.map(programPath);
+  const traces = [version, process.version, ...[...FOLDERS.flatMap(filesBelow), ...programs].map(traceOf), ...PACKAGES.map(traceOfPackage)];
+  return crypto.createHash('sha256').update(JSON.stringify(traces)).digest('base64');
 }
 
 module.exports = { stamp };

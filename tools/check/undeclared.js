@@ -38,7 +38,7 @@ function* undeclared(answers, { env, globals }) {
   if (found.length === 0) {
     return;
   }
-  const sets = knownSets(env, new Set(found.map(({ name }) => name)));
+  const sets = knownSets(env, new Set(found.map(({ name }) => name)), answers.tree.head.goal);
   const isKnown = (name) => globals.get(name) ?? sets.some((set) => set.has(name));
   for (const { id, name, span } of found) {
     if (!isKnown(name) && !isUnderTypeof(answers, span) && !isType(answers, id)) {

@@ -101,7 +101,8 @@ function hasJsx({ tree }) {
 }
 
 function isToldImport(symbol, answers) {
-  return symbol.name !== jsxFactory(answers.text) || !answers.kept('jsx', () => hasJsx(answers));
+  const factory = answers.kept('factory', () => jsxFactory(answers.text));
+  return symbol.name !== factory || !answers.kept('jsx', () => hasJsx(answers));
 }
 
 // Whether a symbol of this kind is told.

@@ -51,7 +51,9 @@ function checkedTree({ source, text, changes, before, wanted, options }) {
   const node = firstDifference(wanted.rows, tree.rows);
   if (node >= 0) {
     const row = before.rows[node];
-    throw new EditFault('the changed text would have another meaning to the parser', { start: row[START], end: row[END] });
+    const found = tree.rows[node];
+    const kind = found === undefined || found[KIND] === row[KIND] ? '' : `: as ${found[KIND]}, no ${row[KIND]}`;
+    throw new EditFault(`the changed text would be read otherwise here${kind}`, { start: row[START], end: row[END] });
   }
   if (tree.goal !== before.goal || tree.comments.length !== before.comments.length) {
     throw new EditFault('the changed text would be of another kind');

@@ -41,7 +41,7 @@ function renamedBack(analysis, symbol, name, done) {
   if (back.refused !== undefined) {
     return `not renamed back: ${back.refused.message}`;
   }
-  const isPlain = done.edits.every(({ text }) => text === name);
+  const isPlain = done.edits.every(({ old, text }) => text === name && old === symbol.name);
   return isPlain && back.done.text !== analysis.source ? 'renaming back gives another text' : null;
 }
 

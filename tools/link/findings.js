@@ -14,7 +14,7 @@ const fs = require('fs');
 const path = require('path');
 const { isRelative } = require('./kinds.js');
 const { nearest } = require('./near.js');
-const { differingWays, exportedNames, followed, reached, ringFrom } = require('./ways.js');
+const { differingWays, exportedNames, firstSteps, followers, importOf, ringFrom, unknownness } = require('./ways.js');
 
 // A module's name in a message: a path that begins with a dot, or with the root.
 function named(module) {
@@ -23,9 +23,20 @@ function named(module) {
 
 const meant = (near) => (near === undefined ? '' : ` (did you mean '${near}'?)`);
 
+// So many names are collected at most, and the ways of so many ambiguous names are told, so that hostile input costs no more
+// than it is long.
+const MOST_NAMES = 2_000_000;
+const MOST_AMBIGUOUS = 200;
+
+// The names of which one may be meant: also those that come by stars, as long as there aren't too many of them.
 function namesOf(context, module) {
+  if (context.collected > MOST_NAMES) {
+    return new Set(module.outline.exports.keys());
+  }
   if (!context.names.has(module)) {
-    context.names.set(module, exportedNames(module));
+    const names = exportedNames(module);
+    context.collected += names.size;
+    context.names.set(module, names);
   }
   return context.names.get(module);
 }
@@ -39,7 +50,10 @@ function stepMessage({ to, name, isStar }) {
   return isStar ? `all names of ${source} are passed on here` : `'${name}' is '${to.name}' of ${source}`;
 }
 
-const steps = (way) => way.map((step) => ({ module: step.module, span: step.span, message: stepMessage(step) }));
+// How many steps of a way are told.
+const MOST_STEPS = 10;
+
+const steps = (way) => way.slice(0, MOST_STEPS).map((step) => ({ module: step.module, span: step.span, message: stepMessage(step) }));
 
 // What to say of a name that a module lacks.
 function lackOf(context, { module, name }, local) {
@@ -52,30 +66,37 @@ function lackOf(context, { module, name }, local) {
   }
   const names = namesOf(context, module);
   if (name === 'default') {
-    const braces = names.has(local) ? ` (did you mean '{ ${local} }'?)` : '';
-    return `${named(module)} has no default export${braces}`;
+    return `${named(module)} has no default export${names.has(local) ? meant(`{ ${local} }`) : ''}`;
   }
   const near = context.nearest(name, names);
-  const only = near === undefined && names.size === 1 && names.has('default') ? ': it has a default export only' : meant(near);
-  return `'${name}' is not exported by ${named(module)}${only}`;
+  const isDefaultOnly = near === undefined && names.size === 1 && names.has('default');
+  return `'${name}' is not exported by ${named(module)}${isDefaultOnly ? ': it has a default export only' : meant(near)}`;
 }
 
 function missing(context, from, { local }) {
-  const { last, steps: way } = followed(from);
+  const last = context.lastOf(from);
+  const way = firstSteps(from, MOST_STEPS);
   return { rule: 'missing-export', message: lackOf(context, last, way.length === 0 ? local : undefined), related: steps(way) };
 }
 
 // Where the ring is one of `export *` alone, none of its modules names what is wanted: they don't export it.
 function circular(context, from, wanted) {
-  const way = ringFrom(from);
-  if (way.every(({ isStar }) => isStar)) {
+  const { way, at, isOfStars } = ringFrom(from, context.rings);
+  if (isOfStars) {
     return missing(context, from, wanted);
   }
-  return { rule: 'circular-export', message: `'${from.name}' leads only to itself`, related: steps(way) };
+  const shown = way.slice(at, at + MOST_STEPS);
+  const round = [...shown, ...way.slice(0, Math.min(at, MOST_STEPS - shown.length))];
+  const length = way.length > MOST_STEPS ? `, round ${way.length} exports` : '';
+  return { rule: 'circular-export', message: `'${from.name}' leads only to itself${length}`, related: steps(round) };
 }
 
 function ambiguous(context, from) {
-  const ways = differingWays(from);
+  context.ambiguous += 1;
+  const ways = context.ambiguous > MOST_AMBIGUOUS ? [] : differingWays(from);
+  if (ways.length === 0) {
+    return { rule: 'ambiguous-export', message: `'${from.name}' is ambiguous: several modules export it`, related: [] };
+  }
   const ends = ways.map((way) => named(way[way.length - 1].module));
   const message = `'${from.name}' is ambiguous: ${ends.join(' and ')} both export it`;
   return { rule: 'ambiguous-export', message, related: ways.flatMap(steps) };
@@ -85,7 +106,7 @@ const FAULTS = { missing, ring: circular, ambiguous };
 
 // The finding on a name that is wanted of a module. There is none where a module of which nothing is known may export it.
 function nameFinding(context, { module, span, from, local, word }) {
-  if (word !== 'ambiguous' && reached(from).unknown.length > 0) {
+  if (word !== 'ambiguous' && context.mayBeUnknown(from)) {
     context.notes.push({ kind: 'unknown', module, span, name: from.name });
     return [];
   }
@@ -103,15 +124,13 @@ function importFindings(context, imports) {
 
 // An export that leads nowhere is told where it stands; one of a name that the module imports was told at the import.
 function exportFindings(context, exports) {
-  const own = exports.filter(hasFault).filter(({ module, entry }) => entry.what === 'passed' || module.outline.declared.has(entry.local) || !isImported(module, entry));
-  return own.flatMap(({ module, entry, outcome }) => {
+  const isOwn = ({ module, entry }) => entry.what === 'passed' || importOf(module, entry.local) === undefined;
+  return exports.filter(hasFault).filter(isOwn).flatMap(({ module, entry, outcome }) => {
     const to = entry.specifier === null ? null : entry.specifier.to.module;
     const from = to === null ? { module, name: entry.name } : { module: to, name: entry.local };
     return nameFinding(context, { module, span: entry.span, from, local: undefined, word: outcome.word });
   });
 }
-
-const isImported = (module, entry) => module.outline.imports.some((one) => one.local === entry.local);
 
 const ENDING = /(?:\.d)?\.[a-z]+$/i;
 const stemOf = (file) => file.replace(ENDING, '');
@@ -125,7 +144,8 @@ function nearFile(context, wanted, files) {
   if (same !== undefined) {
     return same;
   }
-  const near = context.nearest(stem, files.filter((file) => ending === '' || endingOf(file) === ending).map(stemOf));
+  const others = files.filter((file) => ending === '' || endingOf(file) === ending);
+  const near = context.nearest(stem, others.map(stemOf));
   return near === undefined ? undefined : `${near}${ending}`;
 }
 
@@ -136,7 +156,7 @@ function nearPath(context, module, text) {
     context.folders.set(folder, listed(folder));
   }
   const near = text.endsWith(wanted) ? nearFile(context, wanted, context.folders.get(folder)) : undefined;
-  return near === undefined ? undefined : `${text.slice(0, text.length - wanted.length)}${near}`;
+  return near === undefined ? undefined : text.slice(0, text.length - wanted.length) + near;
 }
 
 function listed(folder) {
@@ -147,21 +167,29 @@ function listed(folder) {
   }
 }
 
+// What is wrong with where a specifier leads: {rule, message}, or null.
+function specifierFault(context, module, { to, text }) {
+  if (to.nowhere !== undefined) {
+    const near = isRelative(text) ? nearPath(context, module, text) : undefined;
+    return { rule: 'unresolved-import', message: `${to.nowhere}${meant(near)}` };
+  }
+  if (to.why === 'absent') {
+    return context.strict ? { rule: 'uninstalled-package', message: `'${text}' is not installed` } : null;
+  }
+  if (to.module !== undefined && to.module.kind === 'unreadable' && !to.module.isPackaged) {
+    return { rule: 'unreadable-module', message: `'${text}' leads to ${named(to.module)}: ${to.module.refusal.message}` };
+  }
+  return null;
+}
+
 function specifierFindings(context, module) {
   return module.specifiers.flatMap((specifier) => {
     const { to, span, text } = specifier;
-    if (to.nowhere !== undefined) {
-      const near = isRelative(text) ? nearPath(context, module, text) : undefined;
-      return [{ rule: 'unresolved-import', module, span, message: `${to.nowhere}${meant(near)}`, related: [] }];
-    }
     if (to.why === 'absent') {
       context.notes.push({ kind: 'absent', module, span, name: text });
-      return context.strict ? [{ rule: 'uninstalled-package', module, span, message: `'${text}' is not installed`, related: [] }] : [];
     }
-    if (to.module !== undefined && to.module.kind === 'unreadable') {
-      return [{ rule: 'unreadable-module', module, span, message: `'${text}' leads to ${named(to.module)}: ${to.module.refusal.message}`, related: [] }];
-    }
-    return [];
+    const fault = specifierFault(context, module, specifier);
+    return fault === null ? [] : [{ ...fault, module, span, related: [] }];
   });
 }
 
@@ -171,17 +199,18 @@ function spanAt(module, index) {
   return { start, end: start };
 }
 
+function duplicateFinding(module, { name, span, first }) {
+  const related = [{ module, span: first, message: 'it is exported here' }];
+  return { rule: 'duplicate-export', module, span, message: `'${name}' is exported twice`, related };
+}
+
 function moduleFindings(context, module) {
   if (module.kind === 'refused') {
-    return [{ rule: 'unparsable-module', module, span: spanAt(module, module.refusal.index), message: module.refusal.message, related: [] }];
+    const span = spanAt(module, module.refusal.index);
+    return [{ rule: 'unparsable-module', module, span, message: module.refusal.message, related: [] }];
   }
   const repeated = module.outline === null ? [] : module.outline.repeated;
-  return [
-    ...specifierFindings(context, module),
-    ...repeated.map(({ name, span, first }) => ({
-      rule: 'duplicate-export', module, span, message: `'${name}' is exported twice`, related: [{ module, span: first, message: 'it is exported here' }],
-    })),
-  ];
+  return [...specifierFindings(context, module), ...repeated.map((one) => duplicateFinding(module, one))];
 }
 
 function inOrder(a, b) {
@@ -191,7 +220,18 @@ function inOrder(a, b) {
 // All findings, and notes on what isn't known, in the order of modules and places. What stands in packages is told where
 // `packages` is set, and where an entry is a file of a package.
 function findingsOf({ modules, entries }, outcomes, { strict = false, packages = false }) {
-  const context = { strict, nearest: nearest(), names: new Map(), folders: new Map(), notes: [] };
+  const context = {
+    strict,
+    nearest: nearest(),
+    mayBeUnknown: unknownness(),
+    lastOf: followers(),
+    names: new Map(),
+    collected: 0,
+    ambiguous: 0,
+    rings: new Map(),
+    folders: new Map(),
+    notes: [],
+  };
   const tellsPackages = packages || entries.some((entry) => entry.isPackaged);
   const isTold = ({ module }) => tellsPackages || !module.isPackaged;
   const told = modules.filter((module) => isTold({ module }));

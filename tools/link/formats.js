@@ -28,7 +28,8 @@ function noteLines(notes) {
   const unknown = notes.filter(({ kind }) => kind === 'unknown');
   const lines = absent.length === 0 ? [] : [`not installed, so nothing is known of them: ${absent.join(', ')}`];
   if (unknown.length > 0) {
-    lines.push(`${counted(unknown.length, 'name')} may come by \`export *\` from modules of which nothing is known: ${listOf(unknown).join(', ')}`);
+    const names = listOf(unknown).join(', ');
+    lines.push(`${counted(unknown.length, 'name')} may come from modules of which nothing is known: ${names}`);
   }
   return lines;
 }
@@ -36,7 +37,8 @@ function noteLines(notes) {
 function pretty(linked) {
   const { set, outcomes, findings, notes } = linked;
   const linkedModules = set.modules.filter((module) => module.kind === 'module');
-  const sum = `${counted(linkedModules.length, 'module')}, ${counted(outcomes.imports.length, 'import')}, ${counted(findings.length, 'finding')}`;
+  const sums = [[linkedModules, 'module'], [outcomes.imports, 'import'], [findings, 'finding']];
+  const sum = sums.map(([list, word]) => counted(list.length, word)).join(', ');
   return [...findings.flatMap(prettyLines), ...noteLines(notes), sum];
 }
 

@@ -13,7 +13,7 @@ function endOf({ to, text }) {
 
 // The names that a module takes by each of its specifiers.
 function namesBySpecifier(module) {
-  const names = new Map(module.specifiers.map((specifier) => [specifier, WAYS[specifier.way] === undefined ? [] : [WAYS[specifier.way]]]));
+  const names = new Map(module.specifiers.map((specifier) => [specifier, [WAYS[specifier.way]].filter(Boolean)]));
   if (module.kind !== 'module') {
     return names;
   }
@@ -66,13 +66,16 @@ function dot({ nodes, edges }) {
     '  rankdir=LR;',
     '  node [shape=box];',
     ...nodes.map(({ name, isExternal }) => `  ${quoted(name)}${isExternal ? ' [style=dashed]' : ''};`),
-    ...edges.map(({ from, to, names, isExternal }) => `  ${quoted(from)} -> ${quoted(to)} [label=${quoted(label(names))}${isExternal ? ', style=dashed' : ''}];`),
+    ...edges.map(({ from, to, names, isExternal }) => {
+      const style = isExternal ? ', style=dashed' : '';
+      return `  ${quoted(from)} -> ${quoted(to)} [label=${quoted(label(names))}${style}];`;
+    }),
     '}',
   ];
 }
 
 // Characters that steer mermaid stand as their numbers.
-const escaped = (text) => `"${text.replace(/[^\w ./@,()*$-]/g, (sign) => `#${sign.codePointAt(0)};`)}"`;
+const escaped = (text) => `"${text.replace(/[^\w ./@,:()*$-]/g, (sign) => `#${sign.codePointAt(0)};`)}"`;
 
 function mermaid({ nodes, edges }) {
   const numbers = new Map(nodes.map(({ name }, place) => [name, `n${place}`]));

@@ -1,26 +1,5 @@
 'use strict';
 // Which imports of the modules that entries reach lead nowhere.
-//
-// For index.d.ts:
-//
-//   export interface LinkPlace {
-//     file: string; line: number; column: number; endLine: number; endColumn: number; span: { start: number; end: number } }
-//   export interface LinkRelated extends LinkPlace { message: string }
-//   export type LinkRule = 'unresolved-import' | 'uninstalled-package' | 'missing-export' | 'circular-export' |
-//     'ambiguous-export' | 'duplicate-export' | 'unreadable-module' | 'unparsable-module';
-//   export interface LinkFinding extends LinkRelated { rule: LinkRule; related: LinkRelated[] }
-//   export interface LinkNote extends LinkPlace { kind: 'absent' | 'unknown'; name: string }
-//   export interface LinkImport extends LinkPlace {
-//     name: string | null; local: string; specifier: string; outcome: string; target: string | null }
-//   export interface LinkSpecifier extends LinkPlace {
-//     text: string; way: 'import' | 'export' | 'dynamic' | 'require' | 'augment'; typed: boolean;
-//     file: string | null; external: string | null; nowhere: string | null }
-//   export interface LinkModule { file: string; kind: string; exports: string[]; specifiers: LinkSpecifier[] }
-//   export interface LinkFault { entry: string; message: string }
-//   export interface LinkOptions { cwd?: string; strict?: boolean; packages?: boolean }
-//   export interface LinkAnswer {
-//     modules: LinkModule[]; imports: LinkImport[]; findings: LinkFinding[]; notes: LinkNote[]; faults: LinkFault[] }
-//   export function link(entries: string[], options?: LinkOptions): LinkAnswer;
 
 const { outcomes } = require('./linker.js');
 const { findingsOf } = require('./findings.js');
@@ -28,7 +7,8 @@ const { moduleSet } = require('./set.js');
 
 // Of a file that isn't read the beginning is the place.
 function placeOf(module, span) {
-  const [from, to] = [span.start, span.end].map((byte) => (module.text === null ? { line: 1, column: 1 } : module.positions.placeOf(byte)));
+  const placed = (byte) => (module.text === null ? { line: 1, column: 1 } : module.positions.placeOf(byte));
+  const [from, to] = [placed(span.start), placed(span.end)];
   return { file: module.shown, line: from.line, column: from.column, endLine: to.line, endColumn: to.column, span };
 }
 
@@ -77,7 +57,8 @@ function moduleObject(module) {
 }
 
 function findingObject({ rule, module, span, message, related }) {
-  return { rule, ...placeOf(module, span), message, related: related.map((one) => ({ ...placeOf(one.module, one.span), message: one.message })) };
+  const others = related.map((one) => ({ ...placeOf(one.module, one.span), message: one.message }));
+  return { rule, ...placeOf(module, span), message, related: others };
 }
 
 function noteObject({ kind, module, span, name }) {

@@ -17,6 +17,9 @@ const FAILURES = new Map([
   [7, 'the linker wants more memory'],
 ]);
 
+// A text in ASCII, as a file's name may have halves of characters, which the linker takes none of; texts that differ stay so.
+const ascii = (text) => text.replace(/[^ -[\]-~]/g, (unit) => `\\u${unit.charCodeAt(0).toString(16)};`);
+
 // What a module is called in the set. Of what stands outside of it the linker takes no `export *`: that leads to a module
 // without exports, and what it may pass on is told apart later.
 function linkedName(specifier) {
@@ -27,7 +30,7 @@ function linkedName(specifier) {
   if (isStar) {
     return EMPTY;
   }
-  return `x:${to.module === undefined ? to.external || specifier.text : to.module.file}`;
+  return `x:${ascii(to.module === undefined ? to.external || specifier.text : to.module.file)}`;
 }
 
 function rowText([depth, role, kind, text, mark]) {
@@ -72,10 +75,12 @@ function askingRows(asked) {
   return rows;
 }
 
+const memberText = (name, rows) => Buffer.from(`{"name":${JSON.stringify(name)},"tree":${JSON.stringify(treeText(rows))}}`);
+
 function setText(linked, asked) {
-  const member = (name, rows) => Buffer.from(`{"name":${JSON.stringify(name)},"tree":${JSON.stringify(treeText(rows))}}`);
-  const members = linked.map((module) => member(`m${module.number}`, module.kind === 'module' ? module.outline.rows : DEFAULT_ONLY));
-  members.push(member(EMPTY, [ROOT]), member(ASKING, askingRows(asked)));
+  const rowsOf = (module) => (module.kind === 'module' ? module.outline.rows : DEFAULT_ONLY);
+  const members = linked.map((module) => memberText(`m${module.number}`, rowsOf(module)));
+  members.push(memberText(EMPTY, [ROOT]), memberText(ASKING, askingRows(asked)));
   const pieces = members.flatMap((one, place) => (place === 0 ? [one] : [Buffer.from(','), one]));
   return Buffer.concat([Buffer.from('{"modules":['), ...pieces, Buffer.from(']}')]);
 }
@@ -84,8 +89,8 @@ function setText(linked, asked) {
 function refusedSet(line, linked) {
   const found = /^link: (.*?)(\d+)(.*)$/.exec(line);
   const module = found === null ? undefined : linked[Number(found[2])];
-  const cause = line.replace(/^link: /, '');
-  return new RunFault(module === undefined ? `the linker refuses the set: ${cause}` : `the linker refuses ${module.shown}: ${cause}`);
+  const what = module === undefined ? 'the set' : module.shown;
+  return new RunFault(`the linker refuses ${what}: ${line.replace(/^link: /, '')}`);
 }
 
 // Lines `import MODULE NODE "NAME" OUTCOME ..`, in the order of modules and nodes.
@@ -93,8 +98,9 @@ function outcomesOf(stdout) {
   const lines = stdout.toString('utf8').split('\n');
   return lines.filter((line) => line.startsWith('import ')).map((line) => {
     const [, module, node] = line.split(' ', 3);
-    const [word, number] = line.slice(line.lastIndexOf('"') + 2).split(' ');
-    return { module: Number(module), node: Number(node), word, number: number === undefined ? null : Number(number) };
+    const [word, ...numbers] = line.slice(line.lastIndexOf('"') + 2).split(' ');
+    const [number = null, symbol = null] = numbers.map(Number);
+    return { module: Number(module), node: Number(node), word, number, symbol };
   });
 }
 
@@ -110,17 +116,27 @@ function run(linked, asked) {
   throw new RunFault(FAILURES.get(status) || `the linker ended with ${signal || status}: ${line}`);
 }
 
-// {imports: [{module, wanted, outcome}], exports: [{module, entry, outcome}]}; an outcome has `word` and `module`.
+function importsByNode(module) {
+  return new Map((module.outline === null ? [] : module.outline.imports).map((one) => [one.node, one]));
+}
+
+// {imports: [{module, wanted, outcome}], exports: [{module, entry, outcome}]}; an outcome has `word`, `module` and `symbol`,
+// which counts what the module's outline declares.
 function outcomes(modules) {
   const linked = modules.filter((module) => module.isLinked);
   const asked = leadingExports(modules);
-  const told = run(linked, asked).map(({ module, node, word, number }) => ({ at: module, node, outcome: { word, module: linked[number] || null } }));
-  const byNode = new Map(linked.map((module) => [module, new Map((module.outline === null ? [] : module.outline.imports).map((one) => [one.node, one]))]));
-  const own = told.filter(({ at }) => at < linked.length);
-  return {
-    imports: own.map(({ at, node, outcome }) => ({ module: linked[at], wanted: byNode.get(linked[at]).get(node), outcome })),
-    exports: told.slice(own.length).map(({ outcome }, place) => ({ ...asked[place], outcome })),
-  };
+  const byNode = linked.map(importsByNode);
+  const imports = [];
+  const exports = [];
+  for (const { module, node, word, number, symbol } of run(linked, asked)) {
+    const outcome = { word, module: linked[number] || null, symbol };
+    if (module < linked.length) {
+      imports.push({ module: linked[module], wanted: byNode[module].get(node), outcome });
+    } else {
+      exports.push({ ...asked[exports.length], outcome });
+    }
+  }
+  return { imports, exports };
 }
 
-module.exports = { outcomes };
+module.exports = { linkedName, outcomes };

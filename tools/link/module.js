@@ -6,11 +6,13 @@ const path = require('path');
 const { treeOf } = require('../source-to-tree/convert.js');
 const { readText } = require('../analyse/files.js');
 const { Positions } = require('../analyse/positions.js');
+const { Refusal } = require('../analyse/refusal.js');
+const { BOUNDS } = require('../analyse/tree.js');
 const { goalOfName, isDeclarations, isInPackage, isTyped, kindOf } = require('./kinds.js');
 const { outlineOf } = require('./outline.js');
 
-// A line that can begin an import or export statement, and the words without which a file is no module.
-const STATEMENT = /^[ \t]*(?:import|export)\b[ \t]*(?![ \t.(])/m;
+// Where an import or export statement may begin, and the words without which a file is no module.
+const STATEMENT = /(?:^|[;}]|\*\/)[ \t]*(?:import|export)\b[ \t]*(?![ \t.(:=,])/m;
 const WORD = /\b(?:import|export|await)\b/;
 
 // Which kinds stand in the linked set with what they export; of others nothing is known.
@@ -20,7 +22,7 @@ class SourceModule {
   constructor(file, shown) {
     this.file = file;
     this.shown = shown;
-    // `module`, `commonjs`, `script` (neither), `json`, `css`, `asset`, `refused` or `unreadable`
+    // `module`, `commonjs`, `script` (neither), `json`, `css`, `asset`, `refused` by a parser, or `unreadable`
     this.kind = kindOf(file);
     this.isPackaged = isInPackage(file);
     this.number = -1;
@@ -98,7 +100,8 @@ function refusalOf(error, module) {
   }
   const mark = module.text.startsWith('\ufeff') ? 1 : 0;
   const index = typeof error.offset === 'number' ? error.offset + mark : null;
-  return { message: error.message.replace(/\s*[\r\n]+\s*/g, ' '), index };
+  const message = BOUNDS[error.message] || error.message;
+  return { message: message.replace(/\s*[\r\n]+\s*/g, ' '), index };
 }
 
 function readContent(module, { type, keepTree }) {
@@ -112,19 +115,23 @@ function readContent(module, { type, keepTree }) {
     module.tree = keepTree ? json : null;
   } catch (error) {
     module.refusal = refusalOf(error, module);
-    module.kind = 'refused';
+    module.kind = module.refusal.index === null ? 'unreadable' : 'refused';
   }
 }
 
 const COMMON = /\b(?:module|exports|require|define)\b/;
 
-// What has none of the words is no module, unless its package or its name says so, and then it need not be parsed.
+// What the words of a file tell without a parser: one without any that a module has is none, unless its package or its name
+// says so, nor is one that names what CommonJS has and has no statement of a module.
 function kindByWords(module, type) {
   const goal = goalOfName(module.file);
-  if (type === 'module' || goal === 'module' || isTyped(module.file) || WORD.test(module.text)) {
+  if (type === 'module' || goal === 'module' || isTyped(module.file) || STATEMENT.test(module.text)) {
     return undefined;
   }
-  return goal === 'commonjs' || type === 'commonjs' || COMMON.test(module.text) ? 'commonjs' : 'script';
+  if (goal === 'commonjs' || type === 'commonjs' || COMMON.test(module.text)) {
+    return 'commonjs';
+  }
+  return WORD.test(module.text) ? undefined : 'script';
 }
 
 // Reads a file of source. An entry is always parsed.
@@ -132,7 +139,7 @@ function readModule(module, { typeOf, isEntry, keepTree }) {
   try {
     module.text = readText(module.file);
   } catch (error) {
-    if (error.constructor.name !== 'Refusal') {
+    if (!(error instanceof Refusal)) {
       throw error;
     }
     module.refusal = { message: error.message, index: null };

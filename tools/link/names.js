@@ -5,7 +5,8 @@
 const BINDING_ROLES = new Set(['id', 'declarators', 'properties', 'value', 'elements', 'rest', 'argument', 'left', 'pattern']);
 
 // What has names of its own below it.
-const CLOSED = new Set(['Function', 'ArrowFunctionExpression', 'Class', 'TSNamespaceDeclaration', 'TSGlobalDeclaration', 'TSExternalModuleDeclaration']);
+const CLOSED = new Set(['Function', 'ArrowFunctionExpression', 'Class', 'TSNamespaceDeclaration', 'TSGlobalDeclaration',
+  'TSExternalModuleDeclaration']);
 
 // The nodes that bind the names of a declaration, or of a pattern.
 function boundNames(rows, declaration) {

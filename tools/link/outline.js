@@ -127,7 +127,8 @@ function exportDeclared(outline, rows, names, typed) {
   for (const at of names) {
     const name = rows.text(at);
     outline.declared.add(name);
-    if (addExport(outline, typed, { name, span: rows.span(at), what: 'declared', local: name, specifier: null, declares: true })) {
+    const entry = { name, span: rows.span(at), what: 'declared', local: name, specifier: null, declares: true };
+    if (addExport(outline, typed, entry)) {
       emit(outline, 1, 'body', 'ExportDeclaration');
       emitVariable(outline, 2, 'declaration', name);
     }
@@ -137,7 +138,7 @@ function exportDeclared(outline, rows, names, typed) {
 // A function or class may have a name, which the default export then leads to.
 function emitDefault(outline, name) {
   emit(outline, 1, 'body', 'ExportDefaultDeclaration');
-  if (name === undefined) {
+  if (name === null) {
     outline.rows.push([2, 'declaration', 'NumericLiteral', '0', 'decimal']);
     return;
   }
@@ -147,7 +148,24 @@ function emitDefault(outline, name) {
   emit(outline, 3, 'body', 'FunctionBody');
 }
 
-const isNamedDefault = (rows, declaration) => ['Function', 'Class'].includes(rows.kind(declaration)) && rows.text(declaration) !== 'expression';
+const NAMED_DEFAULTS = new Set(['Function', 'Class']);
+
+function exportDefault(outline, rows, at, typed) {
+  const declaration = rows.child(at, 'declaration');
+  const declares = DECLARATIONS.has(rows.kind(declaration)) && rows.text(declaration) !== 'expression';
+  const [id] = declares ? boundNames(rows, declaration) : [];
+  const leadsToName = id !== undefined && NAMED_DEFAULTS.has(rows.kind(declaration));
+  const local = leadsToName ? rows.text(id) : null;
+  const isFirst = addExport(outline, typed, { name: 'default', span: rows.span(at), what: 'default', local, specifier: null, declares });
+  if (isFirst) {
+    emitDefault(outline, local);
+  }
+  if (isFirst && leadsToName) {
+    outline.declared.add(local);
+  } else if (id !== undefined) {
+    declare(outline, rows, [id]);
+  }
+}
 
 const STATEMENTS = {
   ImportDeclaration(outline, rows, at) {
@@ -196,20 +214,7 @@ const STATEMENTS = {
     exportDeclared(outline, rows, boundNames(rows, declaration), typed);
   },
   ExportDefaultDeclaration(outline, rows, at, typed) {
-    const declaration = rows.child(at, 'declaration');
-    const [name] = DECLARATIONS.has(rows.kind(declaration)) && rows.text(declaration) !== 'expression' ? boundNames(rows, declaration) : [];
-    const entry = { name: 'default', span: rows.span(at), what: 'default', local: null, specifier: null, declares: DECLARATIONS.has(rows.kind(declaration)) };
-    const isFirst = addExport(outline, typed, entry);
-    const named = name !== undefined && isNamedDefault(rows, declaration);
-    if (isFirst) {
-      emitDefault(outline, named ? rows.text(name) : undefined);
-    }
-    if (name !== undefined && !(isFirst && named)) {
-      declare(outline, rows, [name]);
-    } else if (named) {
-      outline.declared.add(rows.text(name));
-      entry.local = rows.text(name);
-    }
+    exportDefault(outline, rows, at, typed);
   },
   TSExportAssignment(outline) {
     outline.exportEquals = true;

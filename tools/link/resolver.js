@@ -15,7 +15,12 @@ const HELD = 600_000;
 const LANGUAGES = {
   js: {
     extensions: ['.js', '.mjs', '.cjs', '.jsx', '.ts', '.mts', '.cts', '.tsx', '.json'],
-    extensionAlias: { '.js': ['.js', '.ts', '.tsx', '.jsx'], '.mjs': ['.mjs', '.mts'], '.cjs': ['.cjs', '.cts'], '.jsx': ['.jsx', '.tsx'] },
+    extensionAlias: {
+      '.js': ['.js', '.ts', '.tsx', '.jsx'],
+      '.mjs': ['.mjs', '.mts'],
+      '.cjs': ['.cjs', '.cts'],
+      '.jsx': ['.jsx', '.tsx'],
+    },
     mainFields: ['module', 'main'],
     conditionNames: ['node'],
   },
@@ -53,7 +58,8 @@ function resolversOf() {
     if (!made.has(key)) {
       const settings = LANGUAGES[lang];
       const conditionNames = [...settings.conditionNames, ...condition];
-      made.set(key, createResolver({ ...settings, conditionNames, fileSystem, useSyncFileSystemCalls: true, modules: ['node_modules'] }));
+      const ours = { conditionNames, fileSystem, useSyncFileSystemCalls: true, modules: ['node_modules'] };
+      made.set(key, createResolver({ ...settings, ...ours }));
     }
     return made.get(key);
   };

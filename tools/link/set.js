@@ -25,7 +25,25 @@ function shownName(file, cwd) {
   return relative === '' || relative.startsWith('..') || path.isAbsolute(relative) ? file : relative;
 }
 
-// The file of an entry, or why there is none. A folder means what its package.json names, or its index file.
+// What a folder means: what its package.json exports or names as its main file, or its index file, or its declarations.
+function folderEntry(folder, resolver) {
+  const from = path.join(folder, 'package.json');
+  const own = packageName(from);
+  const asked = [...(own === null ? [] : [[from, own]]), [from, '.'], [path.join(folder, 'index.ts'), '.']];
+  const found = asked.map(([file, text]) => resolver.resolve(file, text, 'import'));
+  return found.find(({ file }) => file !== undefined && !path.relative(folder, file).startsWith('..'));
+}
+
+function packageName(file) {
+  try {
+    const { name, exports } = JSON.parse(fs.readFileSync(file, 'utf8'));
+    return typeof name === 'string' && exports !== undefined ? name : null;
+  } catch {
+    return null;
+  }
+}
+
+// The file of an entry, or why there is none.
 function entryFile(name, { cwd, resolver }) {
   const file = path.resolve(cwd, name);
   const stat = fs.statSync(file, { throwIfNoEntry: false });
@@ -35,8 +53,8 @@ function entryFile(name, { cwd, resolver }) {
   if (!stat.isDirectory()) {
     return kindOf(file) === 'source' ? { file: fs.realpathSync(file) } : { fault: 'no file of JavaScript or TypeScript' };
   }
-  const found = resolver.resolve(path.join(file, 'package.json'), '.', 'import');
-  return found.file === undefined ? { fault: 'a folder without a package.json that names an entry, and without an index file' } : found;
+  const none = { fault: 'a folder without a package.json that names an entry, and without an index file' };
+  return folderEntry(fs.realpathSync(file), resolver) || none;
 }
 
 function addModule(set, file) {

@@ -21,8 +21,9 @@ function matched(pattern, text) {
   if (pattern.exact) {
     return text === pattern.key ? '' : undefined;
   }
-  const fits = text.length >= pattern.before.length + pattern.behind.length && text.startsWith(pattern.before) && text.endsWith(pattern.behind);
-  return fits ? text.slice(pattern.before.length, text.length - pattern.behind.length) : undefined;
+  const { before, behind } = pattern;
+  const fits = text.length >= before.length + behind.length && text.startsWith(before) && text.endsWith(behind);
+  return fits ? text.slice(before.length, text.length - behind.length) : undefined;
 }
 
 // What the configuration says, with what it extends; TypeScript's own reader knows comments and `extends`.

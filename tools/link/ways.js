@@ -5,6 +5,8 @@
 // the export which leads on, and `to` is {module, name}, {end} or, where nothing is known, {unknown}. Each look is linear in
 // what it reaches.
 
+const { isDeclarations } = require('./kinds.js');
+
 const keyOf = ({ module, name }) => `${module.number} ${name}`;
 
 function importOf(module, local) {
@@ -44,6 +46,13 @@ const TARGETS = {
   default: (module, entry) => [{ end: entry.local === null ? `default of ${module.number}` : `${module.number} ${entry.local}` }],
 };
 
+// What else may export a name: other modules add to it, and for declarations of a package without a default export TypeScript
+// may make one, by its settings.
+function unknownOf(module, name) {
+  const made = name === 'default' && isDeclarations(module.file) ? ['a default export that TypeScript makes'] : [];
+  return module.isAugmented ? ['a module that adds to it', ...made] : made;
+}
+
 const BEGINNING = { start: 0, end: 0 };
 
 // The steps from a name that a module exports.
@@ -56,16 +65,17 @@ function stepsFrom({ module, name }) {
   if (entry !== undefined) {
     return TARGETS[entry.what](module, entry).map((to) => step(to, entry.span));
   }
-  const added = module.isAugmented ? [step({ unknown: 'a module that adds to it' }, BEGINNING)] : [];
+  const unknown = unknownOf(module, name).map((what) => step({ unknown: what }, BEGINNING));
   const stars = name === 'default' ? [] : module.outline.stars;
-  return [...added, ...stars.map((star) => step(wantedOf(star.specifier, name), star.span, true))];
+  return [...unknown, ...stars.map((star) => step(wantedOf(star.specifier, name), star.span, true))];
 }
 
-// All that a name reaches, nearest first: {names, ends, unknown}. Each has `before`, by which the way there is found.
-function reached(from) {
-  const names = [{ ...from, before: null }];
+// All that a name reaches, nearest first: {ends, unknown}. Each has `before`, by which the way there is found. Names that
+// are `closed` aren't gone on from.
+function reached(from, closed = new Set()) {
+  const names = closed.has(keyOf(from)) ? [] : [{ ...from, before: null }];
   const seen = new Set([keyOf(from)]);
-  const found = { names, ends: [], unknown: [] };
+  const found = { seen, ends: [], unknown: [] };
   for (let at = 0; at < names.length; at += 1) {
     for (const step of stepsFrom(names[at])) {
       const { to } = step;
@@ -74,13 +84,26 @@ function reached(from) {
         found.ends.push(next);
       } else if (to.unknown !== undefined) {
         found.unknown.push(next);
-      } else if (!seen.has(keyOf(to))) {
+      } else if (!seen.has(keyOf(to)) && !closed.has(keyOf(to))) {
         seen.add(keyOf(to));
         names.push(next);
       }
     }
   }
   return found;
+}
+
+// Makes a function that says whether a name may come from where nothing is known. What it looked at once it doesn't look at again.
+function unknownness() {
+  const closed = new Set();
+  return function mayBeUnknown(from) {
+    const { seen, unknown } = reached(from, closed);
+    if (unknown.length > 0) {
+      return true;
+    }
+    seen.forEach((key) => closed.add(key));
+    return false;
+  };
 }
 
 // The steps of the way to what was reached.
@@ -100,13 +123,17 @@ function differingWays(from) {
   return other === undefined ? [] : [wayTo(all[0]), wayTo(other)];
 }
 
-// Goes on from a name, one open name after the other, and gives the way at the first name that comes again.
-function ringFrom(from) {
+// Goes on from a name, one open name after the other, to the first name that comes again, and gives the way round. What is
+// known of other rings ends the walk: `rings` has, by name, the way round on which it stands and its place there.
+function ringFrom(from, rings) {
   const path = [{ name: from, steps: stepsFrom(from), at: 0 }];
   const open = new Map([[keyOf(from), 0]]);
   const done = new Set();
   while (path.length > 0) {
     const top = path[path.length - 1];
+    if (rings.has(keyOf(top.name))) {
+      return rings.get(keyOf(top.name));
+    }
     const step = top.steps[top.at];
     top.at += 1;
     if (step === undefined) {
@@ -114,30 +141,56 @@ function ringFrom(from) {
       open.delete(keyOf(top.name));
       done.add(keyOf(top.name));
     } else if (step.to.module !== undefined && open.has(keyOf(step.to))) {
-      return path.map((one) => one.steps[one.at - 1]).slice(open.get(keyOf(step.to)));
+      return noteRing(path.slice(open.get(keyOf(step.to))), rings);
     } else if (step.to.module !== undefined && !done.has(keyOf(step.to))) {
       open.set(keyOf(step.to), path.length);
       path.push({ name: step.to, steps: stepsFrom(step.to), at: 0 });
     }
   }
-  return [];
+  return { way: [], at: 0, isOfStars: true };
 }
 
-// Follows a name as long as exports that stand in modules pass it on: the last name, and the steps to it.
-function followed(from) {
-  const steps = [];
-  const seen = new Set();
-  let at = from;
-  while (!seen.has(keyOf(at))) {
-    seen.add(keyOf(at));
-    const [step] = stepsFrom(at);
-    if (step === undefined || step.isStar || step.to.module === undefined) {
-      break;
+function noteRing(path, rings) {
+  const way = path.map((one) => one.steps[one.at - 1]);
+  const isOfStars = way.every(({ isStar }) => isStar);
+  path.forEach((one, at) => rings.set(keyOf(one.name), { way, at, isOfStars }));
+  return { way, at: 0, isOfStars };
+}
+
+// The next name, where an export that stands in a module passes a name on.
+function passedOn(from) {
+  const [step] = stepsFrom(from);
+  return step === undefined || step.isStar || step.to.module === undefined ? null : step;
+}
+
+// Makes a function that follows a name as long as exports that stand in modules pass it on, and gives the last name. Where it
+// went once it doesn't go again.
+function followers() {
+  const lasts = new Map();
+  return function lastOf(from) {
+    const seen = new Set();
+    let at = from;
+    let step = passedOn(at);
+    while (step !== null && !seen.has(keyOf(at)) && !lasts.has(keyOf(at))) {
+      seen.add(keyOf(at));
+      at = step.to;
+      step = passedOn(at);
     }
+    const last = lasts.get(keyOf(at)) || at;
+    seen.forEach((key) => lasts.set(key, last));
+    return last;
+  };
+}
+
+// So many first steps by which exports pass a name on.
+function firstSteps(from, most) {
+  const steps = [];
+  let step = passedOn(from);
+  while (step !== null && steps.length < most) {
     steps.push(step);
-    at = step.to;
+    step = passedOn(step.to);
   }
-  return { last: at, steps };
+  return steps;
 }
 
 // The names that a module exports, with those that it passes on from others by `export *`.
@@ -165,4 +218,4 @@ function exportedNames(module) {
   return names;
 }
 
-module.exports = { differingWays, exportedNames, followed, reached, ringFrom };
+module.exports = { differingWays, exportedNames, firstSteps, followers, importOf, ringFrom, unknownness };

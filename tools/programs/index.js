@@ -1,6 +1,7 @@
 'use strict';
 // The programs of the crates: where they stand, and how one is run on a tree.
 
+const fs = require('fs');
 const path = require('path');
 const { spawnSync } = require('child_process');
 const { RunFault } = require('../bolgwyr/faults.js');
@@ -13,12 +14,87 @@ const TOOLS = {
   module_linker: { crate: 'tools_main', words: ['module_linker'] },
 };
 
-// The program of a crate: that of the folder BOLGWYR_PROGRAMS where it is set, else the repository's own.
-function programPath(crate) {
-  if (process.env.BOLGWYR_PROGRAMS) {
-    return path.resolve(process.env.BOLGWYR_PROGRAMS, crate);
+const CRATES = ['report_main', 'tools_main'];
+
+// The programs of an installed copy stand here, with a file that notes how each was made. It has no crates.
+const INSTALLED = path.join(__dirname, '..', '..', 'programs');
+const STATES = path.join(INSTALLED, 'states');
+const isInstalled = () => fs.existsSync(INSTALLED);
+
+// The report program that is to run in the place of the repository's own.
+const GIVEN = { report_main: 'BOLGWYR_REPORT' };
+
+// Where the program of each crate stands that was asked for, by its crate. A run of this process keeps to it.
+const places = new Map();
+
+// What ready.sh says of a crate: how its program was made, and where it stands. It is told by the state `none` where it isn't built.
+function readyOf(crate) {
+  const given = process.env[GIVEN[crate]];
+  if (given) {
+    return { state: 'given', place: given.includes('/') ? path.resolve(given) : given };
   }
-  return path.join(__dirname, '..', '..', 'crates', crate, 'out', crate);
+  const run = spawnSync(path.join(__dirname, 'ready.sh'), [crate], { encoding: 'utf8', stdio: ['ignore', 'pipe', 'inherit'] });
+  if (run.status !== 0) {
+    throw new RunFault(`${crate}: ${run.error ? run.error.message : 'its state can\'t be told'}`);
+  }
+  return readyIn(run.stdout.trim());
+}
+
+function readyIn(line) {
+  const end = line.indexOf(' ');
+  return end === -1 ? { state: line, place: null } : { state: line.slice(0, end), place: path.resolve(line.slice(end + 1)) };
+}
+
+// Builds programs side by side. What is built, and how far it is, is told on standard error.
+function build(crates) {
+  const lines = runPython('build.py', crates, `${crates.join(' and ')} can't be built`).trim().split('\n');
+  lines.forEach((line, at) => places.set(crates[at], readyIn(line).place));
+}
+
+// What a script of this folder prints. It ends with this process, and this process ends as it does where that is by a signal.
+function runPython(script, crates, fault) {
+  const words = [path.join(__dirname, script), '--with-parent', ...crates];
+  const { error, signal, status, stdout } = spawnSync('python3', words, { encoding: 'utf8', stdio: ['ignore', 'pipe', 'inherit'] });
+  if (error) {
+    throw new RunFault(`Python is wanted to build and prove: ${error.message}`);
+  }
+  if (signal) {
+    process.kill(process.pid, signal);
+  }
+  if (status !== 0) {
+    throw new RunFault(fault);
+  }
+  return stdout;
+}
+
+// Proves the programs of some crates and builds the proved ones. How far it is, is told on standard error.
+function prove(crates) {
+  if (isInstalled()) {
+    throw new RunFault('an installed copy has no crates to prove: bolgwyr --version tells whether its programs are proved');
+  }
+  runPython('prove.py', crates, `not proved: ${crates.join(' and ')}`);
+}
+
+// Has the programs of some crates stand ready, and builds those that don't, side by side.
+function prepare(crates) {
+  const asked = crates.filter((crate) => !places.has(crate));
+  for (const crate of asked) {
+    const { place } = readyOf(crate);
+    if (place !== null) {
+      places.set(crate, place);
+    }
+  }
+  const lacking = asked.filter((crate) => !places.has(crate));
+  if (lacking.length > 0) {
+    build(lacking);
+  }
+}
+
+// The program of a crate, which is built first if need be: that of the folder BOLGWYR_PROGRAMS where it is set (BOLGWYR_REPORT names the
+// report program itself), else the proved one of the sources as they stand, else one built from them without a proof.
+function programPath(crate) {
+  prepare([crate]);
+  return places.get(crate);
 }
 
 // Runs a tool with words and standard input, and gives its status, standard output as bytes and standard error as text.
@@ -32,4 +108,4 @@ function runTool(tool, words, input) {
   return { status: run.status, signal: run.signal, stdout: run.stdout, stderr: run.stderr.toString('utf8') };
 }
 
-module.exports = { TOOLS, programPath, runTool };
+module.exports = { CRATES, STATES, TOOLS, isInstalled, prepare, programPath, prove, readyOf, runTool };

@@ -1,7 +1,7 @@
 'use strict';
 // The unified diff of two texts with the same lines but for what stands in them.
 
-const { load } = require('../source-to-tree/load.js');
+const { paints } = require('../bolgwyr/colour.js');
 const { visible } = require('../analyse/visible.js');
 
 const CONTEXT = 3;
@@ -75,15 +75,14 @@ function diffLines(file, textBefore, textAfter) {
   return [`--- ${fileWord(file)}`, `+++ ${fileWord(file)}`, ...groups.flatMap((group) => hunkOf(before, after, group))];
 }
 
-const COLOURS = [[/^(?:---|\+\+\+) /, 'bold'], [/^@@/, 'cyan'], [/^-/, 'red'], [/^\+/, 'green']];
+const COLOURS = [[/^(?:---|\+\+\+) /, 'place'], [/^@@/, 'quiet'], [/^-/, 'error'], [/^\+/, 'good']];
 
-// The same lines for a terminal.
+// The same lines for a terminal. Names of files stand in the first two.
 function coloured(lines) {
-  const { Instance } = load('chalk');
-  const chalk = new Instance({ level: 1 });
+  const paint = paints(true);
   return lines.map((line, at) => {
     const found = COLOURS.find(([start], place) => start.test(line) && (place > 0 || at < 2));
-    return found === undefined ? visible(line) : chalk[found[1]](visible(line));
+    return found === undefined ? visible(line) : paint[found[1]](visible(line));
   });
 }
 

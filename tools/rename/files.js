@@ -11,7 +11,7 @@ function textOf(file) {
   try {
     return readText(file);
   } catch (error) {
-    throw error.name === 'Error' && error.lineFor !== undefined ? new RunFault(error.lineFor(file)) : error;
+    throw error.lineFor !== undefined ? new RunFault(error.lineFor(file)) : error;
   }
 }
 
@@ -19,8 +19,11 @@ const WRITABLE = 0o222;
 
 // A file that nobody may write isn't replaced either, although its folder would allow that.
 function checkWritable(file) {
-  const { mode } = fs.statSync(file);
-  if ((mode & WRITABLE) === 0) {
+  const stat = fs.statSync(file, { throwIfNoEntry: false });
+  if (stat === undefined) {
+    throw new RunFault(`${printable(file)}: is gone: nothing is written`);
+  }
+  if ((stat.mode & WRITABLE) === 0) {
     throw new RunFault(`${printable(file)}: is read-only: nothing is written`);
   }
   try {
@@ -59,30 +62,38 @@ function writeBeside({ file, after }) {
   return { target, beside };
 }
 
+function takeAway(written) {
+  written.forEach(({ beside }) => fs.rmSync(beside, { force: true }));
+}
+
 function writeAllBeside(changes) {
   const written = [];
   try {
-    for (const change of changes) {
-      written.push(writeBeside(change));
-    }
+    changes.forEach((change) => written.push(writeBeside(change)));
+    changes.forEach(checkUnchanged);
   } catch (error) {
-    written.forEach(({ beside }) => fs.unlinkSync(beside));
-    throw new RunFault(`nothing is written: ${error.message}`);
+    takeAway(written);
+    throw error instanceof RunFault ? error : new RunFault(`nothing is written: ${error.message}`);
   }
   return written;
+}
+
+// Puts what was written in the place of the files. A fault here leaves those behind it as they were.
+function replaceAll(written) {
+  written.forEach(({ target, beside }, at) => {
+    try {
+      fs.renameSync(beside, target);
+    } catch (error) {
+      takeAway(written.slice(at));
+      throw new RunFault(`${at} of ${written.length} files are written, then: ${error.message}`);
+    }
+  });
 }
 
 // Writes the files, each `{ file, before, after }`: none of them where one has changed meanwhile or can't be written.
 function writeFiles(changes) {
   changes.forEach(({ file }) => checkWritable(file));
-  const written = writeAllBeside(changes);
-  try {
-    changes.forEach(checkUnchanged);
-  } catch (error) {
-    written.forEach(({ beside }) => fs.unlinkSync(beside));
-    throw error;
-  }
-  written.forEach(({ target, beside }) => fs.renameSync(beside, target));
+  replaceAll(writeAllBeside(changes));
 }
 
 module.exports = { textOf, writeFiles };

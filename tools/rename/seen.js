@@ -133,11 +133,18 @@ function factories(analysis) {
 
 const hasJsx = ({ rows }) => rows.some((row) => row[KIND] === 'JSXElement' || row[KIND] === 'JSXFragment');
 
+const COMMON = new Set(['module', 'exports', 'require']);
+
+// Whether the symbol is a property of the global object, or seen by other scripts: not in modules of CommonJS.
+function isGlobal({ tree, report, options }, symbol) {
+  const isTop = tree.goal === 'script' && report.scopes[symbol.scope].parent === null;
+  return isTop && !/\.c[jt]s$/i.test(options.filename) && !report.free.some(({ name }) => COMMON.has(name));
+}
+
 // What a renaming may change that no table knows, each in one line.
 function warningsFor(analysis, symbol, name) {
-  const { tree, report } = analysis;
   const warnings = [];
-  if (tree.goal === 'script' && report.scopes[symbol.scope].parent === null) {
+  if (isGlobal(analysis, symbol)) {
     warnings.push(`\`${symbol.name}\` is a name of a script's top level: other scripts of a page may use it`);
   }
   if ([symbol.name, name].some((each) => factories(analysis).has(each)) && hasJsx(analysis)) {

@@ -12,7 +12,9 @@ const { inWords } = require('./meets.js');
 const { placeKind } = require('./place-kind.js');
 const { RenameRefusal } = require('./refusal.js');
 const { seenByOthers, warningsFor } = require('./seen.js');
+const { withSpecifiers } = require('./specifiers.js');
 const { tangledNames } = require('./tangled.js');
+const { unexported } = require('./unexported.js');
 const { writtenOut } = require('./written-out.js');
 
 const REFUSED = 8;
@@ -81,33 +83,69 @@ function refuseNewErrors(analysis, renamed, placeBefore) {
   throw new RenameRefusal(`${message}: ${diagnostic.message}`, start === null ? null : { start, end: start });
 }
 
+function refuseTangledAfter(renamed, name, placeBefore) {
+  const tangled = tangledNames(renamed.tree, renamed.report).get(name);
+  if (tangled !== undefined) {
+    const start = placeBefore(tangled.span.start);
+    throw new RenameRefusal(`\`${name}\` couldn't be followed: ${tangled.reason}`, { start, end: start });
+  }
+}
+
+// The tree that the renamed text must have. Where the symbol is exported by its declaration, its export gets the name, too.
+function wantedTree(analysis, symbol, name, { isExported, specifiers }) {
+  if (symbol === null) {
+    return { ...analysis.tree, rows: withSpecifiers(analysis.rows, specifiers, name) };
+  }
+  const apart = isExported ? unexported(analysis, symbol) : null;
+  const rows = apart === null
+    ? provedTree(analysis, symbol, name).rows
+    : apart.back(provedTree(apart.analysis, apart.analysis.report.symbols[symbol.id], name));
+  return { ...analysis.tree, rows: withSpecifiers(rows, specifiers, name) };
+}
+
+function renamedText(analysis, wanted, name, { map }) {
+  const { text, edits, map: sourceMap, placeBefore, tree, json } = changedText(analysis, wanted, map);
+  const renamed = withTables({ options: analysis.options, source: text, positions: new Positions(text), json, tree });
+  refuseNewErrors(analysis, renamed, placeBefore);
+  refuseTangledAfter(renamed, name, placeBefore);
+  return { text, edits, map: sourceMap, placeBefore, renamed };
+}
+
 // A tangled name is refused before and after: the tables of either text may part from the language at it.
-function renameUnplaced(given, { id }, name, { map }) {
+function renameUnplaced(given, { id }, name, options) {
   const symbolGiven = given.report.symbols[id];
   refuseReserved(given, symbolGiven, name);
   refuseTangled(given, symbolGiven.name);
   refuseSeen(given, symbolGiven);
   const analysis = writtenOut(given, symbolGiven);
   const symbol = analysis.report.symbols[id];
-  const tree = provedTree(analysis, symbol, name);
-  const { text, edits, map: sourceMap, placeBefore, tree: newTree, json } = changedText(analysis, tree, map);
-  const renamed = withTables({ options: analysis.options, source: text, positions: new Positions(text), json, tree: newTree });
-  refuseNewErrors(analysis, renamed, placeBefore);
-  const tangled = tangledNames(renamed.tree, renamed.report).get(name);
-  if (tangled !== undefined) {
-    const start = placeBefore(tangled.span.start);
-    throw new RenameRefusal(`\`${name}\` couldn't be followed: ${tangled.reason}`, { start, end: start });
-  }
-  return { text, edits, map: sourceMap, placeBefore, renamed, warnings: warningsFor(analysis, symbol, name) };
+  const wanted = wantedTree(analysis, symbol, name, options);
+  return { ...renamedText(analysis, wanted, name, options), warnings: warningsFor(analysis, symbol, name) };
 }
 
-// The text in which the symbol has the name: `{ text, edits, map, warnings, .. }`, or a RenameRefusal that is placed in the source.
-function renameSymbol(analysis, symbol, name, options = {}) {
+const DEFAULTS = { map: false, isExported: false, specifiers: new Map() };
+
+function placing(analysis, run) {
   try {
-    return renameUnplaced(analysis, symbol, name, { map: false, ...options });
+    return run();
   } catch (error) {
     throw error instanceof RenameRefusal ? error.placedIn(analysis.positions) : error;
   }
 }
 
-module.exports = { renameSymbol };
+// The text in which the symbol has the name: `{ text, edits, map, warnings, .. }`, or a RenameRefusal that is placed in the source.
+// Options:
+//   map         asks for a source map
+//   isExported  its declaration is exported, and the export gets the name
+//   specifiers  names in specifiers that get the name, too (specifiers.js)
+function renameSymbol(analysis, symbol, name, options = {}) {
+  return placing(analysis, () => renameUnplaced(analysis, symbol, name, { ...DEFAULTS, ...options }));
+}
+
+// The same of names in specifiers alone.
+function renameSpecifiers(analysis, specifiers, name) {
+  const options = { ...DEFAULTS, specifiers };
+  return placing(analysis, () => ({ ...renamedText(analysis, wantedTree(analysis, null, name, options), name, options), warnings: [] }));
+}
+
+module.exports = { renameSpecifiers, renameSymbol };

@@ -149,7 +149,7 @@ function mergedNames({ rows, parents, ends, report }, note) {
   for (const { name } of report.symbols) {
     symbolsOf.set(name, (symbolsOf.get(name) || 0) + 1);
   }
-  for (const { scope, name } of owners.filter((owner) => blocks.get(owner.name) > 1)) {
+  for (const { scope } of owners.filter(({ name }) => blocks.get(name) > 1)) {
     for (const binding of scope.bindings) {
       if (symbolsOf.get(binding.name) > 1) {
         note(binding.name, 'merged', report.symbols[binding.symbol].span);

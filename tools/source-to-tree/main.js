@@ -5,8 +5,8 @@ const fs = require('fs');
 const { treeOf, Refusal } = require('./convert');
 const { readText } = require('./input');
 
-const USAGE = 'usage: main.js [--parser acorn|typescript|estree] [--goal script|module|commonjs] [--parsers FOLDER] [--source FILE] [--time] FILE';
-const CHOICES = { '--parser': ['acorn', 'typescript', 'estree'], '--goal': ['script', 'module', 'commonjs'], '--parsers': null, '--source': null };
+const USAGE = 'usage: main.js [--parser acorn|typescript|babel|estree] [--goal script|module|commonjs] [--parsers FOLDER] [--source FILE] [--time] FILE';
+const CHOICES = { '--parser': ['acorn', 'typescript', 'babel', 'estree'], '--goal': ['script', 'module', 'commonjs'], '--parsers': null, '--source': null };
 
 function optionsOf(words) {
   const options = { time: false };

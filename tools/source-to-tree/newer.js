@@ -6,6 +6,7 @@ const { Refusal } = require('./refusal');
 const REACH = 200; // how far round the place the words are read
 
 const NAME = '[\\p{ID_Start}$_\\\\]';
+const BABEL = ['@babel/parser', '@babel/standalone'];
 const SPACE = '[ \\t]+'; // the words stand on one line
 const words = (pattern) => new RegExp(pattern, 'u');
 
@@ -19,11 +20,14 @@ const SYNTAX = [
   { what: '`accessor`', before: words('[^.]$'), from: words(`^accessor${SPACE}(?:${NAME}|["'#[\\d])`), by: ['typescript'] },
   { what: '`satisfies`', before: words(`[^.\\s]\\s*$`), from: words(`^satisfies\\s`), by: ['typescript'] },
   { what: '`satisfies`', before: words('(?:^|[^.])$'), from: words(`^[\\p{ID_Continue}$]+${SPACE}satisfies\\s`), by: ['typescript'] },
+  { what: 'this character in names', before: words(''), from: words('^#?(?![\\0-\\x7f])[\\p{ID_Start}\\p{ID_Continue}]') },
   { what: 'private names that begin with an escape', before: words(''), from: words('^#\\\\u'), by: ['typescript'] },
   { what: 'attributes of imports', before: words(`["']\\s*$`), from: words('^with\\s*\\{') },
   { what: 'attributes of imported types', before: words(`\\(\\s*["'][^"']*["']\\s*,\\s*\\{\\s*$`), from: words('^with\\s*:'), by: ['typescript'] },
   { what: '`const` type parameters', before: words('[<,]\\s*$'), from: words(`^const\\s+${NAME}`), by: ['typescript'] },
   { what: '`const` type parameters', before: words(`<\\s*const\\s+[\\p{ID_Continue}$]+\\s*$`), from: words('^'), by: ['typescript'] },
+  { what: 'attributes of imports', before: words(`["']\\s*with\\s*$`), from: words('^\\{'), by: BABEL },
+  { what: '`const` type parameters', before: words(`[<,]\\s*const\\s+$`), from: words(`^${NAME}`), by: BABEL },
   { what: 'decorators', before: words('(?:^|[^\\p{ID_Continue}$.])$'), from: words(`^@\\s*(?:${NAME}|\\()`), by: ['acorn'] },
   { what: 'decorators here', before: words(''), from: words(`^(?:export\\s+(?:default\\s+)?)?@\\s*(?:${NAME}|\\()`), by: ['typescript'] },
   { what: '`import source`', before: words(`(?:^|[^.\\p{ID_Continue}$#])import${SPACE}source${SPACE}$`), from: words(`^${NAME}`), none: true },
@@ -37,8 +41,9 @@ const HELP = { acorn: { decorators: "Babel's", '`accessor`': "Babel's" } };
 
 // The syntax at a place that is newer than the parser, else undefined.
 function syntaxAt(parser, text, offset) {
-  const before = text.slice(Math.max(0, offset - REACH), offset);
-  const from = text.slice(offset, offset + REACH);
+  const at = offset + /^[ \t]*/.exec(text.slice(offset, offset + REACH))[0].length; // some tell the end of what stands before
+  const before = text.slice(Math.max(0, at - REACH), at);
+  const from = text.slice(at, at + REACH);
   return SYNTAX.find((one) => (!one.by || one.by.includes(parser.name)) && one.from.test(from) && one.before.test(before));
 }
 

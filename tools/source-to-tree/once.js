@@ -21,13 +21,17 @@ function commentTexts(comments, offsets) {
   return comments.map(({ block, start, end }) => `[${offsets.at(start)},${offsets.at(end)},"${block ? 'block' : 'line'}"]`);
 }
 
+const HEAD = 128; // bytes of a tree before its rows, without the comments
+const COMMENT = 32; // bytes of a comment
+const roomFor = (comments) => HEAD + (comments === undefined ? 0 : COMMENT * comments.length);
+
 // JavaScript with elements is JSX.
 const languageIn = (lang, writer) => (lang === 'js' && writer.hasJsx ? 'jsx' : lang);
 
 // Null where the text was read as a script and is found to be a module.
 function write(way, parsed, { source, text, lang, goal }) {
   const offsets = new ByteOffsets(text, source.startsWith(MARK));
-  const writer = new TreeWriter(offsets, lang);
+  const writer = new TreeWriter(offsets, lang, roomFor(parsed.comments));
   writer.open('root', 'Program', 0, text.length);
   hashbang(writer, text);
   const comments = way.write(parsed, text, writer, new Annotations(text));
@@ -72,4 +76,4 @@ function convertOnce(source, options) {
   }
 }
 
-module.exports = { convertOnce, isOverflow };
+module.exports = { convertOnce, write, isOverflow };

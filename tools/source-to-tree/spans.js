@@ -4,35 +4,47 @@
 const { Refusal } = require('./refusal');
 
 const MARK_BYTES = 3;
+const BLOCK_BITS = 6; // the units of a block of the text are counted together
+const LONG = /[^\0-\x7f]/g;
 
-// The bytes of UTF-8 before each unit of the text, and after the last.
-function bytesBefore(text) {
-  const before = new Uint32Array(text.length + 1);
-  let bytes = 0;
-  for (let i = 0; i < text.length; i++) {
-    before[i] = bytes;
-    const unit = text.charCodeAt(i);
-    if (unit < 0x80) bytes += 1;
-    else if (unit < 0x800) bytes += 2;
-    else if (unit >= 0xd800 && unit <= 0xdfff) bytes += 2; // half of a character of four bytes
-    else bytes += 3;
+// The bytes that a unit has above one. Half of a character of four bytes has two.
+function bytesAbove(unit) {
+  if (unit < 0x80) return 0;
+  return unit < 0x800 || (unit >= 0xd800 && unit <= 0xdfff) ? 1 : 2;
+}
+
+// For each block of the text how many bytes more than units stand before it; the last entry is for the whole text.
+function blocksOf(text) {
+  const blocks = new Uint32Array((text.length >> BLOCK_BITS) + 2);
+  LONG.lastIndex = 0;
+  for (let found = LONG.exec(text); found !== null; found = LONG.exec(text)) {
+    blocks[(found.index >> BLOCK_BITS) + 1] += bytesAbove(text.charCodeAt(found.index));
   }
-  before[text.length] = bytes;
-  return before;
+  for (let i = 1; i < blocks.length; i++) blocks[i] += blocks[i - 1];
+  return blocks;
 }
 
 // From offsets in the text, which has lost its byte order mark if marked, to bytes of the source.
 class ByteOffsets {
   constructor(text, marked) {
+    this.text = text;
     this.shift = marked ? MARK_BYTES : 0;
-    const bytes = Buffer.byteLength(text, 'utf8');
-    this.table = bytes === text.length ? null : bytesBefore(text);
     this.last = text.length;
+    this.blocks = Buffer.byteLength(text, 'utf8') === text.length ? null : blocksOf(text);
   }
 
   at(offset) {
     if (!(offset >= 0 && offset <= this.last)) throw new Refusal(`there is no place ${offset} in the source`);
-    return this.shift + (this.table === null ? offset : this.table[offset]);
+    return this.shift + (this.blocks === null ? offset : offset + this.bytesMore(offset));
+  }
+
+  // How many bytes more than units stand before an offset.
+  bytesMore(offset) {
+    const block = offset >> BLOCK_BITS;
+    let more = this.blocks[block];
+    if (this.blocks[block + 1] === more) return more;
+    for (let i = block << BLOCK_BITS; i < offset; i++) more += bytesAbove(this.text.charCodeAt(i));
+    return more;
   }
 }
 

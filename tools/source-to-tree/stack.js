@@ -30,7 +30,7 @@ function withLargeStack(source, options) {
 function answer({ source, options }) {
   const clock = {};
   try {
-    return { json: convertOnce(source, { ...options, clock }).json, clock };
+    return { json: Buffer.from(convertOnce(source, { ...options, clock }).json), clock };
   } catch (error) {
     if (isOverflow(error)) return { refusal: { message: 'too deep' } };
     if (error instanceof Refusal) return { refusal: { message: error.message, line: error.line, column: error.column } };

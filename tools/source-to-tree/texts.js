@@ -1,13 +1,14 @@
 'use strict';
 // Texts of nodes: values without lone halves of characters, and the base of a number by its spelling.
 
+const HALF = /[\ud800-\udfff]/;
 const LONE_HALF = /[\ud800-\udbff](?![\udc00-\udfff])|(?<![\ud800-\udbff])[\udc00-\udfff]/;
 const LONE_HALVES = new RegExp(`${LONE_HALF.source}|\\ufffd`, 'g');
 
 // A value as UTF-8 can hold it: where it has a lone half of a character, each one and each U+FFFD becomes U+FFFD and four
 // hexadecimal digits, so different values stay different.
 function wholeCharacters(value) {
-  if (!LONE_HALF.test(value)) return value;
+  if (!HALF.test(value) || !LONE_HALF.test(value)) return value;
   return value.replace(LONE_HALVES, (unit) => `\ufffd${unit.charCodeAt(0).toString(16).padStart(4, '0')}`);
 }
 
@@ -41,12 +42,16 @@ function uselessEscape(raw) {
   return -1;
 }
 
+const BASES = { b: 'binary', B: 'binary', o: 'octal', O: 'octal', x: 'hex', X: 'hex' };
+
 // The mark of a number literal.
 function numberBase(raw) {
-  if (/^0[bB]/.test(raw)) return 'binary';
-  if (/^0[oO]/.test(raw)) return 'octal';
-  if (/^0[xX]/.test(raw)) return 'hex';
-  if (/^0[0-7]+$/.test(raw)) return 'octal';
+  if (raw.length === 1) return 'decimal';
+  if (raw[0] === '0') {
+    const base = BASES[raw[1]];
+    if (base !== undefined) return base;
+    if (/^0[0-7]+$/.test(raw)) return 'octal';
+  }
   return /[.eE]/.test(raw) ? 'float' : 'decimal';
 }
 

@@ -12,15 +12,16 @@ const { isBefore } = require('./parsers');
 const WAYS = {
   acorn: () => require('./ways/acorn'),
   typescript: () => require('./ways/typescript'),
+  babel: () => require('./ways/babel'),
   estree: () => require('./ways/estree'),
 };
 
 const TURNS = {
-  js: ['acorn', 'typescript'],
-  jsx: ['typescript', 'acorn'],
-  ts: ['typescript'],
-  tsx: ['typescript'],
-  dts: ['typescript'],
+  js: ['acorn', 'typescript', 'babel'],
+  jsx: ['typescript', 'acorn', 'babel'],
+  ts: ['typescript', 'babel'],
+  tsx: ['typescript', 'babel'],
+  dts: ['typescript', 'babel'],
 };
 
 // Each parser with its way; of those of one name each is newer than those before.

@@ -2,15 +2,16 @@
 // Writes a tree as JSON: the rows of its nodes in preorder, each node opened before its children and closed behind them.
 
 const { Refusal } = require('./refusal');
+const { Bytes, wordsOf } = require('./bytes');
 
 const DEEPEST = 1000;
 const MOST_BYTES = 67108864;
-const PIECE = 1 << 16;
 
 const MARKS = ['async', 'generator', 'declare', 'pure', 'static', 'computed', 'abstract', 'optional', 'definite', 'readonly',
   'override', 'public', 'private', 'protected', 'method', 'shorthand', 'prefix', 'delegate', 'await', 'type', 'const', 'in',
   'out', 'asserts', 'postfix', 'binary', 'octal', 'decimal', 'hex', 'float'];
 const PLACE = new Map(MARKS.map((mark, place) => [mark, place]));
+const NO_MARKS = [];
 
 const TYPED_ONLY = 'types and declarations of TypeScript stand in TypeScript files only';
 
@@ -19,73 +20,143 @@ const MODULE_STATEMENTS = new Set(['ImportDeclaration', 'ExportDeclaration', 'Ex
   'ExportDefaultDeclaration', 'ExportAllDeclaration', 'TSExportAssignment', 'TSNamespaceExportDeclaration']);
 const FUNCTIONS = new Set(['Function', 'ArrowFunctionExpression']);
 
-function marksText(marks) {
-  if (marks.length === 0) return '';
-  if (marks.length > 1) marks.sort((a, b) => PLACE.get(a) - PLACE.get(b));
-  return `"${marks.join('","')}"`;
+const COMMA = 0x2c;
+
+// How a row begins, by its depth; the first one is the root's.
+const BEGINS = Array.from({ length: DEEPEST + 1 }, (_, depth) => wordsOf(depth === 0 ? '[0' : `,[${depth}`));
+
+// What is written of each kind, and what a kind tells of the file: made when the kind is met first.
+class Kind {
+  constructor(name) {
+    this.name = name;
+    this.heads = new Map(); // by role: role and kind as they are written
+    this.lastRole = '';
+    this.lastHead = null;
+    this.isFunction = FUNCTIONS.has(name);
+    this.isTyped = name.startsWith('TS');
+    this.isJsx = name.startsWith('JSX');
+    this.isModuleStatement = MODULE_STATEMENTS.has(name);
+    this.isExternal = name === 'TSExternalModuleReference';
+    this.isAwait = name === 'AwaitExpression';
+    this.mayAwait = this.isAwait || name === 'ForOfStatement' || name === 'VariableDeclaration';
+    this.isPlain = !(this.isFunction || this.isTyped || this.isJsx || this.isModuleStatement || this.mayAwait);
+  }
+
+  headFor(role) {
+    if (role !== this.lastRole) this.findHead(role);
+    return this.lastHead;
+  }
+
+  findHead(role) {
+    if (!this.heads.has(role)) this.heads.set(role, wordsOf(`,"${role}","${this.name}",`));
+    this.lastRole = role;
+    this.lastHead = this.heads.get(role);
+  }
 }
 
+const kinds = new Map();
+
+function kindOf(name) {
+  const kind = kinds.get(name);
+  if (kind !== undefined) return kind;
+  kinds.set(name, new Kind(name));
+  return kinds.get(name);
+}
+
+// The end of a row, from behind its text on, for each mark alone and for none.
+const BARE_END = wordsOf(',"",[]]'); // where there is no text either
+const NO_MARK_END = wordsOf(',[]]');
+const ENDS = new Map(MARKS.map((mark) => [mark, wordsOf(`,["${mark}"]]`)]));
+
+function endFor(marks) {
+  if (marks.length === 1) return ENDS.get(marks[0]);
+  const sorted = marks.sort((a, b) => PLACE.get(a) - PLACE.get(b));
+  return wordsOf(`,["${sorted.join('","')}"]]`);
+}
+
+const ROW_ROOM = 512; // for a row without its text: no role, kind or list of marks is half as long
+const BYTES_PER_UNIT = 9; // of a tree, by its source: more than most have
+
 class TreeWriter {
-  constructor(offsets, lang) {
+  // gap is how many bytes the comments may take
+  constructor(offsets, lang, gap) {
     this.offsets = offsets;
-    this.typed = lang !== 'js' && lang !== 'jsx';
-    this.pieces = [];
-    this.piece = '';
-    this.bytes = 0;
-    this.open_kinds = [];
+    this.isTyped = lang !== 'js' && lang !== 'jsx';
+    this.start = gap;
+    this.most = gap + MOST_BYTES;
+    this.bytes = new Bytes(gap + ROW_ROOM + Math.min(BYTES_PER_UNIT * offsets.last, MOST_BYTES));
+    this.bytes.end = gap;
+    this.opened = []; // the kinds of the nodes that are open
+    this.depth = 0;
     this.functions = 0;
     this.isModule = false;
     this.hasJsx = false;
   }
 
   // A node whose children follow until close.
-  open(role, kind, start, end, text = '', marks = []) {
-    const depth = this.open_kinds.length;
-    if (depth > DEEPEST) throw new Refusal('too deep');
-    if (!this.typed && kind.startsWith('TS')) throw new Refusal(TYPED_ONLY, start);
-    const at = this.offsets;
-    const quoted = text === '' ? '""' : JSON.stringify(text);
-    const comma = this.bytes === 0 && this.piece === '' ? '' : ',';
-    this.piece += `${comma}[${depth},"${role}","${kind}",${at.at(start)},${at.at(end)},${quoted},[${marksText(marks)}]]`;
-    if (this.piece.length > PIECE) this.flush();
-    this.notice(kind, depth, text, marks);
-    this.open_kinds.push(kind);
+  open(role, name, start, end, text = '', marks = NO_MARKS) {
+    const kind = kindOf(name);
+    this.row(kind, role, start, end, text, marks);
+    if (kind.isFunction) this.functions++;
+    this.opened[this.depth] = kind;
+    this.depth += 1;
   }
 
   close() {
-    if (FUNCTIONS.has(this.open_kinds.pop())) this.functions--;
+    this.depth -= 1;
+    if (this.opened[this.depth].isFunction) this.functions--;
   }
 
-  leaf(role, kind, start, end, text, marks) {
-    this.open(role, kind, start, end, text, marks);
-    this.close();
+  leaf(role, name, start, end, text = '', marks = NO_MARKS) {
+    this.row(kindOf(name), role, start, end, text, marks);
+  }
+
+  row(kind, role, start, end, text, marks) {
+    const { bytes, offsets, depth } = this;
+    if (depth > DEEPEST) throw new Refusal('too deep');
+    if (kind.isTyped && !this.isTyped) throw new Refusal(TYPED_ONLY, start);
+    bytes.reserve(ROW_ROOM + text.length);
+    bytes.copy(BEGINS[depth]);
+    bytes.copy(kind.headFor(role));
+    bytes.number(offsets.at(start));
+    bytes.byte(COMMA);
+    bytes.number(offsets.at(end));
+    if (text === '' && marks.length === 0) bytes.copy(BARE_END);
+    else this.finishRow(text, marks);
+    if (bytes.end > this.most) throw new Refusal('too large');
+    if (!kind.isPlain) this.notice(kind, text, marks);
+  }
+
+  finishRow(text, marks) {
+    const { bytes } = this;
+    bytes.byte(COMMA);
+    bytes.quoted(text);
+    bytes.reserve(ROW_ROOM);
+    bytes.copy(marks.length === 0 ? NO_MARK_END : endFor(marks));
   }
 
   // What tells that the file is a module, or has elements.
-  notice(kind, depth, text, marks) {
-    if (kind.startsWith('JSX')) this.hasJsx = true;
-    else if (FUNCTIONS.has(kind)) this.functions++;
-    else if (depth === 1 && MODULE_STATEMENTS.has(kind)) this.isModule = true;
-    else if (depth === 2 && kind === 'TSExternalModuleReference') this.isModule = true;
-    else if (this.functions === 0 && (kind === 'AwaitExpression' || marks[0] === 'await' || text === 'await using')) this.isModule = true;
+  notice(kind, text, marks) {
+    if (kind.isJsx) this.hasJsx = true;
+    else if (kind.mayAwait) this.noticeAwait(kind, text, marks);
+    else if (this.depth === 1 && kind.isModuleStatement) this.isModule = true;
+    else if (this.depth === 2 && kind.isExternal) this.isModule = true;
   }
 
-  flush() {
-    const piece = Buffer.from(this.piece, 'utf8');
-    this.bytes += piece.length;
-    if (this.bytes > MOST_BYTES) throw new Refusal('too large');
-    this.pieces.push(piece);
-    this.piece = '';
+  noticeAwait(kind, text, [mark]) {
+    if (this.functions === 0 && (kind.isAwait || mark === 'await' || text === 'await using')) this.isModule = true;
   }
 
   // The whole text of the tree, as bytes.
   finish({ source, goal, lang, comments }) {
-    this.flush();
-    const head = `{"comments":[${comments.join(',')}],"format":1,"goal":"${goal}","lang":"${lang}","rows":[`;
-    const tail = `],"source":${JSON.stringify(source)}}`;
-    const whole = Buffer.concat([Buffer.from(head), ...this.pieces, Buffer.from(tail)]);
-    if (whole.length > MOST_BYTES) throw new Refusal('too large');
-    return whole;
+    const { bytes } = this;
+    const head = Buffer.from(`{"comments":[${comments.join(',')}],"format":1,"goal":"${goal}","lang":"${lang}","rows":[`);
+    bytes.string(`],"source":${JSON.stringify(source)}}`);
+    if (head.length + bytes.end - this.start > MOST_BYTES) throw new Refusal('too large');
+    if (head.length > this.start) return Buffer.concat([head, bytes.buffer.subarray(this.start, bytes.end)]);
+    const first = this.start - head.length;
+    head.copy(bytes.buffer, first);
+    return bytes.buffer.subarray(first, bytes.end);
   }
 }
 

@@ -12,6 +12,7 @@ const FILES = {
   'latin1.js': Buffer.from('// caf\xe9\nlet a;\n', 'latin1'),
   'marked.mjs': '\ufefflet lone;\n',
   'page.jsx': 'export default () => <p title="a">b</p>;\n',
+  'page.js': 'export default () => <p title="a">b</p>;\n',
   'twice.mjs': 'let a;\nlet a;\na;\n',
   'jump.mjs': 'unused: for (;;) {}\n',
   'again.js': 'var a = 1;\nvar a = 2;\nmodule.exports = a;\n',

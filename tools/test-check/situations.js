@@ -7,8 +7,8 @@ const fs = require('fs');
 const path = require('path');
 const { programPath } = require('../programs/index.js');
 
-// When a run is interrupted: it has begun to wait for programs by then.
-const INTERRUPTED_MS = 1500;
+const POLL_MS = 20;
+const SLOW_SECONDS = 20;
 
 // The status of a line of the shell, and what it wrote on standard error.
 function shell(line, folder) {
@@ -91,20 +91,28 @@ async function secondRuns({ folder, run }) {
   return tries;
 }
 
-// Ends a run in its midst; programs that take long see to that.
+// Waits until there is such a file.
+async function untilThere(file) {
+  while (!fs.existsSync(file)) {
+    await new Promise((resolve) => { setTimeout(resolve, POLL_MS); });
+  }
+}
+
+// Ends a run in its midst, while it waits for programs that take long.
 async function interruption({ folder, command }) {
   const programs = path.join(folder, 'slow');
+  const begun = path.join(programs, 'begun');
   fs.mkdirSync(programs);
   for (const name of ['report_main', 'tools_main']) {
-    fs.writeFileSync(path.join(programs, name), '#!/bin/sh\nexec sleep 5\n', { mode: 0o755 });
+    fs.writeFileSync(path.join(programs, name), `#!/bin/sh\ntouch "${begun}"\nexec sleep ${SLOW_SECONDS}\n`, { mode: 0o755 });
   }
   const env = { ...process.env, BOLGWYR_PROGRAMS: programs };
   const child = spawn(command, ['check', '--no-cache', 'many'], { cwd: folder, env, stdio: 'ignore', detached: true });
+  await untilThere(begun);
   const started = Date.now();
-  const later = setTimeout(() => process.kill(-child.pid, 'SIGINT'), INTERRUPTED_MS);
+  process.kill(-child.pid, 'SIGINT');
   const status = await new Promise((resolve) => { child.on('close', (code, signal) => resolve(code ?? signal)); });
-  clearTimeout(later);
-  return [['status', status, 130], ['at once', Date.now() - started < INTERRUPTED_MS + 3000, true]];
+  return [['status', status, 130], ['at once', Date.now() - started < SLOW_SECONDS * 1000, true]];
 }
 
 // A run over a folder of which every file's tables are kept.

@@ -5,7 +5,7 @@
 // A case: `name`, `words`, and `status`, `out`, `err`; `input` is standard input, `env` more variables, `cwd` the folder.
 const WORDS = [
   { name: 'help', words: ['--help'], status: 0, out: /Commands:\n {2}check/, err: '' },
-  { name: 'the version', words: ['--version'], status: 0, out: /^\d+\.\d+\.\d+\n$/, err: '' },
+  { name: 'the version', words: ['--version'], status: 0, out: /^bolgwyr \d+\.\d+\.\d+/, err: '' },
   { name: 'help of a command', words: ['check', '--help'], status: 0, out: /Examples:/, err: '' },
   { name: 'no word', words: [], status: 2, out: '' },
   { name: 'an unknown command', words: ['chek'], status: 2, out: '', err: /^bolgwyr: unknown command 'chek'\n/ },
@@ -29,6 +29,7 @@ const WORDS = [
   { name: 'Latin-1', words: ['check', 'latin1.js'], status: 1, out: /^latin1.js:1:7: not UTF-8 at byte 6 {2}syntax\n/, err: '' },
   { name: 'a byte order mark', words: ['check', 'marked.mjs'], status: 1, out: /^marked.mjs:1:5: variable 'lone' is never used/, err: '' },
   { name: 'JSX', words: ['check', 'page.jsx'], status: 0, out: '1 file, nothing found\n', err: '' },
+  { name: 'JSX in a file of JavaScript', words: ['check', 'page.js'], status: 0, out: '1 file, nothing found\n', err: '' },
   { name: 'a tree that is too deep', words: ['check', 'deep.js'], status: 3, err: 'deep.js: too deep: its tree has more than 1,000 levels\n' },
   { name: 'an empty folder', words: ['check', 'empty'], status: 2, out: '', err: /^bolgwyr: empty: no source files there \(\.js / },
   { name: 'a folder without sources', words: ['check', 'other'], status: 2, out: '', err: /^bolgwyr: other: no source files/ },

@@ -59,7 +59,7 @@ module.exports = [
   // what only the text can tell
   ['a.js', 'for (§a of []) ; var a;', 'async', '1:11', "the changed text can't be read: Unexpected token"],
   ['a.js', 'var §a; a[0] = 1;', 'let', '1:10', "the changed text can't be read: Unexpected token"],
-  ['a.jsx', 'let §A; f(<A />);', 'a', '1:11', 'the changed text would have another meaning to the parser'],
+  ['a.jsx', 'let §A; f(<A />);', 'a', '1:11', 'the changed text would be read otherwise here: as JSXIdentifier, no IdentifierReference'],
   // tangled names
   ['a.js', 'function g() { { function §f() {} } var f; }', 'b', '1:27', '`f` can\'t be followed: a function in a block shares its name with another declaration (ECMAScript B.3.2, B.3.3)'],
   ['a.js', 'function g() { { function §a() {} } var f; }', 'f', '1:40', '`f` here and at 1:27 would be one variable'],

@@ -18,7 +18,7 @@ function unmarked(marked) {
 
 function outcome(filename, text, options) {
   try {
-    return { text: rename(text, { filename, ...options }).text };
+    return { text: rename(text, { file: filename, ...options }).text };
   } catch (error) {
     if (error.status !== STATUS.FOUND) {
       throw error;

@@ -2,26 +2,11 @@
 // What the analyser says of a tree, by places in the source: references, and the names that each scope binds.
 
 const { spawnSync } = require('child_process');
-const fs = require('fs');
-const path = require('path');
+const { programPath } = require('../programs/index.js');
 
-const ROOT = path.join(__dirname, '../..');
-const BUILT = path.join(ROOT, 'crates/report_main/out/report_main');
-let program = process.env.BOLGWYR_REPORT;
-
-// The analyser's program, which the first run of bin/report builds where it isn't there or is old.
-function programOf() {
-  if (program === undefined) {
-    const run = spawnSync(path.join(ROOT, 'bin/report'), { input: fs.readFileSync(path.join(ROOT, 'samples/empty.json')) });
-    if (run.status !== 0) throw new Error(`bin/report doesn't run: ${run.stderr}`);
-    program = BUILT;
-  }
-  return program;
-}
-
-// The report of a tree, or why there is none.
-function reportOf(json) {
-  const run = spawnSync(programOf(), { input: json, maxBuffer: 1 << 30 });
+// The report of a tree, or why there is none. The words are the report program's.
+function reportOf(json, words = []) {
+  const run = spawnSync(programPath('report_main'), words, { input: json, maxBuffer: 1 << 30 });
   if (run.status === 0 || run.status === 1) return { report: run.stdout.toString() };
   return { refused: `status ${run.status}: ${run.stderr.toString().trim()}` };
 }

@@ -2,35 +2,11 @@
 // Dialects of ESTree: that of Babel, where its parser is installed, and spans as typescript-eslint gives them. Their trees are
 // those that the other ways give.
 
-const { load } = require('../source-to-tree/load');
-const { languageOf, goalOf } = require('../source-to-tree/languages');
 const { parsersFor } = require('../source-to-tree/parsers');
 const acorn = require('../source-to-tree/ways/acorn');
+const { parsersIn } = require('../source-to-tree/ways/babel');
 const { convert, checkRows } = require('./small');
 const { JS, ONE_WAY, NEWER } = require('./cases');
-
-function pluginsFor(filename) {
-  const lang = languageOf(filename);
-  const more = ['decoratorAutoAccessors', ['importAttributes', { deprecatedAssertSyntax: true }], 'explicitResourceManagement'];
-  if (lang === 'js' || lang === 'jsx') return ['jsx', ...more];
-  const typescript = ['typescript', { dts: lang === 'dts' }];
-  return [typescript, 'decorators-legacy', ...(lang === 'tsx' ? ['jsx'] : []), ...more];
-}
-
-// What Babel makes of a source, or null where it refuses it.
-function babelTree(babel, source, filename) {
-  const options = {
-    plugins: pluginsFor(filename),
-    sourceType: goalOf(filename) || 'unambiguous',
-    createParenthesizedExpressions: true,
-    allowReturnOutsideFunction: true,
-  };
-  try {
-    return babel.parse(source, options);
-  } catch {
-    return null;
-  }
-}
 
 function checkTree(tally, tree, [name, filename, source, rows]) {
   const usual = convert(source, { filename });
@@ -41,11 +17,19 @@ function checkTree(tally, tree, [name, filename, source, rows]) {
   else tally.check(`${name}: the usual tree`, json.equals(usual.json), `\n${json}\n${usual.json}`);
 }
 
-function checkWithBabel(tally, babel, [name, filename, source, rows]) {
-  const tree = babelTree(babel, source.replace(/^\ufeff/, ''), filename);
-  if (tree !== null) checkTree(tally, tree, [`${name} by Babel`, filename, source, rows]);
-  return tree !== null;
+// A source that Babel reads has by it the tree that it has by the parser of its language.
+function checkWithBabel(tally, [name, filename, source, rows]) {
+  const usual = convert(source, { filename });
+  const { json, refused } = convert(source, { filename, parser: 'babel' });
+  if (json === undefined) return isOlder(refused) || tally.check(`${name} by Babel: read`, false, refused);
+  if (rows.length > 0) checkRows(tally, `${name} by Babel`, source, json, rows);
+  return tally.check(`${name} by Babel: the usual tree`, usual.json !== undefined && json.equals(usual.json), usual.refused || `\n${json}\n${usual.json}`);
 }
+
+const isOlder = (line) => /doesn't know/.test(line);
+
+// Small sources that Babel refuses or reads in another way.
+const NOT_BABEL = new Set(['enums', 'options of imported types', 'names of JSDoc types', 'decorators behind export']);
 
 // Each node with `range` in place of `start` and `end`, and pieces of templates with the marks round them.
 function withRanges(node, text) {
@@ -86,16 +70,12 @@ const commentNode = ({ block, start, end }) => ({ type: block ? 'Block' : 'Line'
 function checkDialects(tally) {
   checkRanges(tally);
   checkBoth(tally);
-  let babel;
-  try {
-    babel = load('@babel/parser');
-  } catch {
+  const [babel] = parsersIn(__dirname);
+  if (babel === undefined) {
     console.log("not tried: the dialect of Babel, whose parser isn't installed");
     return;
   }
-  const cases = [...JS, ...ONE_WAY, ...NEWER];
-  const taken = cases.filter((one) => checkWithBabel(tally, babel, one)).length;
-  console.log(`${taken} of ${cases.length} small sources by Babel`);
+  for (const one of [...JS, ...ONE_WAY, ...NEWER]) if (!NOT_BABEL.has(one[0])) checkWithBabel(tally, one);
 }
 
 module.exports = { checkDialects };

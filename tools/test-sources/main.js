@@ -10,6 +10,8 @@ const { checkCommands } = require('./commands');
 const { checkDialects } = require('./dialects');
 const { checkAges } = require('./ages');
 const { checkParsers } = require('./parsers');
+const { checkTest262 } = require('./test262');
+const { checkTypeScript } = require('./typescript-cases');
 const { Files } = require('./files');
 
 const INSTALLED = '/usr/share/nodejs';
@@ -36,8 +38,20 @@ function filesOf(words) {
   return words.length > 0 ? words : filesBelow(INSTALLED);
 }
 
-function main(words) {
-  const tally = new Tally();
+const COLLECTIONS = { '--test262': checkTest262, '--typescript': checkTypeScript };
+
+// A collection of sources: its folder, and how much of it by which ways.
+function checkCollection(word, folder, words) {
+  const options = { stride: 1, seconds: 3600, ways: ['acorn', 'estree', 'typescript'], shown: 20 };
+  for (let i = 0; i < words.length; i += 2) {
+    const name = words[i].slice(2);
+    options[name] = name === 'ways' ? words[i + 1].split(',') : Number(words[i + 1]);
+  }
+  COLLECTIONS[word](folder, options);
+  return 0;
+}
+
+function checkAll(tally, words) {
   checkCases(tally);
   checkDialects(tally);
   checkDifferences(tally);
@@ -48,6 +62,12 @@ function main(words) {
   const files = new Files(tally);
   for (const file of filesOf(words)) files.check(file);
   files.print();
+}
+
+function main(words) {
+  if (words[0] in COLLECTIONS) return checkCollection(words[0], words[1], words.slice(2));
+  const tally = new Tally();
+  checkAll(tally, words);
   console.log(`${tally.passed} passed, ${tally.failed} failed`);
   return tally.failed === 0 ? 0 : 1;
 }

@@ -5,7 +5,9 @@ const fs = require('fs');
 const os = require('os');
 const path = require('path');
 const { treeOf, Refusal } = require('../source-to-tree/convert');
+const { addDebian } = require('../source-to-tree/load');
 const { parsersFor } = require('../source-to-tree/parsers');
+const { parsersIn } = require('../source-to-tree/ways/babel');
 
 function writeModule(folder, name, version, script) {
   const place = path.join(folder, 'node_modules', name);
@@ -14,7 +16,10 @@ function writeModule(folder, name, version, script) {
   fs.writeFileSync(path.join(place, 'index.js'), script);
 }
 
-const placeOf = (name) => JSON.stringify(require.resolve(name, { paths: ['/usr/share/nodejs', '/usr/lib/nodejs', ...module.paths] }));
+function placeOf(name) {
+  addDebian();
+  return JSON.stringify(require.resolve(name));
+}
 
 // An acorn that reads `a` where the text has `b`, so that a tree tells which one read it.
 const renaming = () => `
@@ -65,6 +70,25 @@ function checkTurns(tally, top) {
   tally.check('what the parser that knows more refuses', wanted.test(refusalOf('@a class B {', path.join(top, 'x.js'))));
 }
 
+// What the parsers of a language are too old for is read by Babel's, where that is there.
+const BY_BABEL = [
+  ['x.js', '{ using a = b }', 'VariableDeclaration', 'using'],
+  ['x.jsx', '<a>{() => { using b = c }}</a>', 'VariableDeclaration', 'using'],
+  ['x.js', 'class A { static accessor b = 1 }', 'AccessorProperty', ''],
+  ['x.ts', 'a satisfies B', 'TSSatisfiesExpression', ''],
+  ['x.mjs', 'export @a class B {}', 'Decorator', ''],
+];
+
+function checkBabel(tally, top) {
+  const [babel] = parsersIn(top);
+  if (babel === undefined) return;
+  for (const [name, source, kind, text] of BY_BABEL) {
+    const tree = JSON.parse(treeOf(source, { filename: path.join(top, name) }).json);
+    tally.check(`by Babel where others are too old: ${source}`, tree.rows.some((row) => row[2] === kind && row[5] === text));
+  }
+  tally.check('what Babel refuses in a text that others are too old for', /x\.js:1:20: Unexpected token/.test(refusalOf('{ using a = b } c =;', path.join(top, 'x.js'))));
+}
+
 function refusalOf(source, filename) {
   try {
     treeOf(source, { filename });
@@ -80,6 +104,7 @@ function checkParsers(tally) {
   try {
     checkNearest(tally, top);
     checkTurns(tally, top);
+    checkBabel(tally, top);
   } finally {
     fs.rmSync(top, { recursive: true });
   }

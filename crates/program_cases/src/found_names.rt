@@ -5,6 +5,7 @@ mod failing_ends;
 mod runs;
 
 use name_lint::{NameReport, find_names};
+pub use runs::write_end;
 use std::alloc::{AllocError, Global};
 use std::{fs, io};
 use tree_json::read_program;

@@ -1,7 +1,9 @@
-//! The renamer, the lint of names and the linker of modules: the first word says which of them runs on the words behind it.
+//! The renamer, the mangler, the lint of names, the lint of tangled names and the linker of modules: the first word says which
+//! of them runs on the words behind it.
 //! They are one program since two compilers make each program whole, whatever stands in it.
 #![tactic(auto)]
 
+use mangler_program::run_mangle;
 use module_linker::run_link;
 use name_lint::run_names;
 use program_ends::{FindingStatus, refuse, run_over_standard_ends};
@@ -10,9 +12,11 @@ use report_ends::Writing;
 use std::env::Env;
 use std::process::ExitCode;
 use std::str;
+use tangle_lint::run_tangled;
 
 /// The line on a first word that names no tool.
-const USAGE: &str = "usage: tools_main renamer|name_lint|module_linker [WORD ..]\n";
+const USAGE: &str =
+    "usage: tools_main renamer|mangler|name_lint|tangled_names|module_linker [WORD ..]\n";
 
 /// Room for the name of a tool, in bytes.
 const LONGEST: usize = 16;
@@ -20,11 +24,13 @@ const LONGEST: usize = 16;
 /// How many words name the program: its own name, and the tool's.
 const NAMES: usize = 2;
 
-/// A program of the three.
+/// A program of the five.
 #[derive(Clone, Copy)]
 enum Tool {
     Renamer,
+    Mangler,
     NameLint,
+    TangleLint,
     ModuleLinker,
 }
 
@@ -34,7 +40,9 @@ fn tool_of(rt: &HostRuntime) -> Option<Tool> {
     let length = rt.arg(1, &mut name).ok()?;
     match str::from_utf8(name.get(..length)?).ok()? {
         "renamer" => Some(Tool::Renamer),
+        "mangler" => Some(Tool::Mangler),
         "name_lint" => Some(Tool::NameLint),
+        "tangled_names" => Some(Tool::TangleLint),
         "module_linker" => Some(Tool::ModuleLinker),
         _ => None,
     }
@@ -51,6 +59,17 @@ fn rename(rt: &HostRuntime) -> u8 {
     .code()
 }
 
+/// Runs the mangler, and gives its exit status.
+fn mangle(rt: &HostRuntime) -> u8 {
+    run_over_standard_ends(
+        rt,
+        NAMES,
+        mangler_program::USAGE,
+        |alloc, words, source, out, errs| { run_mangle(alloc, words, source, out, errs) },
+    )
+    .code()
+}
+
 /// Runs the lint of names, and gives its exit status.
 fn lint(rt: &HostRuntime) -> u8 {
     run_over_standard_ends(
@@ -58,6 +77,17 @@ fn lint(rt: &HostRuntime) -> u8 {
         NAMES,
         name_lint::USAGE,
         |alloc, words, source, out, errs| { run_names(alloc, words, source, out, errs) },
+    )
+    .code()
+}
+
+/// Runs the lint of tangled names, and gives its exit status.
+fn find_tangled(rt: &HostRuntime) -> u8 {
+    run_over_standard_ends(
+        rt,
+        NAMES,
+        tangle_lint::USAGE,
+        |alloc, words, source, out, errs| { run_tangled(alloc, words, source, out, errs) },
     )
     .code()
 }
@@ -82,7 +112,9 @@ fn refuse_words(rt: &HostRuntime) -> u8 {
 fn main(rt: HostRuntime) -> ExitCode {
     let code = match tool_of(&rt) {
         Some(Tool::Renamer) => rename(&rt),
+        Some(Tool::Mangler) => mangle(&rt),
         Some(Tool::NameLint) => lint(&rt),
+        Some(Tool::TangleLint) => find_tangled(&rt),
         Some(Tool::ModuleLinker) => link(&rt),
         None => refuse_words(&rt),
     };

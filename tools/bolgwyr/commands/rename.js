@@ -2,85 +2,12 @@
 // bolgwyr rename: another name for a variable, function, class, import or type.
 
 const { load } = require('../../source-to-tree/load.js');
-const { say, tell } = require('../../analyse/output.js');
-const { printable } = require('../../analyse/refusal.js');
-const { RenameRefusal, checkName, rename } = require('../../rename/index.js');
-const { coloured, diffLines } = require('../../rename/diff.js');
-const { textOf, writeFiles } = require('../../rename/files.js');
-const { STATUS, UsageFault } = require('../faults.js');
 
 const { Option } = load('commander');
 
 const HELP = `
 PLACE is FILE:LINE:COLUMN of a declaration or a use, both from 1, or FILE:NAME where just one symbol has the name. Without --write a
 unified diff is shown. A renaming after which any name would mean something else is refused with what is in the way (status 1).`;
-
-const BY_PLACE = /^(.+):(\d+):(\d+)$/s;
-const BY_NAME = /^(.+):([^:\d][^:]*)$/s;
-
-function placeOf(word) {
-  const found = BY_PLACE.exec(word);
-  if (found !== null && Number(found[2]) > 0 && Number(found[3]) > 0) {
-    return { file: found[1], line: Number(found[2]), column: Number(found[3]) };
-  }
-  const named = found === null ? BY_NAME.exec(word) : null;
-  if (named === null) {
-    throw new UsageFault(`${JSON.stringify(word)} is no place: FILE:LINE:COLUMN, both from 1, or FILE:NAME`);
-  }
-  return { file: named[1], name: named[2] };
-}
-
-const wantsColour = () => process.stdout.isTTY === true && !process.env.NO_COLOR && process.env.TERM !== 'dumb';
-
-function showDiff(file, before, after) {
-  const lines = diffLines(file, before, after);
-  const shown = wantsColour() ? coloured(lines) : lines;
-  say(shown.map((line) => `${line}\n`).join(''));
-}
-
-function refuse(file, refusal, { json }) {
-  const place = refusal.line === null ? {} : { line: refusal.line, column: refusal.column };
-  if (json) {
-    say(`${JSON.stringify({ file, refused: { message: refusal.message, ...place } })}\n`);
-  } else {
-    refusal.linesFor(file).forEach(tell);
-  }
-  process.exitCode = STATUS.FOUND;
-}
-
-function show({ file, before, to, found, settings }) {
-  const { text, edits, warnings } = found;
-  if (settings.json) {
-    say(`${JSON.stringify({ file, to, edits, warnings, written: settings.write === true && edits.length > 0 })}\n`);
-    return;
-  }
-  warnings.forEach((warning) => tell(`${printable(file)}: warning: ${warning}`));
-  if (settings.write) {
-    tell(`${printable(file)}: ${edits.length} ${edits.length === 1 ? 'place' : 'places'} renamed`);
-  } else {
-    showDiff(file, before, text);
-  }
-}
-
-function run(word, to, settings) {
-  const { file, ...place } = placeOf(word);
-  checkName(to);
-  const before = textOf(file);
-  let found;
-  try {
-    found = rename(before, { filename: file, ...place, to, parser: settings.parser, goal: settings.goal });
-  } catch (error) {
-    if (!(error instanceof RenameRefusal)) {
-      throw error;
-    }
-    refuse(file, error, settings);
-    return;
-  }
-  if (settings.write && found.edits.length > 0) {
-    writeFiles([{ file, before, after: found.text }]);
-  }
-  show({ file, before, to, found, settings });
-}
 
 function add(program, name) {
   program.command(name)
@@ -89,11 +16,12 @@ function add(program, name) {
     .argument('<name>', 'the new name')
     .option('--write', 'write the file')
     .option('--json', 'one object: the edits with bytes, lines and columns')
+    .option('--project <entry...>', 'rename what a module exports in all modules that these files or folders reach')
     .addOption(new Option('--parser <parser>', "in place of the one that the file's name tells").choices(['acorn', 'typescript']))
     .addOption(new Option('--goal <goal>', "in place of the one that the file's name tells").choices(['script', 'module', 'commonjs']))
     .allowExcessArguments(false)
     .addHelpText('after', HELP)
-    .action(run);
+    .action((place, to, options, command) => require('../../rename/command.js').run(place, to, command.optsWithGlobals()));
 }
 
 module.exports = { add };

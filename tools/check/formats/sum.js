@@ -1,7 +1,10 @@
 'use strict';
 // How many findings there are.
 
-const counted = (number, what) => `${number.toLocaleString('en-US')} ${what}${number === 1 ? '' : 's'}`;
+// With commas between thousands. The engine's own way loads tables of all languages first.
+const grouped = (number) => String(number).replace(/\B(?=(?:\d{3})+$)/g, ',');
+
+const counted = (number, what) => `${grouped(number)} ${what}${number === 1 ? '' : 's'}`;
 
 function sumOf(results) {
   const findings = results.flatMap((result) => result.findings);
@@ -23,7 +26,7 @@ function sumLine({ files, failed, found, errors, warnings }) {
     return `${counted(files, 'file')}, nothing found${unread}`;
   }
   const kinds = warnings === 0 ? counted(errors, 'error') : `${counted(errors, 'error')}, ${counted(warnings, 'warning')}`;
-  return `${kinds} in ${found.toLocaleString('en-US')} of ${counted(files, 'file')}${unread}`;
+  return `${kinds} in ${grouped(found)} of ${counted(files, 'file')}${unread}`;
 }
 
 module.exports = { sumLine, sumOf };

@@ -2,7 +2,7 @@
 // Expressions.
 
 const { skipTrivia } = require('../trivia');
-const { visit, each, plain, marksOf } = require('./visit');
+const { visit, each, plain, markOf, marksOf } = require('./visit');
 const { BABEL_LITERALS } = require('./literals');
 
 visit.template = plain('TemplateLiteral', { quasis: 'templateElement', expressions: 'expression' });
@@ -34,11 +34,15 @@ function array(c, role, node) {
   c.close();
 }
 
+function propertyMarks({ shorthand, computed }, method) {
+  return method || shorthand ? marksOf({ method, shorthand, computed }) : markOf('computed', computed);
+}
+
 function objectProperty(c, role, node) {
   if (node.type === 'SpreadElement' || node.type === 'SpreadProperty') return visit.spread(c, role, node);
   const kind = node.kind === 'get' || node.kind === 'set' ? node.kind : 'init';
   const isMethod = node.method || node.kind === 'method';
-  c.open(role, 'ObjectProperty', node, kind, marksOf({ method: isMethod, shorthand: node.shorthand, computed: node.computed }));
+  c.open(role, 'ObjectProperty', node, kind, propertyMarks(node, isMethod));
   visit.key(c, 'key', node.key, node.computed);
   if (isMethod || kind !== 'init') visit.methodValue(c, 'value', node.value || node, visit.methodStart(c, node));
   else visit.expression(c, 'value', node.value);
@@ -59,7 +63,7 @@ function importCall(c, role, node) {
 function call(c, role, node) {
   if (node.callee.type === 'Import') return importCall(c, role, node);
   const pure = c.annotations.takesPure(c.start(node));
-  c.open(role, 'CallExpression', node, '', marksOf({ optional: node.optional, pure }));
+  c.open(role, 'CallExpression', node, '', pure ? marksOf({ optional: node.optional, pure }) : markOf('optional', node.optional));
   base(c, 'callee', node, node.callee);
   each(c, 'typeArguments', typeArgumentsOf(node), 'typeArguments');
   each(c, 'arguments', node.arguments, 'argument');
@@ -67,7 +71,7 @@ function call(c, role, node) {
 }
 
 function construct(c, role, node) {
-  c.open(role, 'NewExpression', node, '', marksOf({ pure: c.annotations.takesPure(c.start(node)) }));
+  c.open(role, 'NewExpression', node, '', markOf('pure', c.annotations.takesPure(c.start(node))));
   visit.callee(c, 'callee', node.callee);
   each(c, 'typeArguments', typeArgumentsOf(node), 'typeArguments');
   each(c, 'arguments', node.arguments, 'argument');
@@ -75,7 +79,7 @@ function construct(c, role, node) {
 }
 
 function member(c, role, node) {
-  const marks = marksOf({ optional: node.optional });
+  const marks = markOf('optional', node.optional);
   if (node.computed) {
     c.open(role, 'ComputedMemberExpression', node, '', marks);
     base(c, 'object', node, node.object);
@@ -101,11 +105,12 @@ function chainOfLinks(c, role, node) {
   c.close();
 }
 
-const isLink = (node) => node.type in LINKS || (node.type === 'TSNonNullExpression' && isLink(node.expression));
+const isLinkType = (type) => type === 'OptionalMemberExpression' || type === 'OptionalCallExpression';
+const isLink = (node) => isLinkType(node.type) || (node.type === 'TSNonNullExpression' && isLink(node.expression));
 
 // What a call or member expression stands on: where it is a link, the chain goes on.
 function base(c, role, outer, node) {
-  if (outer.type in LINKS && isLink(node)) link(c, role, node);
+  if (isLinkType(outer.type) && isLink(node)) link(c, role, node);
   else visit.callee(c, role, node);
 }
 
@@ -128,15 +133,32 @@ function binary(c, role, node) {
   c.close();
 }
 
-// An expression with its operator as text.
-function operation(kind, parts, marks = {}) {
-  const list = Object.entries(parts);
-  const names = Object.entries(marks);
+// An expression of two with its operator as text.
+function operation(kind, left) {
   return (c, role, node) => {
-    c.open(role, kind, node, node.operator || '', names.filter(([, field]) => node[field]).map(([mark]) => mark));
-    for (const [field, name] of list) each(c, field, node[field], name);
+    c.open(role, kind, node, node.operator);
+    visit[left](c, 'left', node.left);
+    visit.expression(c, 'right', node.right);
     c.close();
   };
+}
+
+function unary(c, role, node) {
+  c.open(role, 'UnaryExpression', node, node.operator);
+  visit.expression(c, 'argument', node.argument);
+  c.close();
+}
+
+function update(c, role, node) {
+  c.open(role, 'UpdateExpression', node, node.operator, markOf('prefix', node.prefix));
+  visit.target(c, 'argument', node.argument);
+  c.close();
+}
+
+function yieldExpression(c, role, node) {
+  c.open(role, 'YieldExpression', node, '', markOf('delegate', node.delegate));
+  each(c, 'argument', node.argument, 'expression');
+  c.close();
 }
 
 const typed = (kind) => (c, role, node) => {
@@ -183,16 +205,16 @@ const EXPRESSIONS = {
   OptionalMemberExpression: chainOfLinks,
   OptionalCallExpression: chainOfLinks,
   ChainExpression: plain('ChainExpression', { expression: 'expression' }),
-  UnaryExpression: operation('UnaryExpression', { argument: 'expression' }),
-  UpdateExpression: operation('UpdateExpression', { argument: 'target' }, { prefix: 'prefix' }),
+  UnaryExpression: unary,
+  UpdateExpression: update,
   BinaryExpression: binary,
-  LogicalExpression: operation('LogicalExpression', { left: 'expression', right: 'expression' }),
+  LogicalExpression: operation('LogicalExpression', 'expression'),
   ConditionalExpression: plain('ConditionalExpression', { test: 'expression', consequent: 'expression', alternate: 'expression' }),
-  AssignmentExpression: operation('AssignmentExpression', { left: 'target', right: 'expression' }),
+  AssignmentExpression: operation('AssignmentExpression', 'target'),
   SequenceExpression: plain('SequenceExpression', { expressions: 'expression' }),
   ParenthesizedExpression: plain('ParenthesizedExpression', { expression: 'expression' }),
   AwaitExpression: plain('AwaitExpression', { argument: 'expression' }),
-  YieldExpression: operation('YieldExpression', { argument: 'expression' }, { delegate: 'delegate' }),
+  YieldExpression: yieldExpression,
   ArrowFunctionExpression: (c, role, node) => visit.arrow(c, role, node),
   FunctionExpression: (c, role, node) => visit.functionExpression(c, role, node),
   ClassExpression: (c, role, node) => visit.classExpression(c, role, node),

@@ -2,7 +2,7 @@
 // Functions, arrows and their parameters.
 
 const { skipTrivia, openParenthesis, closingEnd, nameEnd } = require('../trivia');
-const { visit, each, marksOf } = require('./visit');
+const { visit, each, markOf, marksOf } = require('./visit');
 const { DECLARATIONS } = require('./statements');
 
 const isThis = (node) => node !== undefined && node.type === 'Identifier' && node.name === 'this';
@@ -29,32 +29,34 @@ function arrowSpan(c, node) {
   return [c.start(node.params[0]), c.end(node.params[0])];
 }
 
+const NO_DECORATORS = [];
+
 // A parameter begins at its decorators, which some dialects leave out of its span.
-function openParameter(c, role, kind, node, { decorators, marks }) {
-  const [first] = decorators;
-  const start = first ? Math.min(c.start(first), c.start(node)) : c.start(node);
+function openParameter(c, role, kind, node, decorators, marks) {
+  const start = decorators.length > 0 ? Math.min(c.start(decorators[0]), c.start(node)) : c.start(node);
   c.writer.open(role, kind, start, c.end(node), '', marks);
   each(c, 'decorators', decorators, 'decorator');
 }
 
 function restParameter(c, role, node) {
-  openParameter(c, role, 'FormalParameterRest', node, { decorators: node.decorators || [] });
+  openParameter(c, role, 'FormalParameterRest', node, node.decorators || NO_DECORATORS);
   visit.bindingRest(c, 'rest', node);
   each(c, 'type', node.typeAnnotation, 'typeAnnotation');
   c.close();
+}
+
+// Of a parameter that declares a property.
+function propertyMarks({ accessibility, readonly, override }, optional) {
+  return marksOf({ [accessibility]: accessibility, readonly, override, optional });
 }
 
 function parameter(c, role, outer) {
   const inner = outer.type === 'TSParameterProperty' ? outer.parameter : outer;
   const withDefault = inner.type === 'AssignmentPattern';
   const pattern = withDefault ? inner.left : inner;
-  const marks = marksOf({
-    [outer.accessibility]: outer.accessibility,
-    readonly: outer.readonly,
-    override: outer.override,
-    optional: pattern.optional || inner.optional,
-  });
-  openParameter(c, role, 'FormalParameter', outer, { decorators: outer.decorators || inner.decorators || [], marks });
+  const optional = pattern.optional || inner.optional;
+  const marks = inner === outer ? markOf('optional', optional) : propertyMarks(outer, optional);
+  openParameter(c, role, 'FormalParameter', outer, outer.decorators || inner.decorators || NO_DECORATORS, marks);
   visit.binding(c, 'pattern', pattern);
   each(c, 'type', pattern.typeAnnotation, 'typeAnnotation');
   each(c, 'initializer', withDefault ? inner.right : null, 'expression');
@@ -92,14 +94,14 @@ function functionBody(c, node) {
   c.close();
 }
 
+function functionMarks({ async, generator, declare }, pure) {
+  return async || generator || declare ? marksOf({ async, generator, declare, pure }) : markOf('pure', pure);
+}
+
 // A function with the text given; its list of parameters is unique where it is a method's.
 function writeFunction(c, role, node, { text, list = 'formal', start = c.start(node) }) {
-  const marks = marksOf({
-    async: node.async,
-    generator: node.generator,
-    declare: node.declare,
-    pure: text !== 'ts-empty-body' && c.annotations.takesNoSideEffects(start),
-  });
+  const pure = text !== 'ts-empty-body' && c.annotations.takesNoSideEffects(start);
+  const marks = functionMarks(node, pure);
   c.writer.open(role, 'Function', start, c.end(node), text, marks);
   if (list === 'formal') each(c, 'id', node.id, 'bindingName');
   visit.signature(c, node, list, list === 'formal' ? undefined : afterTypes(c, node, start));
@@ -117,7 +119,7 @@ visit.methodValue = (c, role, node, start = c.start(node)) => {
 };
 
 visit.arrow = (c, role, node) => {
-  const marks = marksOf({ async: node.async, pure: c.annotations.takesNoSideEffects(c.start(node)) });
+  const marks = functionMarks({ async: node.async }, c.annotations.takesNoSideEffects(c.start(node)));
   c.open(role, 'ArrowFunctionExpression', node, '', marks);
   each(c, 'typeParameters', node.typeParameters, 'typeParameters');
   formalParameters(c, arrowSpan(c, node), 'arrow', node.params);

@@ -16,7 +16,7 @@ require('./types');
 require('./declarations');
 require('./jsx');
 
-// One conversion: the text, where the rows go, and what is said of pure code.
+// One conversion: the text, where the rows go, and what is said of pure code. Its nodes have `start` and `end`.
 class EstreeConversion {
   constructor(text, writer, annotations) {
     this.text = text;
@@ -24,13 +24,12 @@ class EstreeConversion {
     this.annotations = annotations;
   }
 
-  // Where a node has both, `range` is what tools keep right.
   start(node) {
-    return node.range !== undefined ? node.range[0] : node.start;
+    return node.start;
   }
 
   end(node) {
-    return node.range !== undefined ? node.range[1] : node.end;
+    return node.end;
   }
 
   nameEnd(start) {
@@ -51,8 +50,7 @@ class EstreeConversion {
   }
 
   leaf(role, kind, node, text, marks) {
-    this.open(role, kind, node, text, marks);
-    this.close();
+    this.writer.leaf(role, kind, this.start(node), this.end(node), text, marks);
   }
 
   refuse(node, message) {
@@ -65,4 +63,15 @@ class EstreeConversion {
   }
 }
 
-module.exports = { EstreeConversion };
+// A tree of another tool. Where a node has both, `range` is what tools keep right.
+class RangedConversion extends EstreeConversion {
+  start(node) {
+    return node.range !== undefined ? node.range[0] : node.start;
+  }
+
+  end(node) {
+    return node.range !== undefined ? node.range[1] : node.end;
+  }
+}
+
+module.exports = { EstreeConversion, RangedConversion };

@@ -1,7 +1,7 @@
 'use strict';
 // Statements, directives and declarations of variables.
 
-const { visit, each, plain, byType, marksOf } = require('./visit');
+const { visit, each, plain, byType, markOf } = require('./visit');
 
 // Babel says of no statement in a namespace that it is a directive.
 function isDirective(node, outer) {
@@ -32,7 +32,7 @@ visit.directive = directive;
 visit.block = plain('BlockStatement', { body: 'statement' });
 
 function forOf(c, role, node) {
-  c.open(role, 'ForOfStatement', node, '', marksOf({ await: node.await }));
+  c.open(role, 'ForOfStatement', node, '', markOf('await', node.await));
   visit.loopLeft(c, 'left', node.left);
   visit.expression(c, 'right', node.right);
   visit.statement(c, 'body', node.body);
@@ -42,13 +42,13 @@ function forOf(c, role, node) {
 visit.variables = (c, role, node) => {
   const [first] = node.declarations;
   if (node.kind === 'const' && first.init) c.annotations.passOn(c.start(node), c.start(first.init));
-  c.open(role, 'VariableDeclaration', node, node.kind, marksOf({ declare: node.declare }));
+  c.open(role, 'VariableDeclaration', node, node.kind, markOf('declare', node.declare));
   each(c, 'declarators', node.declarations, 'declarator');
   c.close();
 };
 
 visit.declarator = (c, role, node) => {
-  c.open(role, 'VariableDeclarator', node, '', marksOf({ definite: node.definite }));
+  c.open(role, 'VariableDeclarator', node, '', markOf('definite', node.definite));
   visit.binding(c, 'id', node.id);
   each(c, 'type', node.id.typeAnnotation, 'typeAnnotation');
   each(c, 'init', node.init, 'expression');

@@ -6,19 +6,24 @@ const visit = {};
 
 // Visits what a field holds: nothing, a node or a list.
 function each(c, role, value, name) {
-  if (Array.isArray(value)) {
-    for (const node of value) if (node) visit[name](c, role, node);
-  } else if (value) {
-    visit[name](c, role, value);
-  }
+  if (value) eachBy(c, role, value, visit[name]);
+}
+
+function eachBy(c, role, value, visitor) {
+  if (!Array.isArray(value)) visitor(c, role, value);
+  else for (let i = 0; i < value.length; i++) if (value[i]) visitor(c, role, value[i]);
 }
 
 // A visitor of a kind whose fields are its roles, in order: `{ role: class }`.
 function plain(kind, parts = {}) {
-  const list = Object.entries(parts);
+  const fields = Object.keys(parts);
+  const names = Object.values(parts);
   return (c, role, node) => {
     c.open(role, kind, node);
-    for (const [field, name] of list) each(c, field, node[field], name);
+    for (let i = 0; i < fields.length; i++) {
+      const value = node[fields[i]];
+      if (value) eachBy(c, fields[i], value, visit[names[i]]);
+    }
     c.close();
   };
 }
@@ -32,6 +37,8 @@ function byType(table, what) {
   };
 }
 
+const NO_MARKS = [];
+
 // The marks whose conditions hold.
 function marksOf(conditions) {
   const marks = [];
@@ -39,4 +46,9 @@ function marksOf(conditions) {
   return marks;
 }
 
-module.exports = { visit, each, plain, byType, marksOf };
+// The one mark there is where its condition holds.
+function markOf(mark, condition) {
+  return condition ? [mark] : NO_MARKS;
+}
+
+module.exports = { visit, each, plain, byType, marksOf, markOf };

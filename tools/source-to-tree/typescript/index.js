@@ -40,7 +40,7 @@ class TypeScriptConversion {
     this.text = text;
     this.writer = writer;
     this.annotations = annotations;
-    this.isTyped = writer.typed;
+    this.isTyped = writer.isTyped;
     this.afterHashbang = text.startsWith('#!') ? lineEndFrom(text, 2) : 0;
     this.hidden = [];
     this.longWays = new Map();
@@ -90,8 +90,7 @@ class TypeScriptConversion {
   }
 
   leaf(role, kind, node, text, marks) {
-    this.open(role, kind, node, text, marks);
-    this.close();
+    this.writer.leaf(role, kind, this.start(node), node.end, text, marks);
   }
 
   // True for a link of a chain that has `?.`.

@@ -2,7 +2,7 @@
 // Takes the ESTree that another tool made of the text.
 
 const { Refusal } = require('../refusal');
-const { EstreeConversion } = require('../estree');
+const { RangedConversion } = require('../estree');
 
 const GOALS = ['script', 'module', 'commonjs'];
 
@@ -22,7 +22,7 @@ function commentsOf({ ast }) {
 // A tree from elsewhere may lack what its type promises.
 function write(parsed, text, writer, annotations) {
   try {
-    new EstreeConversion(text, writer, annotations).program(parsed.ast);
+    new RangedConversion(text, writer, annotations).program(parsed.ast);
   } catch (error) {
     throw error instanceof TypeError ? new Refusal(`not an ESTree: ${error.message}`) : error;
   }

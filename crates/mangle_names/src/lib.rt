@@ -1,0 +1,21 @@
+//! Names for a mangler: which are good ones, sets of them, and new ones for the symbols of a program.
+//! Of a proposal nothing is promised but that it comes to an end. Symbols that are never alive in one scope share a slot, and
+//! the slots that stand most often get the shortest names.
+#![tactic(auto)]
+
+mod alive;
+mod good_names;
+mod name_set;
+mod naming;
+mod new_names;
+mod numbers;
+mod order;
+mod proposal;
+mod slots;
+mod staying;
+mod uses;
+
+pub use good_names::{is_ascii_identifier, is_reserved};
+pub use name_set::NameSet;
+pub use new_names::NewNames;
+pub use proposal::proposed;

@@ -1,0 +1,13 @@
+pub mod Pairs
+pub mod RenamedSymbols
+pub mod SizesBelow
+pub mod AnyOf
+pub mod PredicateNames
+pub mod SeenSteps
+pub mod Withs
+pub mod Barred
+pub mod NamedChildren
+pub mod SeenSets
+pub mod Changes
+pub mod Identified
+pub mod Mangles

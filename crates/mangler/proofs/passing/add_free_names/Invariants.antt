@@ -1,0 +1,8 @@
+use Rattle.std.proofs.Common.{◌≡◌, ◌||◌, ℕ, List, bytes_eq}
+use Rattle.std.specs.List.{list_any}
+use Rattle.mangler.proofs.Barred.{any_free}
+use Rattle.mangler.proofs.passing.add_free_names.Given as goal
+
+-- with those that are left, all free names are there
+abbrev pub invariant-loop-name : goal.invariant-loop-name
+invariant-loop-name l = (q : List ℕ) → (list_any (bytes_eq q) l.names || any_free q l.name-iterator) ≡ (list_any (bytes_eq q) l.fn.names || any_free q l.scoping.free)

@@ -1,0 +1,13 @@
+use Rattle.std.proofs.Common.{◌<◌, ◌||◌, ◌&&◌, not, bytes_eq, length, ap, ◌∙◌, arith}
+use Rattle.std.specs.List.{list_any}
+use Rattle.semantic_syntax.specs.Reading.{symbol_of}
+use Rattle.mangler.specs.Passing.{at}
+use Rattle.mangler.proofs.Barred.{kept_turn}
+use Rattle.mangler.proofs.passing.add_kept_names.Goals as goal
+
+pub loop-number-preserved : goal.loop-number-preserved
+loop-number-preserved c = λ q.
+    let within : c.loop-number.number < length c.args.scoping.now.symbols = omega arith in
+    kept_turn (at c.args.may.now) q c.args.scoping.now.symbols c.loop-number.number c.loop-number.names c.add_kept_name.new.names _ within
+    (c.in_ok-add_kept_name.ensures q ∙ ap (λ n. list_any (bytes_eq q) c.loop-number.names || (not (at c.args.may.now n) && bytes_eq q (symbol_of c.args.scoping.now n).name)) c.new.ensures)
+    (c.loop-number.invariant q)

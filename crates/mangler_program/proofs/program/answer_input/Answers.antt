@@ -1,0 +1,20 @@
+use Rattle.std.proofs.Common.{refl, inl}
+use Rattle.program_ends.specs.Meaning.{Finds}
+use Rattle.program_ends.specs.Reads.{Stands}
+use Rattle.program_ends.proofs.Answering.{ends_unfound, unfound_no_refusal, gives_ends, gives_no_refusal}
+use Rattle.mangler.specs.Changing.{options_of}
+use Rattle.mangler_program.specs.Codes.{end_of}
+use Rattle.mangler_program.specs.Meaning.{Answers}
+use Rattle.mangler_program.proofs.program.answer_input.Goals as goal
+
+pub returns-in_err-program-clause-ends : goal.returns-in_err-program-clause-ends
+returns-in_err-program-clause-ends g c = ends_unfound end_of (Unit {0}) (Finds Stands) (Answers (options_of c.args.options)) _ _ c.in_err-program.field-0.0 c.from_residual.result tt refl c.in_err-program.ensures.stopped c.from_residual.ensures.1
+
+pub returns-in_err-program-clause-complete : goal.returns-in_err-program-clause-complete
+returns-in_err-program-clause-complete g c = λ input program told stands. unfound_no_refusal c.in_err-program.field-0.0 c.from_residual.result (c.in_err-program.ensures.complete input program told stands) c.from_residual.ensures.1
+
+pub returns-clause-ends : goal.returns-clause-ends
+returns-clause-ends g c = gives_ends g.K.Sink.held g.K.Sink.faults end_of (Answers (options_of c.args.options)) c.in_ok-program.program (Unit {0}) (Finds Stands) _ _ _ c.answer-answered.result (inl tt) c.in_ok-program.ensures.found c.answer-answered.ensures
+
+pub returns-clause-complete : goal.returns-clause-complete
+returns-clause-complete g c = λ input program told stands. gives_no_refusal g.K.Sink.held g.K.Sink.faults end_of (Answers (options_of c.args.options)) c.in_ok-program.program _ _ c.answer-answered.result c.answer-answered.ensures

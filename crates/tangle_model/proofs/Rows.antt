@@ -1,0 +1,117 @@
+-- What the definitions give for small programs, by computation.
+use lib.Utf8.{encode}
+use Rattle.std.specs.Str.{chars}
+use Rattle.std.proofs.Common.{◌≡◌, [], ◌∷◌, refl}
+use Rattle.tangle_model.specs.Tangled.{tangles}
+use Rattle.tangle_model.specs.declared.reason.Reason.TheVariants.{BlockFunction, CatchVariable, Arguments, With, Eval, FreeNamesake, MergedMember}
+use Rattle.tangle_model.proofs.Programs.{two_blocks, one_block, two_homes, strict_blocks, special_blocks, block_and_var, if_and_parameter, block_and_own_name, case_and_let, block_and_catch, top_functions, var_in_catch, var_beside_catch, var_arguments, reads_arguments, reference_in_with, var_in_with, with_eval, free_type, free_in_javascript, merged_namespaces, merged_enums}
+
+-- two block functions of one home
+row_two_blocks : tangles two_blocks ≡ record { symbol = 0; reasons = BlockFunction ∷ [] } ∷ []
+unfolding encode chars
+row_two_blocks = refl
+
+-- one alone
+row_one_block : tangles one_block ≡ []
+unfolding encode chars
+row_one_block = refl
+
+-- homes of their own
+row_two_homes : tangles two_homes ≡ []
+unfolding encode chars
+row_two_homes = refl
+
+-- strict code
+row_strict_blocks : tangles strict_blocks ≡ []
+unfolding encode chars
+row_strict_blocks = refl
+
+-- an `async` function and a generator
+row_special_blocks : tangles special_blocks ≡ []
+unfolding encode chars
+row_special_blocks = refl
+
+-- with a `var`
+row_block_and_var : tangles block_and_var ≡ record { symbol = 0; reasons = BlockFunction ∷ [] } ∷ []
+unfolding encode chars
+row_block_and_var = refl
+
+-- the body of an `if`, with a parameter
+row_if_and_parameter : tangles if_and_parameter ≡ record { symbol = 1; reasons = BlockFunction ∷ [] } ∷ []
+unfolding encode chars
+row_if_and_parameter = refl
+
+-- with the name of the function around
+row_block_and_own_name : tangles block_and_own_name ≡ record { symbol = 0; reasons = BlockFunction ∷ [] } ∷ []
+unfolding encode chars
+row_block_and_own_name = refl
+
+-- in a case, with a variable of a loop
+row_case_and_let : tangles case_and_let ≡ record { symbol = 0; reasons = BlockFunction ∷ [] } ∷ []
+unfolding encode chars
+row_case_and_let = refl
+
+-- with a catch name
+row_block_and_catch : tangles block_and_catch ≡ record { symbol = 0; reasons = BlockFunction ∷ [] } ∷ []
+unfolding encode chars
+row_block_and_catch = refl
+
+-- no block
+row_top_functions : tangles top_functions ≡ []
+unfolding encode chars
+row_top_functions = refl
+
+-- a `var` of the catch parameter
+row_var_in_catch : tangles var_in_catch ≡ record { symbol = 0; reasons = CatchVariable ∷ [] } ∷ []
+unfolding encode chars
+row_var_in_catch = refl
+
+-- a `var` that stands beside the clause, and one in a function in it
+row_var_beside_catch : tangles var_beside_catch ≡ []
+unfolding encode chars
+row_var_beside_catch = refl
+
+-- `arguments` declared
+row_var_arguments : tangles var_arguments ≡ record { symbol = 1; reasons = Arguments ∷ [] } ∷ []
+unfolding encode chars
+row_var_arguments = refl
+
+-- used only
+row_reads_arguments : tangles reads_arguments ≡ []
+unfolding encode chars
+row_reads_arguments = refl
+
+-- a reference in a `with`
+row_reference_in_with : tangles reference_in_with ≡ record { symbol = 0; reasons = With ∷ [] } ∷ []
+unfolding encode chars
+row_reference_in_with = refl
+
+-- a `var` there
+row_var_in_with : tangles var_in_with ≡ record { symbol = 0; reasons = With ∷ [] } ∷ []
+unfolding encode chars
+row_var_in_with = refl
+
+-- a direct call of `eval`
+row_with_eval : tangles with_eval ≡ record { symbol = 0; reasons = Eval ∷ [] } ∷ record { symbol = 1; reasons = Eval ∷ [] } ∷ record { symbol = 2; reasons = Eval ∷ [] } ∷ []
+unfolding encode chars
+row_with_eval = refl
+
+-- a qualified name, in TypeScript
+row_free_type : tangles free_type ≡ record { symbol = 0; reasons = FreeNamesake ∷ [] } ∷ record { symbol = 1; reasons = FreeNamesake ∷ [] } ∷ []
+unfolding encode chars
+row_free_type = refl
+
+-- a free name is no reason in JavaScript
+row_free_in_javascript : tangles free_in_javascript ≡ []
+unfolding encode chars
+row_free_in_javascript = refl
+
+-- a namespace that is declared twice
+row_merged_namespaces : tangles merged_namespaces ≡ record { symbol = 1; reasons = FreeNamesake ∷ MergedMember ∷ [] } ∷ []
+unfolding encode chars
+row_merged_namespaces = refl
+
+-- an enum
+row_merged_enums : tangles merged_enums ≡ record { symbol = 1; reasons = MergedMember ∷ [] } ∷ record { symbol = 2; reasons = MergedMember ∷ [] } ∷ []
+unfolding encode chars
+row_merged_enums = refl

@@ -1,0 +1,4 @@
+pub mod Surroundings
+pub mod Mention
+pub mod Repeated
+pub mod Tangled

@@ -1,0 +1,20 @@
+//! Why a name is tangled.
+
+/// Why the ties of a name may part from the language's.
+#[derive(Clone, Copy, PartialEq, Eq, Debug)]
+pub enum Reason {
+    /// A function in a block of sloppy code shares its home with another declaration of the name.
+    BlockFunction,
+    /// A `var` stands in a catch clause whose home has a catch parameter of the name.
+    CatchVariable,
+    /// It is `arguments`, which functions bind without a declaration.
+    Arguments,
+    /// The name stands in a `with`.
+    With,
+    /// A direct call of `eval` may name it.
+    Eval,
+    /// In TypeScript, a reference of the name is free.
+    FreeNamesake,
+    /// In TypeScript, a namespace, enum or module that is declared more than once binds it.
+    MergedMember,
+}

@@ -1,0 +1,27 @@
+-- What is known of the names of a program by sets.
+use Rattle.std.specs.Prelude.{◌≡◌, Bool, ◌&&◌, List, codes, bytes_eq}
+use Rattle.std.specs.Map.{lookup}
+use Rattle.std.specs.Option.{is_some}
+use Rattle.semantic_syntax.specs.SourceTypes.{is_typescript}
+use Rattle.semantic_syntax.specs.Tables.{Name, Tables}
+use Rattle.semantic_syntax.specs.declared.source_type.SourceType.{SourceType}
+use Rattle.tangle_model.specs.Mention.{Mention}
+use Rattle.tangle_model.specs.Tangled.{holds_in}
+use Rattle.tangle_model.specs.declared.reason.Reason.{Reason}
+use Rattle.tangle_model.specs.declared.reason.Reason.TheVariants as reason
+use Rattle.tangled_names.specs.Stored.{has_name}
+use Rattle.tangled_names.specs.declared.facts.NameFacts.{NameFacts}
+
+-- what the sets tell of a name, in a source of the type with these tables
+abbrev pub told : NameFacts → SourceType → Tables → Reason → Name → Bool
+told f s t reason.BlockFunction name = has_name f.block_functions name
+told f s t reason.CatchVariable name = has_name f.catch_variables name
+told f s t reason.Arguments name = bytes_eq name (codes "arguments")
+told f s t reason.With name = has_name f.in_with name
+told f s t reason.Eval name = has_name f.seen_by_eval name
+told f s t reason.FreeNamesake name = is_typescript s && is_some (lookup (bytes_eq name) t.free)
+told f s t reason.MergedMember name = has_name f.merged name
+
+-- they tell what holds
+abbrev pub Tells : NameFacts → SourceType → List Mention → Tables → Type 0
+Tells f s ms t = (r : Reason) (name : Name) → told f s t r name ≡ holds_in s ms t r name

@@ -1,0 +1,4 @@
+pub mod Gathered
+pub mod Stored
+pub mod Facts
+pub mod Found

@@ -1,0 +1,175 @@
+//! What is known of the names of a program: for which of them each reason holds.
+ghost use Rattle.std.specs.Prelude.{◌≡◌, ◌&&◌, ℕ, map, IfOk};
+ghost use Rattle.semantic_syntax.specs.Members.{contains};
+ghost use Rattle.semantic_syntax.specs.Reading.{scope_of};
+ghost use Rattle.semantic_syntax.specs.Tables.{Name, Symbol};
+ghost use Rattle.tangle_model.specs.Repeated.{is_of, key_of, stands};
+ghost use Rattle.tangle_model.specs.Tangled.{any_mention, any_symbol, is_seen_by_eval, is_merged_member, is_in_with, meets_declaration, meets_catch_name};
+ghost use Rattle.tangled_names.specs.Gathered.{noted_of};
+ghost use Rattle.tangled_names.specs.Stored.{has_name, node_key, openers_by};
+
+use crate::key_set::KeySet;
+use crate::mention::{Mention, is_of};
+use crate::repeated::{noted_keys, repeated_keys};
+use crate::scope_questions::{is_bound_by, is_seen_by_eval};
+use scoping::Scoping;
+use semantic_syntax::SymbolId;
+use std::alloc::{AllocError, Global};
+use tangle_model::What;
+
+/// The names for which each reason holds that is not seen from a name alone.
+#[derive(Drop)]
+pub struct NameFacts<'a> {
+    pub(crate) block_functions: KeySet<'a>,
+    pub(crate) catch_variables: KeySet<'a>,
+    pub(crate) in_with: KeySet<'a>,
+    pub(crate) seen_by_eval: KeySet<'a>,
+    pub(crate) merged: KeySet<'a>,
+}
+
+/// Whether that is what is noted, and its name is among the keys at its home.
+fn is_among(mention: &Mention<'_>, what: What, keys: &KeySet<'_>) -> bool
+    ensures { result ≡ (is_of what (noted_of mention.now) && stands (key_of (noted_of mention.now)) keys.now) }
+{
+    is_of(mention, what) && keys.has_key(mention)
+}
+
+/// The names of what is noted as that, where they are among the keys at their homes.
+fn names_among<'a>(
+    alloc: Global,
+    mentions: &[Mention<'a>],
+    what: What,
+    keys: &KeySet<'_>,
+) -> Result<KeySet<'a>, AllocError>
+    ensures { IfOk result (λ names. (name : Name) → has_name names name ≡ any_mention (λ m. is_of what m && stands (key_of m) keys.now) (map noted_of mentions.now) name) }
+{
+    let mut names = KeySet::new(alloc);
+    for mention in mentions {
+        let is = is_among(mention, what, keys);
+        names.add_name_if(is, mention.name.as_str())?;
+    }
+    Ok(names)
+}
+
+/// The names of what is noted as that.
+fn noted_names<'a>(
+    alloc: Global,
+    mentions: &[Mention<'a>],
+    what: What,
+) -> Result<KeySet<'a>, AllocError>
+    ensures { IfOk result (λ names. (name : Name) → has_name names name ≡ any_mention (is_of what) (map noted_of mentions.now) name) }
+{
+    let mut names = KeySet::new(alloc);
+    for mention in mentions {
+        let is = is_of(mention, what);
+        names.add_name_if(is, mention.name.as_str())?;
+    }
+    Ok(names)
+}
+
+/// The nodes that open the scopes of blocks, where their names are among the keys.
+fn openers_among<'a>(
+    alloc: Global,
+    mentions: &[Mention<'a>],
+    keys: &KeySet<'_>,
+) -> Result<KeySet<'a>, AllocError>
+    ensures { IfOk result (λ openers. (n : ℕ) → stands (node_key n) openers ≡ contains (openers_by keys.now (map noted_of mentions.now)) n) }
+{
+    let mut openers = KeySet::new(alloc);
+    for mention in mentions {
+        let is = is_among(mention, What::Block, keys);
+        openers.add_node_if(is, mention.home)?;
+    }
+    Ok(openers)
+}
+
+/// The names of symbols that a direct call of `eval` may name.
+fn eval_names(alloc: Global, scoping: &Scoping) -> Result<KeySet<'_>, AllocError>
+    ensures { IfOk result (λ names. (name : Name) → has_name names name ≡ any_symbol (is_seen_by_eval scoping.now) scoping.now.symbols name) }
+{
+    let mut names = KeySet::new(alloc);
+    let count = scoping.symbols_len() as u32;
+    for number in 0..count {
+        let symbol = SymbolId::new(number);
+        let is = is_seen_by_eval(scoping, symbol);
+        names.add_name_if(is, scoping.symbol_name(symbol))?;
+    }
+    Ok(names)
+}
+
+/// The names of symbols whose scopes the nodes open.
+fn member_names<'a>(
+    alloc: Global,
+    scoping: &'a Scoping,
+    openers: &KeySet<'_>,
+) -> Result<KeySet<'a>, AllocError>
+    ensures { IfOk result (λ names. (name : Name) → has_name names name ≡ any_symbol (λ (y : Symbol). stands (node_key (scope_of scoping.now y.scope).node) openers.now) scoping.now.symbols name) }
+{
+    let mut names = KeySet::new(alloc);
+    let count = scoping.symbols_len() as u32;
+    for number in 0..count {
+        let symbol = SymbolId::new(number);
+        let is = is_bound_by(scoping, openers, symbol);
+        names.add_name_if(is, scoping.symbol_name(symbol))?;
+    }
+    Ok(names)
+}
+
+/// The names of block functions that meet another declaration.
+fn block_functions<'a>(alloc: Global, mentions: &[Mention<'a>]) -> Result<KeySet<'a>, AllocError>
+    ensures { IfOk result (λ names. (name : Name) → has_name names name ≡ any_mention (meets_declaration (map noted_of mentions.now)) (map noted_of mentions.now) name) }
+{
+    let repeated = repeated_keys(alloc, mentions, What::Declaration)?;
+    names_among(alloc, mentions, What::BlockFunction, &repeated)
+}
+
+/// The names of `var` in catch clauses that meet a catch name.
+fn catch_variables<'a>(alloc: Global, mentions: &[Mention<'a>]) -> Result<KeySet<'a>, AllocError>
+    ensures { IfOk result (λ names. (name : Name) → has_name names name ≡ any_mention (meets_catch_name (map noted_of mentions.now)) (map noted_of mentions.now) name) }
+{
+    let caught = noted_keys(alloc, mentions, What::CatchName)?;
+    names_among(alloc, mentions, What::VarInCatch, &caught)
+}
+
+/// The names of members of blocks that are declared more than once.
+fn merged_members<'a>(
+    alloc: Global,
+    mentions: &[Mention<'a>],
+    scoping: &'a Scoping,
+) -> Result<KeySet<'a>, AllocError>
+    ensures { IfOk result (λ names. (name : Name) → has_name names name ≡ any_symbol (is_merged_member (map noted_of mentions.now) scoping.now) scoping.now.symbols name) }
+{
+    let repeated = repeated_keys(alloc, mentions, What::Block)?;
+    let openers = openers_among(alloc, mentions, &repeated)?;
+    let names = member_names(alloc, scoping, &openers)?;
+    Ok(names)
+}
+
+impl<'a> NameFacts<'a> {
+    /// What is known of the names of a program, where this is noted in it and these are its tables. The only error is
+    /// want of memory.
+    pub fn of(
+        alloc: Global,
+        mentions: &[Mention<'a>],
+        scoping: &'a Scoping,
+    ) -> Result<NameFacts<'a>, AllocError>
+        ensures block_functions { IfOk result (λ f. (name : Name) → has_name f.block_functions name ≡ any_mention (meets_declaration (map noted_of mentions.now)) (map noted_of mentions.now) name) }
+        ensures catch_variables { IfOk result (λ f. (name : Name) → has_name f.catch_variables name ≡ any_mention (meets_catch_name (map noted_of mentions.now)) (map noted_of mentions.now) name) }
+        ensures in_with { IfOk result (λ f. (name : Name) → has_name f.in_with name ≡ any_mention is_in_with (map noted_of mentions.now) name) }
+        ensures seen_by_eval { IfOk result (λ f. (name : Name) → has_name f.seen_by_eval name ≡ any_symbol (is_seen_by_eval scoping.now) scoping.now.symbols name) }
+        ensures merged { IfOk result (λ f. (name : Name) → has_name f.merged name ≡ any_symbol (is_merged_member (map noted_of mentions.now) scoping.now) scoping.now.symbols name) }
+    {
+        let block_functions = block_functions(alloc, mentions)?;
+        let catch_variables = catch_variables(alloc, mentions)?;
+        let in_with = noted_names(alloc, mentions, What::InWith)?;
+        let seen_by_eval = eval_names(alloc, scoping)?;
+        let merged = merged_members(alloc, mentions, scoping)?;
+        Ok(NameFacts {
+            block_functions,
+            catch_variables,
+            in_with,
+            seen_by_eval,
+            merged,
+        })
+    }
+}

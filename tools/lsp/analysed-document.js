@@ -1,0 +1,93 @@
+'use strict';
+// A text with all that is known of it. Each part is made when it is first asked for, and kept until the text changes.
+
+const { explain } = require('../analyse/analysis.js');
+const { checkSize } = require('../analyse/files.js');
+const { RefusedTree, answered } = require('../analyse/program.js');
+const { parseReport } = require('../analyse/report-parser.js');
+const { Refusal } = require('../analyse/refusal.js');
+const { convertText } = require('../analyse/tree.js');
+const { Answers } = require('../check/answers.js');
+const { Analysed, LONE_HALF } = require('../rename/analysed.js');
+const { Names } = require('./names.js');
+const { Places } = require('./places.js');
+const { runBeside } = require('./programs.js');
+
+// What is asked of each program, as bolgwyr check asks it.
+const WORDS = { report: ['--check'], name_lint: [] };
+
+function sound(tree, tool, run) {
+  try {
+    return answered(tool, run).stdout.toString('utf8');
+  } catch (error) {
+    throw error instanceof RefusedTree ? explain(error.refusal, tree) : error;
+  }
+}
+
+class AnalysedDocument {
+  constructor({ uri, version, name, text }, { encoding }) {
+    Object.assign(this, { uri, version, name, text });
+    this.places = new Places(text, encoding);
+    this.clock = {};
+    this.kept = new Map();
+  }
+
+  once(name, make) {
+    if (!this.kept.has(name)) {
+      this.kept.set(name, make());
+    }
+    return this.kept.get(name);
+  }
+
+  // The milliseconds of a part are noted by its name.
+  timed(name, make) {
+    const started = performance.now();
+    const made = make();
+    this.clock[name] = performance.now() - started;
+    return made;
+  }
+
+  // The parts that took time since it was asked before, in words, or null.
+  timesOnce() {
+    const words = Object.entries(this.clock).map(([name, time]) => `${name} ${Math.round(time)} ms`).join(', ');
+    this.clock = {};
+    return words === '' ? null : words;
+  }
+
+  // Tree and answers of the programs; a Refusal for a text that has none.
+  ready() {
+    return this.once('ready', () => this.make());
+  }
+
+  async make() {
+    const { text, name, clock } = this;
+    if (LONE_HALF.test(text)) {
+      throw new Refusal('half of a character can\'t be written as UTF-8');
+    }
+    const tree = convertText(text, { file: name, clock });
+    checkSize(tree.json.length, 'its tree');
+    const started = performance.now();
+    const tools = Object.keys(WORDS);
+    const runs = await Promise.all(tools.map((tool) => runBeside(tool, WORDS[tool], tree.json)));
+    clock.programs = performance.now() - started;
+    const [report, names] = tools.map((tool, at) => sound(tree, tool, runs[at]));
+    return new Answers({ text, tree, names, report });
+  }
+
+  // The tables, as the renamer takes them.
+  async analysed() {
+    const { tree, reportText, positions } = await this.ready();
+    return this.once('analysed', () => this.timed('tables', () => {
+      const report = parseReport(reportText);
+      return new Analysed({ source: this.text, options: { filename: this.name }, json: tree.json, tree: tree.value, report, positions });
+    }));
+  }
+
+  // The variables' names, by their places.
+  async names() {
+    const analysed = await this.analysed();
+    return this.once('names', () => new Names(analysed));
+  }
+}
+
+module.exports = { AnalysedDocument };
