@@ -41,6 +41,6 @@ try tools/test-check.sh
 try node tools/test-rename.js
 try node tools/test-link.js
 try tools/test-install.sh
-[ ! -x tools/test-lsp.sh ] || try tools/test-lsp.sh
+try node tools/test-lsp.js
 try node tools/doc-examples/main.js
 exit $failed

@@ -9,6 +9,9 @@ const { ResponseFault } = require('./faults.js');
 
 const WORKER = path.join(__dirname, 'worker.js');
 
+// What is asked when no question waits.
+const LATER = ['diagnostics', 'tables'];
+
 // A thread that dies is started again, but not for ever.
 const MOST_DEATHS = 5;
 
@@ -18,7 +21,7 @@ class Analyst {
     Object.assign(this, { documents, client, told, lost, log });
     this.deaths = 0;
     this.waiting = new Map(); // questions by their keys, in order
-    this.due = new Map(); // what is asked of documents when nobody waits, by URI
+    this.due = new Map(); // what is asked of documents when nobody waits, by method and URI
     this.running = null;
     this.start();
   }
@@ -61,7 +64,8 @@ class Analyst {
 
   // Asks on a document once no question waits; the answer is told with the version of the document, unless it has changed.
   askLater(uri, method, answered) {
-    this.due.set(uri, { uri, method, answered });
+    const key = `${method} ${uri}`;
+    this.due.set(key, { key, uri, method, answered });
     this.next();
   }
 
@@ -75,7 +79,7 @@ class Analyst {
     if (later === undefined) {
       return null;
     }
-    this.due.delete(later.uri);
+    this.due.delete(later.key);
     const { revision, version } = this.documents.get(later.uri);
     return { ...later, revision, params: {}, resolve: (result) => later.answered(result, version), reject: (fault) => this.log(fault.message) };
   }
@@ -139,7 +143,7 @@ class Analyst {
   }
 
   changed(uri) {
-    this.due.delete(uri);
+    LATER.forEach((method) => this.due.delete(`${method} ${uri}`));
     this.drop((job) => job.uri === uri, 'contentModified', 'the document has changed since it was asked');
   }
 

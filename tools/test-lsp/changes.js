@@ -155,7 +155,10 @@ async function trySettings(folder, client) {
   fs.rmSync(settings);
   editor.change({ text: '// bolgwyr-ignore-next-line\nlet lone4;\n/* global known */ known(other);\n' });
   expect('comments', await editor.found(), ["2:25-2:30 1 no-undeclared: 'other' is not declared"]);
+  fs.writeFileSync(settings, '{ "globals": { "other": "readonly" } }');
+  client.messages.length = 0;
   client.notify('textDocument/didSave', { textDocument: { uri } });
+  expect('settings that were changed, after saving', await editor.found(), []);
 }
 
 // Documents that are no files, and texts that have no tables.
