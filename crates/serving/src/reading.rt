@@ -22,11 +22,7 @@ pub struct Request {
 }
 
 /// Reads so many bytes, or all that are left where these are fewer. Some are gone from the source after a fault.
-fn read_up_to<S: Source>(
-    alloc: Global,
-    count: usize,
-    source: &mut S,
-) -> Result<Vec<u8>, ServeFault>
+fn read_up_to<S: Source>(alloc: Global, count: usize, source: &mut S) -> Result<Vec<u8>, ServeFault>
     ensures read { IfOk result (λ bytes. ReadUpTo count (S.left source.old) (S.left source.new) bytes.items) }
     ensures cause { IfErr result (ReadCause (Rose (S.faults source.old) (S.faults source.new)) ⊥) }
     ensures later { S.faults source.old ≤ S.faults source.new }
@@ -105,10 +101,7 @@ fn read_behind<S: Source>(
 }
 
 /// Reads a request, if anything is left.
-pub fn read_request<S: Source>(
-    alloc: Global,
-    source: &mut S,
-) -> Result<Option<Request>, ServeFault>
+pub fn read_request<S: Source>(alloc: Global, source: &mut S) -> Result<Option<Request>, ServeFault>
     ensures read { IfOk result (MayBeRead (S.left source.old) (S.left source.new)) }
     ensures cause { IfErr result (ReadCause (Rose (S.faults source.old) (S.faults source.new)) (IsCut (S.left source.old) (S.left source.new))) }
     ensures later { S.faults source.old ≤ S.faults source.new }

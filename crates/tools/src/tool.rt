@@ -4,15 +4,18 @@ ghost use Rattle.program_ends.specs.Calls.{source_call, sink_call};
 ghost use Rattle.tools.specs.Named.{tool_named};
 ghost use Rattle.tools.specs.Runs.{IsRunOf};
 
+use mangler_program::run_mangle;
 use module_linker::run_link;
 use name_lint::run_names;
 use renamer::run_rename;
 use report::run;
 use report_ends::{Sink, Source};
 use std::alloc::Global;
+use tangle_lint::run_tangled;
 
 /// The line on a first word that names no tool.
-pub const USAGE: &str = "usage: report|renamer|name_lint|module_linker [WORD ..]\n";
+pub const USAGE: &str =
+    "usage: report|renamer|mangler|name_lint|tangled_names|module_linker [WORD ..]\n";
 
 /// A tool.
 #[derive(Clone, Copy, Debug, PartialEq, Eq)]
@@ -21,8 +24,12 @@ pub enum Tool {
     Report,
     /// Renames a symbol.
     Renamer,
+    /// Gives symbols short names.
+    Mangler,
     /// Tells names that nothing uses, and names that nobody declares.
     NameLint,
+    /// Tells names for which tables may part from the language.
+    TangledNames,
     /// Tells what the imports of modules come to.
     ModuleLinker,
 }
@@ -36,8 +43,12 @@ impl Tool {
             Some(Tool::Report)
         } else if name == "renamer" {
             Some(Tool::Renamer)
+        } else if name == "mangler" {
+            Some(Tool::Mangler)
         } else if name == "name_lint" {
             Some(Tool::NameLint)
+        } else if name == "tangled_names" {
+            Some(Tool::TangledNames)
         } else if name == "module_linker" {
             Some(Tool::ModuleLinker)
         } else {
@@ -60,7 +71,9 @@ impl Tool {
         match self {
             Tool::Report => run(alloc, words, source, out, errs).code(),
             Tool::Renamer => run_rename(alloc, words, source, out, errs).code(),
+            Tool::Mangler => run_mangle(alloc, words, source, out, errs).code(),
             Tool::NameLint => run_names(alloc, words, source, out, errs).code(),
+            Tool::TangledNames => run_tangled(alloc, words, source, out, errs).code(),
             Tool::ModuleLinker => run_link(alloc, words, source, out, errs).code(),
         }
     }

@@ -13,7 +13,7 @@ pub returns-in_err-input-clause-cause : goal.returns-in_err-input-clause-cause
 returns-in_err-input-clause-cause g c =
     let number = subst (NumberRead _ _) c.in-Some.is c.in_ok-input_length.ensures.read in
     stopped_behind _ _ _ (number.0 ++ c.in_ok-text.text.items) _ _ _ c.in_err-input.field-0.0 c.from_residual-in_err-input.result
-        (Consumes-trans _ _ _ number.0 c.in_ok-text.text.items number.2 c.in_ok-text.ensures.read.read) (omega (arith, c.read_number.ensures.later, c.in_ok-text.ensures.later)) c.in_err-input.ensures.cause c.from_residual-in_err-input.ensures.1
+    (Consumes-trans _ _ _ number.0 c.in_ok-text.text.items number.2 c.in_ok-text.ensures.read.read) (omega (arith, c.read_number.ensures.later, c.in_ok-text.ensures.later)) c.in_err-input.ensures.cause c.from_residual-in_err-input.ensures.1
 
 pub returns-clause-read : goal.returns-clause-read
 returns-clause-read g c = behind _ _ _ _ _ _ _ _ (subst (NumberRead _ _) c.in-Some.is c.in_ok-input_length.ensures.read) c.in_ok-text.ensures.read c.in_ok-input.ensures.read
