@@ -40,6 +40,7 @@ try bin/bolgwyr check samples/source/prices.js
 try tools/test-check.sh
 try node tools/test-rename.js
 try node tools/test-link.js
+try node tools/test-mangle.js
 try tools/test-install.sh
 [ ! -x tools/test-lsp.sh ] || try tools/test-lsp.sh
 try node tools/doc-examples/main.js
