@@ -32,10 +32,10 @@ function put(file, before, { text, map }, target) {
   if (done.map !== undefined) {
     putFile(done.mapFile, done.map);
   }
-  if (target === file) {
-    writeFiles([{ file, before, after: done.text }]);
-  } else {
+  if (target !== file) {
     putFile(target, done.text);
+  } else if (done.text !== before) {
+    writeFiles([{ file, before, after: done.text }]);
   }
 }
 
