@@ -203,3 +203,4 @@ export interface LinkAnswer {
 export function link(entries: string[], options?: LinkOptions): LinkAnswer;
 
 export * from './tools/rename/index';
+export * from './tools/mangle/index';

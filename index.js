@@ -7,6 +7,7 @@ module.exports = {
   get rename() { return require('./tools/rename/index.js').rename; },
   get renameInProject() { return require('./tools/rename/index.js').renameInProject; },
   get RenameRefusal() { return require('./tools/rename/index.js').RenameRefusal; },
+  get mangle() { return require('./tools/mangle/index.js').mangle; },
   get link() { return require('./tools/link/index.js').link; },
   get Refusal() { return require('./tools/analyse/refusal.js').Refusal; },
 };

@@ -38,8 +38,10 @@ try tools/test-sources.sh --list tools/test-sources.list
 try tools/test-programs.sh
 try bin/bolgwyr check samples/source/prices.js
 try tools/test-check.sh
+try node tools/test-serve.js
 try node tools/test-rename.js
 try node tools/test-link.js
+try node tools/test-mangle.js
 try tools/test-install.sh
 try node tools/test-lsp.js
 try node tools/doc-examples/main.js

@@ -10,6 +10,7 @@ const { RunFault } = require('../bolgwyr/faults.js');
 const TOOLS = {
   report: { crate: 'report_main', words: [] },
   renamer: { crate: 'tools_main', words: ['renamer'] },
+  mangler: { crate: 'tools_main', words: ['mangler'] },
   name_lint: { crate: 'tools_main', words: ['name_lint'] },
   module_linker: { crate: 'tools_main', words: ['module_linker'] },
 };

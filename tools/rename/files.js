@@ -96,4 +96,4 @@ function writeFiles(changes) {
   replaceAll(writeAllBeside(changes));
 }
 
-module.exports = { textOf, writeFiles };
+module.exports = { checkWritable, textOf, writeFiles };

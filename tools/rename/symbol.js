@@ -148,4 +148,4 @@ function renameSpecifiers(analysis, specifiers, name) {
   return placing(analysis, () => ({ ...renamedText(analysis, wantedTree(analysis, null, name, options), name, options), warnings: [] }));
 }
 
-module.exports = { renameSpecifiers, renameSymbol };
+module.exports = { changedText, placing, refuseNewErrors, renameSpecifiers, renameSymbol };

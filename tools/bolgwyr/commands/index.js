@@ -9,6 +9,7 @@ const COMMANDS = [
   { name: 'check', add: lazily('./check.js') },
   { name: 'rename', add: lazily('./rename.js') },
   { name: 'link', add: lazily('./link.js') },
+  { name: 'mangle', add: lazily('./mangle.js') },
   { name: 'lsp', add: lazily('./lsp.js') },
   { name: 'tables', add: lazily('./tables.js') },
   { name: 'scopes', add: lazily('./scopes.js') },
