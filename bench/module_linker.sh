@@ -1,7 +1,7 @@
 #!/bin/sh
 # How the time of the module linker grows with a set of modules: for each family, how long the program takes on n and on 4n
 # modules. Wanted: at most 6 times as long for 4 times as many. The time is the processor's, the least of three runs. The
-# program is bin/module_linker, which is proved and built first if need be, or the one that is given; it needs python3.
+# program is bin/module_linker, which is built first if need be, or the one that is given; it needs python3.
 # usage: bench/module_linker.sh [PROGRAM [N]]
 set -eu
 cd "$(dirname "$0")/.."

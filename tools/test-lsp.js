@@ -87,7 +87,7 @@ async function tellAll(client, folder) {
 async function tryWords() {
   const asked = Object.keys(ANSWERS).filter((method) => method.includes('/')).sort();
   expect('methods and answers', asked, Object.keys(METHODS).sort());
-  const unknown = new Client(['--socket']);
+  const unknown = new Client(['--socket'], { stderr: 'ignore' });
   expect('an unknown word', await unknown.ended, 2);
 }
 

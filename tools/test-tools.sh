@@ -42,6 +42,6 @@ try node tools/test-rename.js
 try node tools/test-link.js
 try node tools/test-mangle.js
 try tools/test-install.sh
-[ ! -x tools/test-lsp.sh ] || try tools/test-lsp.sh
+try node tools/test-lsp.js
 try node tools/doc-examples/main.js
 exit $failed

@@ -7,7 +7,7 @@ const { load } = require('../source-to-tree/load.js');
 const { sourcesOf } = require('../check/sources.js');
 const { KINDS, UNKNOWN, kindOf } = require('./kinds.js');
 
-const ENVIRONMENTS = ['node', 'browser', 'amd', 'mocha'];
+const ENVIRONMENTS = ['node', 'browser', 'amd'];
 const RULES = { 'no-unused-vars': 'no-unused', 'no-undef': 'no-undeclared' };
 
 // Names with a sign before them are told here, too, and no comment silences ESLint.

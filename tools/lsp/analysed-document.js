@@ -5,9 +5,10 @@ const { explain } = require('../analyse/analysis.js');
 const { checkSize } = require('../analyse/files.js');
 const { RefusedTree, answered } = require('../analyse/program.js');
 const { parseReport } = require('../analyse/report-parser.js');
+const { Refusal } = require('../analyse/refusal.js');
 const { convertText } = require('../analyse/tree.js');
 const { Answers } = require('../check/answers.js');
-const { Analysed } = require('../rename/analysed.js');
+const { Analysed, LONE_HALF } = require('../rename/analysed.js');
 const { Names } = require('./names.js');
 const { Places } = require('./places.js');
 const { runBeside } = require('./programs.js');
@@ -60,6 +61,9 @@ class AnalysedDocument {
 
   async make() {
     const { text, name, clock } = this;
+    if (LONE_HALF.test(text)) {
+      throw new Refusal('half of a character can\'t be written as UTF-8');
+    }
     const tree = convertText(text, { file: name, clock });
     checkSize(tree.json.length, 'its tree');
     const started = performance.now();

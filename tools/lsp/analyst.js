@@ -9,12 +9,19 @@ const { ResponseFault } = require('./faults.js');
 
 const WORKER = path.join(__dirname, 'worker.js');
 
+// What is asked when no question waits.
+const LATER = ['diagnostics', 'tables'];
+
+// A thread that dies is started again, but not for ever.
+const MOST_DEATHS = 5;
+
 class Analyst {
-  // `told(notice)` hears what people are to know.
-  constructor({ documents, client, told, log }) {
-    Object.assign(this, { documents, client, told, log });
+  // `told(notice)` hears what people are to know, and `lost()` that no thread stays alive.
+  constructor({ documents, client, told, lost, log }) {
+    Object.assign(this, { documents, client, told, lost, log });
+    this.deaths = 0;
     this.waiting = new Map(); // questions by their keys, in order
-    this.due = new Map(); // what is asked of documents when nobody waits, by URI
+    this.due = new Map(); // what is asked of documents when nobody waits, by method and URI
     this.running = null;
     this.start();
   }
@@ -24,16 +31,25 @@ class Analyst {
     this.worker = new Worker(WORKER, { workerData: { client: this.client }, stdout: true });
     this.worker.stdout.pipe(process.stderr);
     this.worker.on('message', (message) => this.hear(message));
-    this.worker.on('error', (error) => this.restart(error));
+    let cause = new Error('it ended by itself');
+    this.worker.on('error', (error) => { cause = error; });
+    this.worker.on('exit', () => this.restart(cause));
   }
 
   // A thread that died takes its question with it.
-  restart(error) {
-    this.log(`the thread that analyses ended: ${error.stack}`);
+  restart(cause) {
+    this.log(`the thread that analyses ended: ${cause.stack}`);
+    this.deaths += 1;
+    if (this.deaths > MOST_DEATHS) {
+      this.lost();
+      return;
+    }
     const job = this.running;
     this.running = null;
     this.start();
-    job?.reject(new ResponseFault('internalError', `the analysis ended: ${error.message}`));
+    if (job !== null && !job.isVoid) {
+      job.reject(new ResponseFault('internalError', `the analysis ended: ${cause.message}`));
+    }
     this.next();
   }
 
@@ -48,7 +64,8 @@ class Analyst {
 
   // Asks on a document once no question waits; the answer is told with the version of the document, unless it has changed.
   askLater(uri, method, answered) {
-    this.due.set(uri, { uri, method, answered });
+    const key = `${method} ${uri}`;
+    this.due.set(key, { key, uri, method, answered });
     this.next();
   }
 
@@ -62,7 +79,7 @@ class Analyst {
     if (later === undefined) {
       return null;
     }
-    this.due.delete(later.uri);
+    this.due.delete(later.key);
     const { revision, version } = this.documents.get(later.uri);
     return { ...later, revision, params: {}, resolve: (result) => later.answered(result, version), reject: (fault) => this.log(fault.message) };
   }
@@ -126,7 +143,7 @@ class Analyst {
   }
 
   changed(uri) {
-    this.due.delete(uri);
+    LATER.forEach((method) => this.due.delete(`${method} ${uri}`));
     this.drop((job) => job.uri === uri, 'contentModified', 'the document has changed since it was asked');
   }
 

@@ -59,7 +59,7 @@ class Server {
     this.client = client;
     this.documents = new Documents(client.encoding);
     const told = ({ type, message }) => this.connection.notify(SHOW, { type, message: `bolgwyr: ${message}` });
-    this.analyst = new Analyst({ documents: this.documents, client, told, log: this.log });
+    this.analyst = new Analyst({ documents: this.documents, client, told, lost: () => this.end(), log: this.log });
   }
 
   // Has a document's diagnostics published, once no key was pressed for a while.

@@ -4,7 +4,6 @@
 const { parentPort, workerData } = require('worker_threads');
 const { prepareFirst } = require('./programs.js');
 const { AnalysedDocument } = require('./analysed-document.js');
-const { ResponseFault } = require('./faults.js');
 const { faultOf } = require('./refusals.js');
 const { ANSWERS } = require('./answers/index.js');
 

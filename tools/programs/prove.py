@@ -137,7 +137,8 @@ class Crate:
 
     def finish(self):
         """Notes that the proof ended, and whether it is one."""
-        is_proved = self.running.returncode == 0 and PROVED.search(self.told()) is not None
+        self.ended_with = self.running.returncode
+        is_proved = self.ended_with == 0 and PROVED.search(self.told()) is not None
         self.running = None
         if is_proved and self.is_program:
             is_proved = self.link()
@@ -173,6 +174,11 @@ class Crate:
         """What the proof wrote."""
         self.log.seek(0)
         return self.log.read()
+
+    def cause(self):
+        """What a proof that failed wrote, and how it ended where it was killed."""
+        killed = f"rattle was ended by signal {-self.ended_with}, for want of memory perhaps" if self.ended_with < 0 else ""
+        return "\n".join(filter(None, [self.told().rstrip(), killed]))
 
 
 class Proof:
@@ -260,7 +266,7 @@ def prove(names, progress, caller):
     finally:
         proof.end()
     if failed:
-        raise Unbuilt(f"{failed.told().rstrip()}\n{proof.names}: {failed.name} can't be built")
+        raise Unbuilt(f"{failed.cause()}\n{proof.names}: {failed.name} can't be built")
     progress.say(f"{proof.names}: proved, {progress.seconds() / 60:.0f} minutes")
 
 
@@ -271,6 +277,9 @@ def main():
     words.add_argument("crates", nargs="+")
     given = words.parse_args()
     names = given.crates
+    unknown = [it for it in names if it not in Listed().named]
+    if unknown:
+        words.error(f"crates.txt has no crate {unknown[0]}")
     progress, caller = Progress(), Caller(given.with_parent)
     say_waiting = lambda: progress.say("another call proves in this repository; this one waits")
     try:
@@ -282,6 +291,9 @@ def main():
     except Ended as ended:
         progress.say(f"{' and '.join(names)}: broken off; the next call goes on from here")
         end_by(ended.number)
+    except PermissionError as error:
+        progress.say(f"{error.filename} can't be written: prove as the owner of {TOP}")
+        return 1
     except (Unbuilt, OSError) as error:
         progress.say(str(error))
         return 1

@@ -145,4 +145,4 @@ function withTables(parts) {
   return new Analysed({ ...parts, report: reportOf(parts.json) });
 }
 
-module.exports = { Analysed, analysed, declarationsOf, reportOf, withTables };
+module.exports = { Analysed, LONE_HALF, analysed, declarationsOf, reportOf, withTables };

@@ -23,6 +23,7 @@ const SYNTAX = [
   { what: 'this character in names', before: words(''), from: words('^#?(?![\\0-\\x7f])[\\p{ID_Start}\\p{ID_Continue}]') },
   { what: 'private names that begin with an escape', before: words(''), from: words('^#\\\\u'), by: ['typescript'] },
   { what: 'attributes of imports', before: words(`["']\\s*$`), from: words('^with\\s*\\{') },
+  { what: 'assertions of imports', before: words(`["'][ \\t]*$`), from: words('^assert\\s*\\{'), by: ['acorn'] },
   { what: 'attributes of imported types', before: words(`\\(\\s*["'][^"']*["']\\s*,\\s*\\{\\s*$`), from: words('^with\\s*:'), by: ['typescript'] },
   { what: '`const` type parameters', before: words('[<,]\\s*$'), from: words(`^const\\s+${NAME}`), by: ['typescript'] },
   { what: '`const` type parameters', before: words(`<\\s*const\\s+[\\p{ID_Continue}$]+\\s*$`), from: words('^'), by: ['typescript'] },
@@ -37,7 +38,8 @@ const SYNTAX = [
 ];
 
 const NAMES = { acorn: 'acorn', typescript: 'TypeScript', '@babel/parser': "Babel's parser", '@babel/standalone': "Babel's parser" };
-const HELP = { acorn: { decorators: "Babel's", '`accessor`': "Babel's" } };
+// What no acorn knows, and another parser does.
+const HELP = { acorn: { decorators: "Babel's", '`accessor`': "Babel's", 'assertions of imports': "Babel's" } };
 
 // The syntax at a place that is newer than the parser, else undefined.
 function syntaxAt(parser, text, offset) {

@@ -155,25 +155,27 @@ async function trySettings(folder, client) {
   fs.rmSync(settings);
   editor.change({ text: '// bolgwyr-ignore-next-line\nlet lone4;\n/* global known */ known(other);\n' });
   expect('comments', await editor.found(), ["2:25-2:30 1 no-undeclared: 'other' is not declared"]);
+  fs.writeFileSync(settings, '{ "globals": { "other": "readonly" } }');
+  client.messages.length = 0;
   client.notify('textDocument/didSave', { textDocument: { uri } });
+  expect('settings that were changed, after saving', await editor.found(), []);
 }
 
+// Documents that are no files, and texts that have no tables.
 const OTHERS = [
-  ['untitled:Untitled-1', 'typescript', 'let a: number;\n', ["0:4-0:5 1 no-unused: variable 'a' is never used tag 1"]],
-  ['untitled:Untitled-2', 'javascriptreact', 'let a = <b/>; a;\n', []],
-  ['file:///nowhere/without-ending', 'typescript', 'export let a: number;\n', []],
-  ['file:///nowhere/deep.js', 'javascript', `x${'.y'.repeat(1200)};\n`, [/./]],
+  ['untitled:Untitled-1', 'typescript', 'let a: number;\n', /^0:4-0:5 1 no-unused: variable 'a' is never used tag 1$/],
+  ['untitled:Untitled-2', 'javascriptreact', 'let a = <b/>; a;\n', /^$/],
+  ['file:///nowhere/without-ending', 'typescript', 'export let a: number;\n', /^$/],
+  ['untitled:empty', 'javascript', '', /^$/],
+  ['untitled:half', 'javascript', "let a = '\ud800';\n", /^0:0-0:0 1 syntax: half of a character/],
+  ['file:///nowhere/deep.js', 'javascript', `x${'.y'.repeat(1200)};\n`, /^\d+:\d+-\d+:\d+ 1 syntax: too deep/],
 ];
 
 async function tryOthers(client) {
   for (const [uri, languageId, text, wanted] of OTHERS) {
     client.open(uri, text, { languageId });
-    const found = (await client.diagnosticsOf(uri, 1)).params.diagnostics.map((one) => diagnostic(one)[0]);
-    if (wanted[0] instanceof RegExp) {
-      expect(uri, found.join('\n'), /^0:0-0:0 1 syntax: too deep|^\d+:\d+-\d+:\d+ 1 syntax: too deep/);
-    } else {
-      expect(uri, found, wanted);
-    }
+    const { params } = await client.diagnosticsOf(uri, 1);
+    expect(uri, params.diagnostics.map((one) => diagnostic(one)[0]).join('\n'), wanted);
   }
 }
 

@@ -30,8 +30,8 @@ function takeFrames(bytes, take) {
 }
 
 class Client {
-  constructor(words = ['--stdio'], { cwd } = {}) {
-    this.child = spawn(COMMAND, ['lsp', ...words], { cwd, stdio: ['pipe', 'pipe', 'inherit'] });
+  constructor(words = ['--stdio'], { cwd, stderr = 'inherit' } = {}) {
+    this.child = spawn(COMMAND, ['lsp', ...words], { cwd, stdio: ['pipe', 'pipe', stderr] });
     this.child.stdin.on('error', () => {});
     this.messages = [];
     this.listeners = [];

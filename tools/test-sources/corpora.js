@@ -10,17 +10,24 @@ const { goalOf } = require('../source-to-tree/languages');
 const acorn = require('../source-to-tree/ways/acorn');
 const { reportOf } = require('./analysis');
 
-const SHOWN = 20; // how many wrong ones of each way are printed
 const PROGRESS = 1000;
 
-// The files below a folder in the order of their names.
+// The files below a folder.
 function* filesBelow(folder, isWanted) {
-  const entries = fs.readdirSync(folder, { withFileTypes: true }).sort((a, b) => (a.name < b.name ? -1 : 1));
-  for (const entry of entries) {
+  for (const entry of fs.readdirSync(folder, { withFileTypes: true })) {
     const file = path.join(folder, entry.name);
     if (entry.isDirectory()) yield* filesBelow(file, isWanted);
     else if (isWanted(file)) yield file;
   }
+}
+
+const PRIME = 15485863; // above the number of files, so steps of it meet each file once
+
+// One of so many files, from all folders in turn, until the time is over.
+function* sampleOf(folder, isWanted, { stride, seconds }) {
+  const files = [...filesBelow(folder, isWanted)].sort();
+  const end = Date.now() + 1000 * seconds;
+  for (let i = 0; i * stride < files.length && Date.now() < end; i++) yield files[(i * PRIME) % files.length];
 }
 
 // The ESTree that acorn makes, as another tool hands it over: in JSON, which has no words for some values.
@@ -74,9 +81,9 @@ const RIGHT = {
 };
 
 class Corpus {
-  constructor(tally, ways) {
-    this.tally = tally;
+  constructor(ways, shown) {
     this.ways = ways;
+    this.shown = shown;
     this.reports = new Reports();
     this.counts = new Map();
     this.wrong = new Map(ways.map((way) => [way, []]));
@@ -107,10 +114,9 @@ class Corpus {
     console.log(`${this.files} sources`);
     for (const [key, counts] of this.counts) console.log(`${key}: ${Object.entries(counts).map(([end, count]) => `${count} ${end}`).join(', ')}`);
     for (const [way, list] of this.wrong) {
-      const shown = process.env.SHOWN === undefined ? SHOWN : Number(process.env.SHOWN);
-      for (const line of list.slice(0, shown)) console.log(`  ${way}: ${line}`);
+      for (const line of list.slice(0, this.shown)) console.log(`  ${way}: ${line}`);
     }
   }
 }
 
-module.exports = { Corpus, filesBelow };
+module.exports = { Corpus, sampleOf };

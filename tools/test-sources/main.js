@@ -40,9 +40,15 @@ function filesOf(words) {
 
 const COLLECTIONS = { '--test262': checkTest262, '--typescript': checkTypeScript };
 
-// A collection of sources: its folder, and of how many files one is taken.
-function checkCollection(tally, [word, folder, stride = '1', ...ways]) {
-  COLLECTIONS[word](tally, folder, Number(stride), ways.length > 0 ? ways : ['acorn', 'estree', 'typescript']);
+// A collection of sources: its folder, and how much of it by which ways.
+function checkCollection(word, folder, words) {
+  const options = { stride: 1, seconds: 3600, ways: ['acorn', 'estree', 'typescript'], shown: 20 };
+  for (let i = 0; i < words.length; i += 2) {
+    const name = words[i].slice(2);
+    options[name] = name === 'ways' ? words[i + 1].split(',') : Number(words[i + 1]);
+  }
+  COLLECTIONS[word](folder, options);
+  return 0;
 }
 
 function checkAll(tally, words) {
@@ -59,9 +65,9 @@ function checkAll(tally, words) {
 }
 
 function main(words) {
+  if (words[0] in COLLECTIONS) return checkCollection(words[0], words[1], words.slice(2));
   const tally = new Tally();
-  if (words[0] in COLLECTIONS) checkCollection(tally, words);
-  else checkAll(tally, words);
+  checkAll(tally, words);
   console.log(`${tally.passed} passed, ${tally.failed} failed`);
   return tally.failed === 0 ? 0 : 1;
 }

@@ -2,7 +2,7 @@
 // The tests of the language, test262: those that a parser must take, and those with an early error.
 
 const fs = require('fs');
-const { Corpus, filesBelow } = require('./corpora');
+const { Corpus, sampleOf } = require('./corpora');
 
 const FRONT = /\/\*---([^]*?)---\*\//;
 
@@ -17,11 +17,9 @@ function headOf(source) {
 
 const isTest = (file) => file.endsWith('.js') && !file.endsWith('_FIXTURE.js');
 
-function checkTest262(tally, folder, stride, ways) {
-  const corpus = new Corpus(tally, ways);
-  let number = 0;
-  for (const file of filesBelow(folder, isTest)) {
-    if (number++ % stride !== 0) continue;
+function checkTest262(folder, { ways, shown, ...sample }) {
+  const corpus = new Corpus(ways, shown);
+  for (const file of sampleOf(folder, isTest, sample)) {
     const source = fs.readFileSync(file, 'utf8');
     const head = headOf(source);
     if (head !== null) corpus.add(file, source, head.kind, { filename: file, goal: head.goal });

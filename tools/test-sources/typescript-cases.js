@@ -4,7 +4,7 @@
 
 const fs = require('fs');
 const path = require('path');
-const { Corpus, filesBelow } = require('./corpora');
+const { Corpus, sampleOf } = require('./corpora');
 
 const NAME = /^\/\/\s*@filename:\s*(.*?)\s*$/im;
 const SOURCE = /\.(?:[mc]?[jt]s|[jt]sx)$/i;
@@ -19,12 +19,10 @@ function filesOf(file, source) {
   }).filter(({ name, text }) => SOURCE.test(name) && text.trim() !== '');
 }
 
-function checkTypeScript(tally, folder, stride, ways) {
-  const plain = new Corpus(tally, ways);
-  const typed = new Corpus(tally, ways.filter((way) => way === 'typescript' || way === 'babel'));
-  let number = 0;
-  for (const file of filesBelow(folder, (name) => SOURCE.test(name))) {
-    if (number++ % stride !== 0) continue;
+function checkTypeScript(folder, { ways, shown, ...sample }) {
+  const plain = new Corpus(ways, shown);
+  const typed = new Corpus(ways.filter((way) => way === 'typescript' || way === 'babel'), shown);
+  for (const file of sampleOf(folder, (name) => SOURCE.test(name), sample)) {
     for (const { name, text } of filesOf(file, fs.readFileSync(file, 'utf8'))) {
       const corpus = /\.[mc]?js$/i.test(name) ? plain : typed;
       corpus.add(`${file} ${name}`, text, 'any', { filename: name });

@@ -6,7 +6,6 @@ ghost use Rattle.analysis_c.specs.Answers.{Answered};
 mod ends;
 mod filling;
 mod running;
-mod words;
 
 use crate::filling::fill;
 use crate::running::run_over_bytes;

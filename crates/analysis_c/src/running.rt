@@ -4,10 +4,10 @@ ghost use Rattle.report_ends.specs.Memory.{sure_held};
 ghost use Rattle.analysis_c.specs.Answers.{Answers};
 
 use crate::ends::BytesSource;
-use crate::words::words_of;
 use program_ends::tell;
 use report::{ReportStatus, refuse_words, run};
 use report_ends::{ReportError, SureSink};
+use serving::words_of;
 use std::alloc::Global;
 
 /// Runs the program over a tree's bytes, with words that stand one a line. The sinks are empty before.

@@ -19,3 +19,12 @@ pub fn failing(alloc: Global, call: u64) -> Result<Vec<u64>, AllocError> {
     }
     Ok(calls)
 }
+
+/// The parts of a line between bars.
+pub fn parts_of(alloc: Global, line: &str) -> Result<Vec<&str>, AllocError> {
+    let mut parts = Vec::new(alloc);
+    for part in line.split('|') {
+        parts.push(part)?;
+    }
+    Ok(parts)
+}

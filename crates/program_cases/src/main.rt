@@ -1,7 +1,7 @@
 //! Runs the programs over the stored trees and sets of modules: the report, the report of early errors, the renamer, the
-//! lint of names, that of tangled names and the linker, each over ends that fail, too. Behind these comes what the example of a caller prints. Each
-//! part has a folder of data, and is told in turn. That they stand in one program spares the gate a build of all of it for
-//! each of them.
+//! mangler, the lint of names, that of tangled names and the linker, each over ends that fail, too. Behind these comes what
+//! the example of a caller prints. Each part has a folder of data, and is told in turn. That they stand in one program spares
+//! the gate a build of all of it for each of them.
 #![tactic(auto)]
 
 mod early_errors;
@@ -9,9 +9,10 @@ mod ends;
 mod example;
 mod found_names;
 mod links;
+mod manglings;
 mod renamings;
 mod reports;
-mod tangled_names;
+mod tangles;
 
 use std::io;
 
@@ -19,8 +20,9 @@ fn main(rt: HostRuntime) -> io::Result<()> {
     reports::write_all(&rt)?;
     early_errors::write_all(&rt)?;
     renamings::write_all(&rt)?;
+    manglings::write_all(&rt)?;
     found_names::write_all(&rt)?;
-    tangled_names::write_all(&rt)?;
+    tangles::write_all(&rt)?;
     links::write_all(&rt)?;
     example::write_all(&rt)
 }

@@ -2,21 +2,11 @@
 //! the words, with bars between them. Then it writes what comes of one such run where each read and each write fails in
 //! turn, and where the line on a refusal can't be told.
 
-use crate::ends::{failing, words_of};
+use crate::ends::{failing, parts_of, words_of};
 use renamer::{RenameStatus, run_rename};
 use report_ends::{MemorySink, MemorySource, Reading, SureSink, SureSource, Writing};
-use std::alloc::{AllocError, Global};
 use std::fs::{self, File};
 use std::io::{self, Write};
-
-// The parts of a line between bars.
-fn parts_of(alloc: Global, line: &str) -> Result<Vec<&str>, AllocError> {
-    let mut parts = Vec::new(alloc);
-    for part in line.split('|') {
-        parts.push(part)?;
-    }
-    Ok(parts)
-}
 
 // Writes what is answered to the words about a program.
 fn write_case(rt: &HostRuntime, line: &str) -> io::Result<()> {

@@ -7,7 +7,7 @@ const HELP = `
 An editor starts it, and talks with it by the Language Server Protocol: diagnostics as bolgwyr check tells them, definition,
 references, highlights, rename, outline, hover and code actions. docs/editors.md tells how editors are set up.
 
-Status: 0 after shutdown and exit; 1 after an exit or an end of the input without shutdown.`;
+It ends with status 0 after shutdown and exit, and with 1 after an exit or an end of the input without shutdown.`;
 
 function add(program, name) {
   const { Option } = load('commander');

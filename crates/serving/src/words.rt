@@ -1,4 +1,4 @@
-// Words that stand in one text.
+//! Words that stand in one text.
 ghost use Rattle.std.specs.Prelude.{◌≡◌, map, IfOk, string_bytes};
 ghost use Rattle.std.specs.Str.Lines.{lines};
 

@@ -1,0 +1,80 @@
+//! The tools by their names.
+ghost use Rattle.std.specs.Prelude.{◌≡◌};
+ghost use Rattle.program_ends.specs.Calls.{source_call, sink_call};
+ghost use Rattle.tools.specs.Named.{tool_named};
+ghost use Rattle.tools.specs.Runs.{IsRunOf};
+
+use mangler_program::run_mangle;
+use module_linker::run_link;
+use name_lint::run_names;
+use renamer::run_rename;
+use report::run;
+use report_ends::{Sink, Source};
+use std::alloc::Global;
+use tangle_lint::run_tangled;
+
+/// The line on a first word that names no tool.
+pub const USAGE: &str =
+    "usage: report|renamer|mangler|name_lint|tangled_names|module_linker [WORD ..]\n";
+
+/// A tool.
+#[derive(Clone, Copy, Debug, PartialEq, Eq)]
+pub enum Tool {
+    /// Tells what the analysis of a program found.
+    Report,
+    /// Renames a symbol.
+    Renamer,
+    /// Gives symbols short names.
+    Mangler,
+    /// Tells names that nothing uses, and names that nobody declares.
+    NameLint,
+    /// Tells names for which tables may part from the language.
+    TangledNames,
+    /// Tells what the imports of modules come to.
+    ModuleLinker,
+}
+
+impl Tool {
+    /// The tool of the name, if it is one's.
+    pub fn named(name: &str) -> Option<Tool>
+        ensures { result ≡ tool_named name.now }
+    {
+        if name == "report" {
+            Some(Tool::Report)
+        } else if name == "renamer" {
+            Some(Tool::Renamer)
+        } else if name == "mangler" {
+            Some(Tool::Mangler)
+        } else if name == "name_lint" {
+            Some(Tool::NameLint)
+        } else if name == "tangled_names" {
+            Some(Tool::TangledNames)
+        } else if name == "module_linker" {
+            Some(Tool::ModuleLinker)
+        } else {
+            None
+        }
+    }
+
+    /// Does all that the tool does with the words behind its name, and gives its exit status.
+    pub fn run<S: Source, K: Sink, E: Sink>(
+        self,
+        alloc: Global,
+        words: &[String],
+        source: &mut S,
+        out: &mut K,
+        errs: &mut E,
+    ) -> u8
+        ensures { IsRunOf self (source_call S.left S.faults source.old source.new) (sink_call K.held K.faults out.old out.new)
+            (sink_call E.held E.faults errs.old errs.new) words.now result }
+    {
+        match self {
+            Tool::Report => run(alloc, words, source, out, errs).code(),
+            Tool::Renamer => run_rename(alloc, words, source, out, errs).code(),
+            Tool::Mangler => run_mangle(alloc, words, source, out, errs).code(),
+            Tool::NameLint => run_names(alloc, words, source, out, errs).code(),
+            Tool::TangledNames => run_tangled(alloc, words, source, out, errs).code(),
+            Tool::ModuleLinker => run_link(alloc, words, source, out, errs).code(),
+        }
+    }
+}
