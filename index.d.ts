@@ -133,6 +133,8 @@ export interface Rules {
   'no-redeclare'?: Rule<Record<string, never>>;
   'early-error'?: Rule<Record<string, never>>;
   'unused-label'?: Rule<Record<string, never>>;
+  /** Imports that lead nowhere, which `bolgwyr check --project` tells. The text of one file has no such findings. */
+  'unresolved-import'?: Rule<Record<string, never>>;
 }
 
 /** The settings of a `bolgwyr.json`, and how the text is read. No file is looked for. */
@@ -159,8 +161,8 @@ export interface Finding extends Place {
   rule: keyof Rules | 'syntax';
   severity: 'warn' | 'error';
   message: string;
-  /** Other places that belong to it. */
-  related: (Place & { message: string })[];
+  /** Other places that belong to it; those in other files have `file`. */
+  related: (Place & { message: string; file?: string })[];
   /** What is said of the place itself. */
   said?: string;
   help?: string;

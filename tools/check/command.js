@@ -75,19 +75,20 @@ function settingsMaker({ parser, goal, ...options }) {
   };
 }
 
-// The files to check with their settings. What a configuration leaves out is checked where it is named.
-function jobsOf(words, options) {
+// What makes of a file the job to check it, or null where its configuration leaves it out. What is named is checked all the same.
+function jobMaker(options) {
   const configs = new Configs(options.config);
   const settingsFor = settingsMaker(options);
-  const jobs = [];
-  for (const { file, isNamed } of sourcesOf(words.length === 0 ? ['.'] : words)) {
+  return ({ file, isNamed }) => {
     const name = nameOf(file, options);
     const config = configs.of(name);
-    if (isNamed || !config.ignores(name)) {
-      jobs.push({ file, name, settings: settingsFor(config) });
-    }
-  }
-  return jobs;
+    return isNamed || !config.ignores(name) ? { file, name, settings: settingsFor(config) } : null;
+  };
+}
+
+// The files to check: those of the words, else those of the project or of this folder.
+function filesOf(words, project) {
+  return words.length === 0 && project !== null ? require('./project.js').filesOfProject(project) : sourcesOf(words.length === 0 ? ['.'] : words);
 }
 
 // Only errors, where warnings aren't to be told.
@@ -114,6 +115,15 @@ async function resultsOf(jobs, options) {
   return results.map((result, place) => ({ ...result, file: jobs[place].name }));
 }
 
+// The results of the files, and of the project where there is one.
+async function allResults(words, options) {
+  const jobOf = jobMaker(options);
+  const project = options.project === undefined ? null : require('./project.js').readProject(options.project);
+  const jobs = filesOf(words, project).map(jobOf).filter((job) => job !== null);
+  const results = await resultsOf(jobs, options);
+  return project === null ? results : require('./project.js').withProject(results, jobs, project, jobOf);
+}
+
 function tellFailures(results) {
   for (const { file, failure } of results.filter((result) => result.failure !== undefined)) {
     tell(`${printable(file)}: ${failure}`);
@@ -130,7 +140,7 @@ function endOnSignals() {
 async function run(words, options) {
   endOnSignals();
   const most = mostWarnings(options.maxWarnings);
-  const results = await resultsOf(jobsOf(words, options), options);
+  const results = await allResults(words, options);
   tellFailures(results);
   say(formatOf(options.format)(options.quiet ? quietened(results) : results, { colour: hasColour(process.stdout, options) }));
   process.exitCode = statusOf(sumOf(results), most);

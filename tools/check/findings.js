@@ -3,11 +3,11 @@
 
 const { askedOf, isIgnored } = require('./comments.js');
 const { earlyErrors, redeclarations, unusedLabels } = require('./diagnostics.js');
-const { RULES, SYNTAX, isOn } = require('./rules.js');
+const { SYNTAX, isOn } = require('./rules.js');
 const { undeclared } = require('./undeclared.js');
 const { unused } = require('./unused.js');
 
-// What tells the findings of a rule.
+// What tells the findings of a rule in one file.
 const TELLERS = {
   'no-unused': (answers, rule, asked) => unused(answers, rule, asked.exported),
   'no-undeclared': (answers, rule, asked, known) => undeclared(answers, known),
@@ -42,7 +42,7 @@ function compare(left, right) {
 function findingsOf(answers, settings) {
   const asked = askedOf(answers);
   const known = knownNames(settings, asked);
-  const found = Object.keys(RULES).filter((name) => isOn(settings.rules[name])).flatMap((name) => {
+  const found = Object.keys(TELLERS).filter((name) => isOn(settings.rules[name])).flatMap((name) => {
     const rule = settings.rules[name];
     return [...TELLERS[name](answers, rule, asked, known)].map((told) => finding(answers.positions, name, rule.severity, told));
   });

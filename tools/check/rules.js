@@ -8,12 +8,16 @@ const SEVERITIES = ['off', 'warn', 'error'];
 // `ignore`: names that match aren't told.
 const UNUSED = { vars: 'all', args: 'after-used', caught: false, ignore: '^_' };
 
+// Told of a project alone, by linking it.
+const UNRESOLVED = 'unresolved-import';
+
 const RULES = {
   'no-unused': { about: 'names that nothing in use uses', programs: ['name_lint', 'report'], options: UNUSED },
   'no-undeclared': { about: 'names that nobody declares', programs: ['name_lint', 'report'], options: {} },
   'no-redeclare': { about: 'names that are declared again where the language allows it', programs: ['report'], options: {} },
   'early-error': { about: 'what the language forbids before a program runs', programs: ['report'], options: {} },
   'unused-label': { about: 'labels that no jump names', programs: ['report'], options: {} },
+  [UNRESOLVED]: { about: 'imports that lead nowhere', programs: [], options: {} },
 };
 
 // What is told of a file that no parser reads. It can't be turned off.
@@ -32,4 +36,4 @@ function programsFor(rules) {
   return [...new Set(wanted)];
 }
 
-module.exports = { RULES, SEVERITIES, SYNTAX, defaultRules, isOn, programsFor };
+module.exports = { RULES, SEVERITIES, SYNTAX, UNRESOLVED, defaultRules, isOn, programsFor };

@@ -17,6 +17,7 @@ function kindOf(file) {
   return found === undefined ? 'asset' : found[1];
 }
 
+const isSource = (file) => kindOf(file) === 'source';
 const isTyped = (file) => /\.(?:[cm]?ts|tsx)$/i.test(file);
 const isDeclarations = (file) => /\.d\.[cm]?ts$/i.test(file);
 
@@ -42,4 +43,4 @@ function packageOf(text) {
   return found === null ? text : found[0];
 }
 
-module.exports = { goalOfName, isBuiltin, isDeclarations, isInPackage, isRelative, isTyped, kindOf, packageOf };
+module.exports = { goalOfName, isBuiltin, isDeclarations, isInPackage, isRelative, isSource, isTyped, kindOf, packageOf };

@@ -54,6 +54,13 @@ const WORDS = [
   { name: 'a wrong option', words: ['check', 'wrong-option'], status: 2, err: /bolgwyr.json: rules.no-unused.args wants one of all, after-used, none\n$/ },
   { name: 'a wrong environment in settings', words: ['check', 'wrong-env'], status: 2, err: /bolgwyr.json: env: there is no environment "moon"/ },
   { name: 'a wrong global in settings', words: ['check', 'wrong-globals'], status: 2, err: /bolgwyr.json: globals.a wants readonly, writable or off\n$/ },
+  {
+    name: 'a project', words: ['check', '--format', 'unix', '--project', 'linked/a.mjs'], status: 1, err: '',
+    out: "linked/a.mjs:1:13: 'gone' is not exported by ./linked/b.mjs [error/unresolved-import]\nlinked/broken.mjs:1:12: Unexpected token [error/syntax]\n",
+  },
+  { name: 'a project without its rule', words: ['check', '--format', 'unix', '--rule', 'unresolved-import=off', '--project', 'linked/a.mjs'], status: 1, out: 'linked/broken.mjs:1:12: Unexpected token [error/syntax]\n' },
+  { name: 'a project as JSON', words: ['check', 'linked/b.mjs', '--format', 'json', '--project', 'linked/a.mjs'], status: 1, out: /^\[\{"file":"linked\/b.mjs","findings":\[\]\},\n\{"file":"linked\/a.mjs","findings":\[\{"rule":"unresolved-import","severity":"error",/ },
+  { name: 'a project with a missing entry', words: ['check', '--project', 'clean.mjs', 'gone.mjs'], status: 3, out: '1 file, nothing found, 1 file not read\n', err: 'gone.mjs: no such file\n' },
   { name: 'related places', words: ['check', 'twice.mjs'], status: 1, out: /^twice.mjs:1:5: Identifier `a` has already been declared {2}early-error\n(.*\n)* {2}related: twice.mjs:2:5\n/ },
   { name: 'no programs', words: ['check', 'clean.mjs'], env: { BOLGWYR_PROGRAMS: '/nowhere' }, status: 3, out: '', err: /^bolgwyr: \/nowhere\/[^\n]*\n$/ },
   { name: 'no programs for many files', words: ['check', 'many'], env: { BOLGWYR_PROGRAMS: '/nowhere' }, status: 3, out: '', err: /^bolgwyr: \/nowhere\/[^\n]*\n$/ },

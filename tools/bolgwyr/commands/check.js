@@ -11,10 +11,12 @@ Examples:
   bolgwyr check --rule no-unused=warn --max-warnings 10
   bolgwyr check --only no-undeclared --env browser page.js
   bolgwyr check --format sarif > findings.sarif
+  bolgwyr check --project src/index.js       what these modules reach, and imports that lead nowhere
   git show :a.ts | bolgwyr check --stdin-name a.ts -
 
-Rules: no-unused, no-undeclared, no-redeclare, early-error, unused-label. A bolgwyr.json in the folder of a file or around
-it sets rules, globals, env and ignore; comments such as // bolgwyr-ignore-next-line no-unused leave findings out.`;
+Rules: no-unused, no-undeclared, no-redeclare, early-error, unused-label, and with --project unresolved-import. A
+bolgwyr.json in the folder of a file or around it sets rules, globals, env and ignore; comments such as
+// bolgwyr-ignore-next-line no-unused leave findings out.`;
 
 const gather = (value, values = []) => [...values, value];
 
@@ -32,6 +34,7 @@ function add(program, name) {
     .option('--quiet', 'tell errors alone, no warnings')
     .option('--no-cache', 'analyse each file anew')
     .option('--cache-folder <folder>', "where findings are kept, else the project's node_modules/.cache, else the user's cache")
+    .option('--project <entry...>', 'also imports that lead nowhere, in what these files or folders reach')
     .option('--config <file>', 'this file in place of each bolgwyr.json');
   addReading(command)
     .addHelpText('after', EXAMPLES)

@@ -11,7 +11,7 @@ unified diff is shown. A renaming after which any name would mean something else
 
 function add(program, name) {
   program.command(name)
-    .description('give a variable, function, class, import or type another name')
+    .description('Give a variable, function, class, import or type another name')
     .argument('<place>', 'FILE:LINE:COLUMN or FILE:NAME')
     .argument('<name>', 'the new name')
     .option('--write', 'write the file')

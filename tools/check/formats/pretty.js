@@ -20,24 +20,33 @@ function remarks({ help, note }) {
   return [['help', help], ['note', note]].filter(([, text]) => text !== undefined).map(([what, text]) => `  ${what}: ${visible(text)}`);
 }
 
-function findingLines(paint, file, positions, finding) {
+// A place that belongs to a finding, in this file or in another. Of one that has no lines only the place is known.
+function relatedLines(paint, { file, others }, positions, related) {
+  const place = `  related: ${paint.place(placeOf(related.file ?? file, related))}`;
+  const around = related.file === undefined ? positions : others.get(related.file);
+  if (around === undefined) {
+    return [`${place}: ${visible(related.message)}`];
+  }
+  return [place, ...shown(paint, around, related.span, related.message, paint.quiet)];
+}
+
+function findingLines(paint, result, positions, finding) {
   const mark = finding.severity === 'error' ? paint.error : paint.warning;
-  const lines = [`${paint.place(placeOf(file, finding))}: ${visible(finding.message)}  ${mark(finding.rule)}`];
+  const lines = [`${paint.place(placeOf(result.file, finding))}: ${visible(finding.message)}  ${mark(finding.rule)}`];
   if (finding.span !== null) {
     lines.push(...shown(paint, positions, finding.span, finding.said, mark));
   }
-  for (const related of finding.related) {
-    lines.push(`  related: ${paint.place(placeOf(file, related))}`, ...shown(paint, positions, related.span, related.message, paint.quiet));
-  }
-  return [...lines, ...remarks(finding)];
+  const others = finding.related.flatMap((related) => relatedLines(paint, result, positions, related));
+  return [...lines, ...others, ...remarks(finding)];
 }
 
-function resultLines(paint, { file, text, findings }) {
+function resultLines(paint, result) {
+  const { text, findings } = result;
   if (findings.length === 0) {
     return [];
   }
   const positions = new Positions(text);
-  return findings.flatMap((finding) => findingLines(paint, file, positions, finding));
+  return findings.flatMap((finding) => findingLines(paint, result, positions, finding));
 }
 
 function format(results, { colour }) {

@@ -22,7 +22,7 @@ function locationOf(file, { line, column, endLine, endColumn }) {
 }
 
 function relatedOf(file, related) {
-  return related.map((other, id) => ({ id, message: { text: other.message }, ...locationOf(file, other) }));
+  return related.map((other, id) => ({ id, message: { text: other.message }, ...locationOf(other.file ?? file, other) }));
 }
 
 function resultOf(file, finding) {
