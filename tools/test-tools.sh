@@ -10,7 +10,11 @@ if ! command -v node >/dev/null 2>&1; then
 fi
 missing="$(node -e '
 const { load } = require("./tools/source-to-tree/load.js");
-const has = (name) => { try { load(name); return true; } catch { return false; } };
+// The main module of this one asks for a Node that is built as Debian builds it; linking takes it in parts.
+const parts = { "enhanced-resolve": "enhanced-resolve/lib/ResolverFactory" };
+const has = (name) => {
+  try { load(parts[name] || name); return true; } catch { return false; }
+};
 console.log([...Object.keys(require("./package.json").dependencies), "eslint-scope"].filter((name) => !has(name)).join(" "));')"
 if [ -n "$missing" ]; then
     echo "test-tools: not installed: $missing; nothing tried (tools/setup.sh installs them)"
