@@ -24,7 +24,8 @@ function commandsFor([word]) {
   return named.length === 0 ? COMMANDS : named;
 }
 
-function programOf(words) {
+// The program with the command that the words ask for, or with all of them where there are no words.
+function programOf(words = []) {
   const program = new Command('bolgwyr')
     .description('Scopes, names and early errors of JavaScript and TypeScript, by an analysis that is proved.')
     .option('--version', 'tell the version, and how the programs were made')
