@@ -1,29 +1,7 @@
 'use strict';
 // The rows of a tree as a tree: where each node's rows end, and its children.
 
-// A row is [depth, role, kind, start, end, text, marks].
-const ROLE = 1;
-const KIND = 2;
-const START = 3;
-const END = 4;
-const TEXT = 5;
-const MARKS = 6;
-
-// For each node the number behind its last descendant.
-function endsOf(rows) {
-  const ends = new Int32Array(rows.length);
-  const open = [];
-  rows.forEach(([depth], at) => {
-    while (open.length > depth) {
-      ends[open.pop()] = at;
-    }
-    open.push(at);
-  });
-  for (const at of open) {
-    ends[at] = rows.length;
-  }
-  return ends;
-}
+const { END, KIND, MARKS, ROLE, START, TEXT, endsOf } = require('../edits/rows.js');
 
 class Rows {
   constructor(rows) {
