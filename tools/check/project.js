@@ -22,7 +22,7 @@ function realPath(file) {
 // What the entries reach, linked.
 function readProject(entries) {
   const { set, findings } = linkSet(entries);
-  return { modules: set.modules, entries: new Set(set.entries), faults: set.faults, findings };
+  return { modules: set.modules, entries: new Set([...set.entries, ...set.others]), faults: set.faults, findings };
 }
 
 // The files to check where none is named: all but those of packages. An entry counts as named.

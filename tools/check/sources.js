@@ -61,4 +61,4 @@ function sourcesOf(words) {
   return [...seen.values()];
 }
 
-module.exports = { isFolder, sourcesOf };
+module.exports = { filesOfFolder, isFolder, sourcesOf };

@@ -25,7 +25,7 @@ function noteAugmented(modules) {
 
 // The set, what the linker says of it, and what is wrong with it.
 function linkSet(entries, options = {}) {
-  const set = moduleSet(entries, { cwd: options.cwd });
+  const set = moduleSet(entries, { cwd: options.cwd, whole: options.whole });
   noteAugmented(set.modules);
   const told = set.modules.length === 0 ? { imports: [], exports: [] } : outcomes(set.modules);
   return { set, outcomes: told, ...findingsOf(set, told, options) };

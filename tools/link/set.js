@@ -2,7 +2,7 @@
 // The set of modules that entries reach.
 //
 // For other tools: `moduleSet(entries, options)` reads the entries and what they reach, and gives
-// {modules, entries, faults}. A module has `file`, `shown` (its name for people), `kind`, `text`, `positions` (of
+// {modules, entries, others, faults}. A module has `file`, `shown` (its name for people), `kind`, `text`, `positions` (of
 // tools/analyse), `specifiers` and, with `trees: true`, `tree`, the JSON of its whole tree as bytes, with numbers of nodes as the
 // programs tell them. A specifier has `text`, `span` (bytes of its literal), `way` (`import`, `export`, `dynamic`, `require` or
 // `augment`), `typed` (types alone are wanted) and `to`, which is one of
@@ -11,13 +11,16 @@
 //                      `loader` or `ignored`
 //   {nowhere}          it leads to no file: the text says why
 // A rule on unresolved imports tells those with `to.nowhere`; a renamer across files goes over `specifiers` with `to.module`.
-// Options: `trees`; `packages: false` to leave out what stands below folders node_modules; `cwd`, from which names are shown.
+// A folder stands for what its package.json names, or its index file; where it has neither, and with `whole: true` in any case, for
+// all source files below it, which `others` has beside `entries`.
+// Options: `trees`; `packages: false` to leave out what stands below folders node_modules; `whole`; `cwd`, from which names are shown.
 
 const fs = require('fs');
 const path = require('path');
 const { SourceModule, packageTypes, readModule } = require('./module.js');
 const { Resolver } = require('./resolver.js');
 const { isInPackage, kindOf } = require('./kinds.js');
+const { filesOfFolder } = require('../check/sources.js');
 
 // A file's name as people know it: from the folder where they are, and whole where it stands elsewhere.
 function shownName(file, cwd) {
@@ -43,18 +46,27 @@ function packageName(file) {
   }
 }
 
-// The file of an entry, or why there is none.
-function entryFile(name, { cwd, resolver }) {
-  const file = path.resolve(cwd, name);
+// The files of a folder: that which it stands for, and all others that are asked for.
+function filesOfEntry(folder, { resolver, whole }) {
+  const entry = folderEntry(folder, resolver);
+  const others = whole || entry === undefined ? filesOfFolder(folder) : [];
+  if (entry === undefined && others.length === 0) {
+    return { fault: 'a folder without source files' };
+  }
+  return { files: entry === undefined ? [] : [entry.file], others: others.map((file) => fs.realpathSync(file)) };
+}
+
+// The files that an entry names, or why there are none.
+function entryFiles(name, set) {
+  const file = path.resolve(set.cwd, name);
   const stat = fs.statSync(file, { throwIfNoEntry: false });
   if (stat === undefined) {
     return { fault: 'no such file' };
   }
-  if (!stat.isDirectory()) {
-    return kindOf(file) === 'source' ? { file: fs.realpathSync(file) } : { fault: 'no file of JavaScript or TypeScript' };
+  if (stat.isDirectory()) {
+    return filesOfEntry(fs.realpathSync(file), set);
   }
-  const none = { fault: 'a folder without a package.json that names an entry, and without an index file' };
-  return folderEntry(fs.realpathSync(file), resolver) || none;
+  return kindOf(file) === 'source' ? { files: [fs.realpathSync(file)], others: [] } : { fault: 'no file of JavaScript or TypeScript' };
 }
 
 function addModule(set, file) {
@@ -91,15 +103,17 @@ function addTargets(set, module, isEntry) {
   }
 }
 
-function emptySet({ packages = true, trees = false, cwd = process.cwd() }) {
+function emptySet({ packages = true, trees = false, whole = false, cwd = process.cwd() }) {
   return {
     modules: [],
     byFile: new Map(),
     entries: [],
+    others: [],
     faults: [],
     resolver: new Resolver(),
     typeOf: packageTypes(),
     packages,
+    whole,
     keepTree: trees,
     cwd,
   };
@@ -107,10 +121,10 @@ function emptySet({ packages = true, trees = false, cwd = process.cwd() }) {
 
 function addEntries(set, names) {
   for (const name of names) {
-    const { file, fault } = entryFile(name, set);
-    if (fault === undefined) {
-      set.entries.push(addModule(set, file));
-    } else {
+    const { files = [], others = [], fault } = entryFiles(name, set);
+    set.entries.push(...files.map((file) => addModule(set, file)));
+    set.others.push(...others.map((file) => addModule(set, file)));
+    if (fault !== undefined) {
       set.faults.push({ entry: name, message: fault });
     }
   }
@@ -119,7 +133,8 @@ function addEntries(set, names) {
 function moduleSet(names, options = {}) {
   const set = emptySet(options);
   addEntries(set, names);
-  const entries = new Set(set.entries);
+  const named = new Set(set.entries);
+  const entries = new Set([...set.entries, ...set.others]);
   for (let at = 0; at < set.modules.length; at += 1) {
     const module = set.modules[at];
     const isEntry = entries.has(module);
@@ -127,11 +142,11 @@ function moduleSet(names, options = {}) {
       readModule(module, { typeOf: set.typeOf, isEntry, keepTree: set.keepTree });
       addTargets(set, module, isEntry);
     }
-    if (isEntry && module.kind === 'unreadable') {
+    if (named.has(module) && module.kind === 'unreadable') {
       set.faults.push({ entry: module.shown, message: module.refusal.message });
     }
   }
-  return { modules: set.modules, entries: set.entries, faults: set.faults, cwd: set.cwd };
+  return { modules: set.modules, entries: set.entries, others: set.others, faults: set.faults, cwd: set.cwd };
 }
 
 module.exports = { moduleSet };

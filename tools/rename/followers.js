@@ -10,7 +10,7 @@ function usesByModule(modules) {
       uses.get(to.module).push({ module, specifier, ...use });
     }
   };
-  for (const module of modules.filter(({ kind }) => kind === 'module')) {
+  for (const module of modules.filter(({ outline }) => outline !== null)) {
     const { imports, exports, stars } = module.outline;
     imports.forEach((wanted) => add(module, wanted.specifier, { way: wanted.name === null ? 'namespace' : 'import', wanted }));
     const passed = [...exports.values()].filter(({ specifier }) => specifier !== null);

@@ -28,18 +28,24 @@ function inModule(module, run) {
   }
 }
 
-// The set that the entries reach, whole.
+// The set that the entries reach, whole, and of a folder all that stands in it: a test imports, and nothing imports the test.
 function linkedSet(entries, cwd) {
-  const linked = linkSet(entries, { cwd });
+  const linked = linkSet(entries, { cwd, whole: true });
   const [fault] = linked.set.faults;
   if (fault !== undefined) {
     throw new RunFault(`${fault.entry}: ${fault.message}`);
   }
-  const unread = linked.set.modules.find(({ kind, isPackaged }) => !isPackaged && (kind === 'refused' || kind === 'unreadable'));
+  return linked;
+}
+
+// A file that no parser reads may use the name, where its text has it.
+function refuseUnread({ set }, name) {
+  const others = new Set(set.others);
+  const isUnread = ({ kind, isPackaged }) => !isPackaged && (kind === 'refused' || kind === 'unreadable');
+  const unread = set.modules.filter(isUnread).find((module) => !others.has(module) || module.text === null || module.text.includes(name));
   if (unread !== undefined) {
     throw new RunFault(`${unread.shown}: ${unread.refusal.message}`);
   }
-  return linked;
 }
 
 function realFile(full, file) {
@@ -159,6 +165,7 @@ function renameInProject({ file, line, column, name, to, entries, cwd = process.
     if (symbol.name === to) {
       return { changes: [], warnings: [] };
     }
+    refuseUnread(project.linked, symbol.name);
     return isExported(module, symbol) ? renamedInAll(project, module, symbol, to) : renamedHere(project, module, symbol, to);
   });
 }

@@ -6,6 +6,7 @@ const os = require('os');
 const path = require('path');
 const { spawnSync } = require('child_process');
 const { programPath } = require('../programs/index.js');
+const { RunFault } = require('../bolgwyr/faults.js');
 const { renameInProject } = require('../rename/project.js');
 const PROJECTS = require('./projects.js');
 
@@ -127,16 +128,16 @@ function faults({ put, run }, expect) {
   expect('a column beyond the line', '1 sum.mjs: line 1 has no column 15: it has 14 characters', lines(['sum.mjs:1:15', 'a']));
 }
 
-// Renamings across modules. Entries are files of the name `app`.
+// Renamings across modules.
 function projects({ at, put, read }, expect) {
-  for (const [number, { name, files, rename: [file, symbol, to], wanted, refused }] of PROJECTS.entries()) {
+  for (const [number, { name, files, rename: [file, symbol, to], entries, wanted, refused }] of PROJECTS.entries()) {
     const folder = `project${number}`;
     for (const [each, content] of Object.entries(files)) {
       fs.mkdirSync(path.dirname(at(`${folder}/${each}`)), { recursive: true });
       put(`${folder}/${each}`, content);
     }
-    const entry = Object.keys(files).find((each) => each.startsWith('app.'));
-    expect(name, JSON.stringify(wanted === undefined ? refused : byName(wanted)), JSON.stringify(changed({ file, name: symbol, to, entries: [entry], cwd: at(folder) })));
+    const apps = Object.keys(files).filter((each) => each.startsWith('app.'));
+    expect(name, JSON.stringify(wanted === undefined ? refused : byName(wanted)), JSON.stringify(changed({ file, name: symbol, to, entries: entries || apps, cwd: at(folder) })));
   }
   const [first] = PROJECTS;
   const run = bench(at('project0')).run(['a.mjs:area', 'surface', '--write', '--project', 'app.mjs']);
@@ -146,12 +147,15 @@ function projects({ at, put, read }, expect) {
 
 const byName = (texts) => Object.fromEntries(Object.entries(texts).sort(([a], [b]) => (a < b ? -1 : 1)));
 
-// The texts of files that change, or the first line of a refusal.
+// The texts of files that change, or the first line of a refusal or a fault.
 function changed(options) {
   try {
     const { changes } = renameInProject(options);
     return byName(Object.fromEntries(changes.map(({ shown, after }) => [shown, after])));
   } catch (error) {
+    if (error instanceof RunFault) {
+      return error.message;
+    }
     if (error.linesFor === undefined) {
       throw error;
     }

@@ -1,5 +1,6 @@
 'use strict';
-// Renamings across modules: the files, the place and the new name, the entries, and the files that change or the refusal.
+// Renamings across modules: the files, the place and the new name, the entries (else the file `app`), and the files that change or the
+// refusal.
 
 module.exports = [
   {
@@ -130,5 +131,43 @@ module.exports = [
     files: { 'a.mjs': "export let one;\n", 'node_modules/p/index.mjs': "import { one } from '../../a.mjs';\none;\n", 'app.mjs': "import './a.mjs';\nimport './node_modules/p/index.mjs';\n" },
     rename: ['a.mjs', 'one', 'first'],
     refused: 'node_modules/p/index.mjs:1:10: this file is of a package',
+  },
+  {
+    name: 'a folder is all its files: a test that nothing imports, and what package.json names',
+    files: {
+      'package.json': '{ "type": "module", "main": "src/index.js" }',
+      'src/index.js': "export { one } from './a.js';\n",
+      'src/a.js': 'export let one;\n',
+      'test/a.js': "import { one } from '../src/a.js';\none;\n",
+      'node_modules/p/index.js': 'let = =;\n',
+    },
+    rename: ['src/a.js', 'one', 'first'],
+    entries: ['.'],
+    wanted: {
+      'src/a.js': 'export let first;\n',
+      'src/index.js': "export { first } from './a.js';\n",
+      'test/a.js': "import { first } from '../src/a.js';\nfirst;\n",
+    },
+  },
+  {
+    name: 'a file of a folder that no parser reads and that has not the name',
+    files: { 'a.mjs': 'export let one;\n', 'b.mjs': "import { one } from './a.mjs';\n", 'broken.mjs': 'let two = = 1;\n' },
+    rename: ['a.mjs', 'one', 'first'],
+    entries: ['.'],
+    wanted: { 'a.mjs': 'export let first;\n', 'b.mjs': "import { first } from './a.mjs';\n" },
+  },
+  {
+    name: 'one that has it',
+    files: { 'a.mjs': 'export let one;\n', 'broken.mjs': "import { one } from './a.mjs';\nlet two = = 1;\n" },
+    rename: ['a.mjs', 'one', 'first'],
+    entries: ['.'],
+    refused: 'broken.mjs: Unexpected token',
+  },
+  {
+    name: 'a file of CommonJS in a folder',
+    files: { 'a.mjs': 'export let one;\n', 'common.cjs': "const { one } = require('./a.mjs');\n" },
+    rename: ['a.mjs', 'one', 'first'],
+    entries: ['.'],
+    refused: "common.cjs:1:25: what is used of this module isn't known, and it exports `one`",
   },
 ];

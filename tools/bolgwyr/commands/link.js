@@ -4,9 +4,9 @@
 const { load } = require('../../source-to-tree/load.js');
 
 const HELP = `
-An entry is a file, or a folder with a package.json or an index file. What it imports is found as bundlers and TypeScript find it:
-relative paths, packages with their \`exports\` and \`imports\`, \`paths\` of tsconfig.json. Of packages that aren't installed, of
-CommonJS and of Node's own modules nothing is known, so their names are taken as they are.
+An entry is a file, or a folder: what its package.json names, or its index file, else all files below it. What it imports is found
+as bundlers and TypeScript find it: relative paths, packages with their \`exports\` and \`imports\`, \`paths\` of tsconfig.json. Of
+packages that aren't installed, of CommonJS and of Node's own modules nothing is known, so their names are taken as they are.
 
 Examples:
   bolgwyr link src/index.js                         what the program's first file reaches

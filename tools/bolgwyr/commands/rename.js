@@ -16,7 +16,7 @@ function add(program, name) {
     .argument('<name>', 'the new name')
     .option('--write', 'write the file')
     .option('--json', 'one object: the edits with bytes, lines and columns')
-    .option('--project <entry...>', 'rename what a module exports in all modules that these files or folders reach')
+    .option('--project <entry...>', 'rename what a module exports in all modules that these files reach, and in all files of these folders')
     .addOption(new Option('--parser <parser>', "in place of the one that the file's name tells").choices(['acorn', 'typescript']))
     .addOption(new Option('--goal <goal>', "in place of the one that the file's name tells").choices(['script', 'module', 'commonjs']))
     .allowExcessArguments(false)
