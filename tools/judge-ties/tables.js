@@ -36,8 +36,8 @@ function tangledByProgram(json) {
 }
 
 // The tree as JSON, its rows and the report.
-function tablesOf(source) {
-  const { json } = treeOf(source, { filename: 'program.js', goal: 'script' });
+function tablesOf(source, options = { filename: 'program.js', goal: 'script' }) {
+  const { json } = treeOf(source, options);
   return { json, rows: JSON.parse(json).rows, report: parseReport(run(REPORT, json)) };
 }
 

@@ -34,7 +34,7 @@ function changedNames(rows, mangled) {
 
 // The tables are what the mangler goes by, so that it can't change a name at which they may part from the language.
 function refuseTangled(analysis, { old }) {
-  for (const [name, { reason, span }] of tangledNames(analysis.tree, analysis.report)) {
+  for (const [name, { reason, span }] of tangledNames(analysis)) {
     if (old.has(name)) {
       throw new RenameRefusal(`\`${name}\` can't be followed: ${reason}`, span);
     }
@@ -42,7 +42,7 @@ function refuseTangled(analysis, { old }) {
 }
 
 function refuseTangledAfter(mangled, { fresh }, placeBefore) {
-  for (const [name, { reason, span }] of tangledNames(mangled.tree, mangled.report)) {
+  for (const [name, { reason, span }] of tangledNames(mangled)) {
     if (fresh.has(name)) {
       const start = placeBefore(span.start);
       throw new RenameRefusal(`\`${name}\` couldn't be followed: ${reason}`, { start, end: start });

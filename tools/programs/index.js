@@ -12,6 +12,7 @@ const TOOLS = {
   renamer: { crate: 'tools_main', words: ['renamer'] },
   mangler: { crate: 'tools_main', words: ['mangler'] },
   name_lint: { crate: 'tools_main', words: ['name_lint'] },
+  tangled_names: { crate: 'tools_main', words: ['tangled_names'] },
   module_linker: { crate: 'tools_main', words: ['module_linker'] },
 };
 

@@ -32,7 +32,7 @@ function refuseReserved(analysis, symbol, name) {
 }
 
 function refuseTangled(analysis, name) {
-  const tangled = analysis.once('tangled', () => tangledNames(analysis.tree, analysis.report)).get(name);
+  const tangled = analysis.once('tangled', () => tangledNames(analysis)).get(name);
   if (tangled !== undefined) {
     throw new RenameRefusal(`\`${name}\` can't be followed: ${tangled.reason}`, tangled.span);
   }
@@ -84,7 +84,7 @@ function refuseNewErrors(analysis, renamed, placeBefore) {
 }
 
 function refuseTangledAfter(renamed, name, placeBefore) {
-  const tangled = tangledNames(renamed.tree, renamed.report).get(name);
+  const tangled = tangledNames(renamed).get(name);
   if (tangled !== undefined) {
     const start = placeBefore(tangled.span.start);
     throw new RenameRefusal(`\`${name}\` couldn't be followed: ${tangled.reason}`, { start, end: start });

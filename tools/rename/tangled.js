@@ -1,23 +1,25 @@
 'use strict';
 // Names whose tables may part from the language: for such a name a reference or a declaration may belong to another variable than the
-// tables say, so that no renaming of it can be promised. Rather a few names too many than one too few.
-//
-// One pass over the rows and one over the tables.
+// tables say, so that no renaming of it can be promised. Which names these are, and why, the proved program says; where in the source
+// it shows is looked for here, by one pass over the rows and one over the tables. `__proto__` comes besides: of it no tie parts, but a
+// property of that name is none where it is written out.
 
+const { RunFault } = require('../bolgwyr/faults.js');
+const { runTool } = require('../programs/index.js');
 const { DEPTH, END, KIND, ROLE, START, TEXT, endsOf, parentsOf } = require('../edits/rows.js');
 const { eachDeclaration } = require('./declarations.js');
 
-// Why names are tangled, with the section of ECMAScript.
+// Why names are tangled, by the word that the program has for it, with the section of ECMAScript.
 const REASONS = {
-  blockFunction: 'a function in a block shares its name with another declaration (ECMAScript B.3.2, B.3.3)',
-  catchName: 'a `var` stands in a catch clause that catches its name (ECMAScript B.3.4)',
-  arguments: 'each function declares it by itself (ECMAScript 10.2.11)',
-  with: 'it is used within `with`, whose object may have a property of that name (ECMAScript 9.1.1.2)',
-  eval: 'code that is run by a direct call of `eval` may use it (ECMAScript 19.2.1.1)',
-  proto: 'in an object, `__proto__` sets the prototype or not by how it is written (ECMAScript 13.2.5.5)',
-  loose: 'TypeScript may tie this use to a declaration of the file, which the analysis leaves undeclared',
-  merged: 'it is declared in one of several namespaces or enums that are merged',
+  BlockFunction: 'a function in a block shares its name with another declaration (ECMAScript B.3.2, B.3.3)',
+  CatchVariable: 'a `var` stands in a catch clause that catches its name (ECMAScript B.3.4)',
+  Arguments: 'each function declares it by itself (ECMAScript 10.2.11)',
+  With: 'it is used within `with`, whose object may have a property of that name (ECMAScript 9.1.1.2)',
+  Eval: 'code that is run by a direct call of `eval` may use it (ECMAScript 19.2.1.1)',
+  FreeNamesake: 'TypeScript may tie this use to a declaration of the file, which the analysis leaves undeclared',
+  MergedMember: 'it is declared in one of several namespaces or enums that are merged',
 };
+const PROTO = 'in an object, `__proto__` sets the prototype or not by how it is written (ECMAScript 13.2.5.5)';
 
 const spanOf = (row) => ({ start: row[START], end: row[END] });
 
@@ -65,20 +67,20 @@ function tangledByRows({ rows, parents, report, inWith }, note) {
     if (way === 'catch') {
       catches.add(key);
     } else if (way === 'var' && catches.has(key)) {
-      note(name, 'catchName', spanOf(rows[node]));
+      note(name, 'CatchVariable', spanOf(rows[node]));
     }
     if (way === 'var' && scope !== null && inWith[scope.id]) {
-      note(name, 'with', spanOf(rows[node]));
+      note(name, 'With', spanOf(rows[node]));
     }
     if (name === 'arguments' || name === '__proto__') {
-      note(name, name === 'arguments' ? 'arguments' : 'proto', spanOf(rows[node]));
+      note(name, name === 'arguments' ? 'Arguments' : PROTO, spanOf(rows[node]));
     }
   };
   eachDeclaration({ rows, parents, report, enter: (row) => catches.enter(row), visit });
   for (const group of groups.values()) {
     const moved = group.length > 1 ? group.find(isBlockFunction) : undefined;
     if (moved !== undefined) {
-      note(moved.name, 'blockFunction', spanOf(rows[moved.node]));
+      note(moved.name, 'BlockFunction', spanOf(rows[moved.node]));
     }
   }
 }
@@ -94,12 +96,12 @@ function scopesInWith(scopes) {
 function tangledByTables({ rows, report, inWith }, note) {
   for (const reference of report.references) {
     if (inWith[reference.scope]) {
-      note(reference.name, 'with', spanOf(rows[reference.node]));
+      note(reference.name, 'With', spanOf(rows[reference.node]));
     }
   }
   for (const symbol of report.symbols) {
     if (report.scopes[symbol.scope].flags.includes('DirectEval')) {
-      note(symbol.name, 'eval', symbol.span);
+      note(symbol.name, 'Eval', symbol.span);
     }
   }
 }
@@ -109,7 +111,7 @@ function looseNames({ rows, report }, note) {
   const declared = new Set(report.symbols.map(({ name }) => name));
   for (const reference of report.references) {
     if (reference.symbol === null && declared.has(reference.name)) {
-      note(reference.name, 'loose', spanOf(rows[reference.node]));
+      note(reference.name, 'FreeNamesake', spanOf(rows[reference.node]));
     }
   }
 }
@@ -152,21 +154,33 @@ function mergedNames({ rows, parents, ends, report }, note) {
   for (const { scope } of owners.filter(({ name }) => blocks.get(name) > 1)) {
     for (const binding of scope.bindings) {
       if (symbolsOf.get(binding.name) > 1) {
-        note(binding.name, 'merged', report.symbols[binding.symbol].span);
+        note(binding.name, 'MergedMember', report.symbols[binding.symbol].span);
       }
     }
   }
 }
 
-// The tangled names of a tree with its tables, each with a reason in words and the span that shows it.
-function tangledNames(tree, report) {
-  const { rows, lang } = tree;
-  const found = new Map();
-  const note = (name, reason, span) => {
-    if (!found.has(name)) {
-      found.set(name, { reason: REASONS[reason], span });
+// Where each reason of each name shows: the first span.
+class Places {
+  constructor() {
+    this.found = new Map();
+  }
+
+  note(name, reason, span) {
+    const spans = this.found.get(name) || new Map();
+    if (!spans.has(reason)) {
+      this.found.set(name, spans.set(reason, span));
     }
-  };
+  }
+
+  spanOf(name, reason) {
+    return this.found.get(name)?.get(reason);
+  }
+}
+
+function placesIn({ rows, lang }, report) {
+  const places = new Places();
+  const note = places.note.bind(places);
   const parents = parentsOf(rows);
   const known = { rows, parents, ends: endsOf(rows), report, inWith: scopesInWith(report.scopes) };
   tangledByRows(known, note);
@@ -174,6 +188,36 @@ function tangledNames(tree, report) {
   if (lang !== 'js' && lang !== 'jsx') {
     looseNames(known, note);
     mergedNames(known, note);
+  }
+  return places;
+}
+
+const LINE = /^tangled (\d+) ("(?:[^"\\]|\\.)*") (\S+)/;
+
+// The first symbol of each tangled name, and the first reason, as the program tells them.
+function toldOf(json) {
+  const { status, signal, stdout, stderr } = runTool('tangled_names', [], json);
+  if (status !== 0 && status !== 1) {
+    throw new RunFault(`the lint of tangled names ended with ${signal || status}: ${stderr.trim()}`);
+  }
+  const lines = stdout.toString('utf8').split('\n').filter((line) => line !== '');
+  return lines.map((line) => {
+    const [, symbol, name, reason] = LINE.exec(line);
+    return { symbol: Number(symbol), name: JSON.parse(name), reason };
+  });
+}
+
+// The tangled names of a tree with its tables, each with a reason in words and the span that shows it.
+function tangledNames({ tree, report, json }) {
+  const found = new Map();
+  const told = toldOf(json);
+  const places = told.length > 0 || report.symbols.some(({ name }) => name === '__proto__') ? placesIn(tree, report) : new Places();
+  for (const { symbol, name, reason } of told) {
+    found.set(name, { reason: REASONS[reason], span: places.spanOf(name, reason) || report.symbols[symbol].span });
+  }
+  const proto = places.spanOf('__proto__', PROTO);
+  if (proto !== undefined && !found.has('__proto__')) {
+    found.set('__proto__', { reason: PROTO, span: proto });
   }
   return found;
 }

@@ -97,7 +97,7 @@ function writing({ at, put, read, run }, expect) {
 function meanwhile({ at, put, read, run }, expect) {
   fs.mkdirSync(at('programs'));
   put('programs/report_main', `#!/bin/sh\nexec '${programPath('report_main')}' "$@"\n`, 0o755);
-  put('programs/tools_main', `#!/bin/sh\necho '// more' >> moved.mjs\nexec '${programPath('tools_main')}' "$@"\n`, 0o755);
+  put('programs/tools_main', `#!/bin/sh\n[ "$1" = renamer ] && echo '// more' >> moved.mjs\nexec '${programPath('tools_main')}' "$@"\n`, 0o755);
   put('moved.mjs', 'let a;\n');
   const done = run(['moved.mjs:a', 'b', '--write'], { BOLGWYR_PROGRAMS: at('programs') });
   expect('a file that changes meanwhile', '3||bolgwyr: moved.mjs: has changed since it was read: nothing is written\n', told(done));

@@ -1,0 +1,62 @@
+'use strict';
+// What TypeScript's checker ties each name of a small module to, without a library.
+
+const ts = require('../../source-to-tree/load').load('typescript');
+
+const FILE = 'module.ts';
+const OPTIONS = { noLib: true, noResolve: true, types: [], target: ts.ScriptTarget.ESNext, module: ts.ModuleKind.ESNext };
+
+// What it says of names that it doesn't find, finds as something else, or finds unused by their order; and of the library that isn't there.
+const OF_NAMES = new Set([2304, 2318, 2339, 2448, 2449, 2450, 2454, 2503, 2552, 2651, 2683, 2686, 2693, 2694, 2702, 2708, 2709, 2713, 2724, 2749]);
+const OF_VALUES = new Set([1155, 2322, 2362, 2363, 2474, 2477, 2478, 2564, 7005, 7022, 18033]);
+
+function hostOf(file) {
+  return {
+    fileExists: (name) => name === FILE,
+    readFile: () => undefined,
+    getSourceFile: (name) => (name === FILE ? file : undefined),
+    getDefaultLibFileName: () => 'lib.d.ts',
+    writeFile: () => {},
+    getCurrentDirectory: () => '',
+    getCanonicalFileName: (name) => name,
+    useCaseSensitiveFileNames: () => true,
+    getNewLine: () => '\n',
+  };
+}
+
+function symbolOf(checker, identifier) {
+  const { parent } = identifier;
+  if (ts.isExportSpecifier(parent)) {
+    return checker.getExportSpecifierLocalTargetSymbol(parent);
+  }
+  return ts.isShorthandPropertyAssignment(parent) ? checker.getShorthandAssignmentValueSymbol(parent) : checker.getSymbolAtLocation(identifier);
+}
+
+// Where the names of a symbol's declarations begin.
+function startsOf(symbol) {
+  const named = ((symbol && symbol.declarations) || []).map((declaration) => ts.getNameOfDeclaration(declaration)).filter((name) => name !== undefined);
+  return named.map((name) => name.getStart());
+}
+
+// For each identifier, by where it begins, where the declarations begin that it is tied to; or null where the module has errors of another
+// kind than that of names.
+function tiesByChecker(source) {
+  const file = ts.createSourceFile(FILE, source, OPTIONS.target, true);
+  const program = ts.createProgram([FILE], OPTIONS, hostOf(file));
+  const told = [...program.getSyntacticDiagnostics(file), ...program.getSemanticDiagnostics(file)];
+  if (told.some(({ code }) => !OF_NAMES.has(code) && !OF_VALUES.has(code))) {
+    return null;
+  }
+  const checker = program.getTypeChecker();
+  const ties = new Map();
+  const visit = (node) => {
+    if (ts.isIdentifier(node)) {
+      ties.set(node.getStart(), startsOf(symbolOf(checker, node)));
+    }
+    ts.forEachChild(node, visit);
+  };
+  visit(file);
+  return ties;
+}
+
+module.exports = { tiesByChecker };
