@@ -38,13 +38,25 @@ function startsOf(symbol) {
   return named.map((name) => name.getStart());
 }
 
+// The errors of a module; null where the checker follows a ring of imports until its stack is full.
+function errorsOf(program, file) {
+  try {
+    return [...program.getSyntacticDiagnostics(file), ...program.getSemanticDiagnostics(file)];
+  } catch (error) {
+    if (error instanceof RangeError) {
+      return null;
+    }
+    throw error;
+  }
+}
+
 // For each identifier, by where it begins, where the declarations begin that it is tied to; or null where the module has errors of another
 // kind than that of names.
 function tiesByChecker(source) {
   const file = ts.createSourceFile(FILE, source, OPTIONS.target, true);
   const program = ts.createProgram([FILE], OPTIONS, hostOf(file));
-  const told = [...program.getSyntacticDiagnostics(file), ...program.getSemanticDiagnostics(file)];
-  if (told.some(({ code }) => !OF_NAMES.has(code) && !OF_VALUES.has(code))) {
+  const errors = errorsOf(program, file);
+  if (errors === null || errors.some(({ code }) => !OF_NAMES.has(code) && !OF_VALUES.has(code))) {
     return null;
   }
   const checker = program.getTypeChecker();
