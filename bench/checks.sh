@@ -176,6 +176,11 @@ private_uses_of_the_class_around() { rows script js 'function before() { class(1
 parameters() { rows script ts 'function before() { signature(1) } function part(i) { parameter(4, "a" i) } function after() {}' "$1"; }
 equal_parameters() { rows script ts 'function before() { signature(1) } function part(i) { parameter(4, "a") } function after() {}' "$1"; }
 
+# Names of one pattern: of a `var` in a block, in an array and in an object, and of a parameter of a signature.
+names_of_a_var() { rows script js 'function before() { row(1, "body", "BlockStatement", ""); row(2, "body", "VariableDeclaration", "var"); row(3, "declarators", "VariableDeclarator", ""); row(4, "id", "ArrayPattern", "") } function part(i) { row(5, "elements", "BindingIdentifier", "a" i) } function after() { row(4, "init", "IdentifierReference", "b") }' "$1"; }
+properties_of_a_var() { rows script js 'function before() { row(1, "body", "BlockStatement", ""); row(2, "body", "VariableDeclaration", "var"); row(3, "declarators", "VariableDeclarator", ""); row(4, "id", "ObjectPattern", "") } function part(i) { row(5, "properties", "BindingProperty", ""); row(6, "key", "IdentifierName", "a" i); row(6, "value", "BindingIdentifier", "a" i) } function after() { row(4, "init", "IdentifierReference", "b") }' "$1"; }
+names_of_a_parameter() { rows script ts 'function before() { signature(1); parameter(4, "b"); row(4, "items", "FormalParameter", ""); row(5, "pattern", "ArrayPattern", "") } function part(i) { row(6, "elements", "BindingIdentifier", "a" i) } function after() {}' "$1"; }
+
 # Exports that something declares, that nothing declares, and that nothing declares under one name; export assignments.
 exports() { rows module js 'function before() { row(1, "body", "ExportNamedDeclaration", "") } function part(i) { specifier(2, "a" i, "a" i) } function after() { for (i = 0; i < count; i++) declaration(1, "let", "a" i) }' "$1"; }
 undefined_exports() { rows module js 'function before() { row(1, "body", "ExportNamedDeclaration", "") } function part(i) { specifier(2, "a" i, "a" i) } function after() {}' "$1"; }
@@ -231,7 +236,7 @@ grow() {
 
 families='private_elements equal_private_elements public_elements equal_public_elements getters_and_setters overloads
     methods_without_body constructors private_uses undefined_private_uses private_uses_of_the_class_around parameters
-    equal_parameters exports undefined_exports equal_undefined_exports export_assignments imports equal_imports functions
+    equal_parameters names_of_a_var properties_of_a_var names_of_a_parameter exports undefined_exports equal_undefined_exports export_assignments imports equal_imports functions
     functions_behind_an_async_one functions_round_an_async_one strict_functions vars_of_a_function labels jumps_to_a_far_label jumps_to_no_label deep_names
     deep_supers enum_members prototypes escapes'
 
