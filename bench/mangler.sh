@@ -98,35 +98,19 @@ try_family() {
 }
 
 # Files of packages, where they are installed.
-FILES="acorn/dist/acorn.js typescript/lib/typescript.js underscore/underscore.js terser/dist/bundle.min.js lodash/lodash.js
-eslint/lib/linter/linter.js commander/lib/command.js magic-string/dist/magic-string.cjs.js source-map/lib/source-map-consumer.js
-globby/index.js enhanced-resolve/lib/Resolver.js esprima/dist/esprima.js"
+FILES="acorn/dist/acorn.js underscore/underscore.js lodash/lodash.js eslint/lib/linter/linter.js commander/lib/command.js
+magic-string/dist/magic-string.cjs.js source-map/lib/source-map-consumer.js globby/index.js enhanced-resolve/lib/Resolver.js
+semver/classes/range.js esquery/parser.js uri-js/dist/es5/uri.all.js"
 
 try_bytes() {
     for file in $FILES; do
         whole="/usr/share/nodejs/$file"
         [ -f "$whole" ] || continue
-        bin/bolgwyr mangle --toplevel "$whole" >"$scratch/mangled.js" 2>"$scratch/errs" || { echo "$file: $(head -n 1 "$scratch/errs")"; continue; }
-        node -e '
-            const fs = require("fs");
-            const [, file, mangled] = process.argv;
-            const before = fs.statSync(file).size;
-            const after = fs.statSync(mangled).size;
-            let terser;
-            try { terser = require("/usr/share/nodejs/terser"); } catch { terser = null; }
-            const say = (other) => console.log(`${file.slice(18)}: ${before} bytes, mangled ${after}${other}`);
-            const printed = { ecma: 2020, compress: false, mangle: false, format: { comments: "all", beautify: true } };
-            if (terser === null) { say(""); process.exit(); }
-            // What terser writes of the names alone: the same printer without and with its mangle.
-            const text = fs.readFileSync(file, "utf8");
-            const size = async (source, mangle) => Buffer.byteLength((await terser.minify(source, { ...printed, mangle })).code);
-            (async () => {
-                const plain = await size(text, false);
-                const theirs = await size(text, { toplevel: true });
-                const ours = await size(fs.readFileSync(mangled, "utf8"), false);
-                say(`; by the same printer ${plain}, mangled ${ours}, by terser ${theirs}`);
-            })();
-        ' "$whole" "$scratch/mangled.js"
+        if bin/bolgwyr mangle --toplevel "$whole" >"$scratch/mangled.js" 2>"$scratch/errs"; then
+            echo "$file: $(node bench/mangler-bytes.js "$whole" "$scratch/mangled.js")"
+        else
+            echo "$file: $(head -n 1 "$scratch/errs")"
+        fi
     done
 }
 

@@ -62,12 +62,12 @@ const CALLS = {
     for (let at = 10; at + 20 < text.length; at += 997) changed.overwrite(at, at + 5, `<${at}>`).appendLeft(at + 9, '!');
     return [changed.toString(), changed.generateMap({ hires: true, source: name, includeContent: false }).toString()];
   })),
-  'source-map': ({ SourceMapGenerator }, ask) => ask('generated', () => {
-    const made = new SourceMapGenerator({ file: 'a.js' });
-    for (let line = 1; line < 60; line += 1) made.addMapping({ generated: { line, column: line % 7 }, original: { line: line * 2, column: line % 3 }, source: `${line % 4}.js`, name: `n${line}` });
+  'source-map': ({ SourceMapGenerator }, ask) => [2, 10, 60, 500].forEach((lines) => ask(`${lines} lines`, () => {
+    const made = new SourceMapGenerator({ file: 'a.js', sourceRoot: lines > 10 ? '/root' : undefined });
+    for (let line = 1; line < lines; line += 1) made.addMapping({ generated: { line, column: line % 7 }, original: { line: line * 2, column: line % 3 }, source: `${line % 4}.js`, name: `n${line}` });
     made.setSourceContent('1.js', 'text');
     return made.toString();
-  }),
+  })),
   'uri-js': (uri, ask) => eachPair(['http://a.b/c/../d?e=f#g', 'urn:isbn:1', 'mailto:a@b.c', '//x:80/', 'ws://h/%7e', 'é'], ['', '../x', '?y'], (one, other) => ask(`${one} ${other}`, () => [uri.parse(one), uri.normalize(one), uri.resolve(one, other), uri.equal(one, other)])),
   doctrine: (doctrine, ask) => ['@param {string=} a - b', '@returns {Array<{a: number, b: (string|null)}>}', '/** text\n * @type {function(new:A, ...number): void}\n */', '@see x {@link y}'].forEach((text) => ask(text, () => JSON.stringify(doctrine.parse(text, { unwrap: true, sloppy: true })))),
   esquery: (esquery, ask) => {

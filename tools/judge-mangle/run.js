@@ -14,6 +14,9 @@ const CLASS_NAME = /(^|[[\s,:(])[A-Za-z_$][\w$]* \{/g;
 
 // A value in one line.
 function shown(value) {
+  if (value instanceof Error) {
+    return `an error, ${value.constructor.name}`;
+  }
   const text = typeof value === 'string' ? value : util.inspect(value, { depth: 6, maxArrayLength: null, maxStringLength: null, breakLength: Infinity });
   return text.replace(FUNCTION, '[Function]').replace(CLASS_NAME, '$1{').replace(/\n/g, '\\n');
 }
@@ -24,7 +27,7 @@ function ask(label, call) {
   try {
     told = shown(call());
   } catch (error) {
-    told = `throws ${error instanceof Error ? error.constructor.name : shown(error)}`;
+    told = `throws ${shown(error)}`;
   }
   process.stdout.write(`${label}: ${told}\n`);
 }

@@ -50,8 +50,8 @@ function errorsOf(program, file) {
   }
 }
 
-// For each identifier, by where it begins, where the declarations begin that it is tied to; or null where the module has errors of another
-// kind than that of names.
+// For each identifier, by where it begins, where the declarations begin that it is tied to, but for those at which an error is told: they
+// mean nothing there. null where the module has errors of another kind than that of names.
 function tiesByChecker(source) {
   const file = ts.createSourceFile(FILE, source, OPTIONS.target, true);
   const program = ts.createProgram([FILE], OPTIONS, hostOf(file));
@@ -60,9 +60,10 @@ function tiesByChecker(source) {
     return null;
   }
   const checker = program.getTypeChecker();
+  const faulty = new Set(errors.map(({ start }) => start));
   const ties = new Map();
   const visit = (node) => {
-    if (ts.isIdentifier(node)) {
+    if (ts.isIdentifier(node) && !faulty.has(node.getStart())) {
       ties.set(node.getStart(), startsOf(symbolOf(checker, node)));
     }
     ts.forEachChild(node, visit);

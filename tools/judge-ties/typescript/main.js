@@ -37,7 +37,7 @@ function judged(source, sum) {
   for (const reference of report.references) {
     const row = rows[reference.node];
     const at = ties.get(row[START]);
-    const isJudged = !tangled.has(row[TEXT]);
+    const isJudged = at !== undefined && !tangled.has(row[TEXT]);
     sum.references += isJudged ? 1 : 0;
     const symbol = reference.symbol === null ? undefined : report.symbols[reference.symbol];
     if (isJudged && !isAgreed(at, symbol)) {
