@@ -8,13 +8,13 @@ const os = require('os');
 const path = require('path');
 const readline = require('readline');
 const { RunFault } = require('../bolgwyr/faults.js');
-const { CRATES, TOOLS, prepare, programPath } = require('../programs/index.js');
+const { askedFor, cratesOf, prepare, programPath } = require('../programs/index.js');
 
 // Reads lines `ID TOOL ..`, and for each tool writes `ID TOOL STATUS` once its answer stands in the files `ID.TOOL`.
 const SCRIPT = `while read -r id tools; do
   for tool in $tools; do
     case $tool in
-      report) "$1" --check ;;
+      report) "$1" $3 --check ;;
       name_lint) "$2" name_lint ;;
     esac <"$id.tree" >"$id.$tool" 2>"$id.$tool.err"
     echo "$id $tool $?"
@@ -30,8 +30,9 @@ function nameOfSignal(number) {
 
 // The programs of the script, in its order; without one of them no file gets an answer.
 function programsToRun() {
-  prepare(CRATES);
-  return ['report', 'name_lint'].map((tool) => programPath(TOOLS[tool].crate)).map((program) => {
+  const tools = ['report', 'name_lint'];
+  prepare(cratesOf(tools));
+  return tools.map((tool) => programPath(askedFor(tool).crate)).map((program) => {
     try {
       fs.accessSync(program, fs.constants.X_OK);
       return program;
@@ -53,7 +54,7 @@ class Runner {
   }
 
   start() {
-    const shell = spawn('/bin/sh', ['-c', SCRIPT, 'sh', ...this.programs], { cwd: this.folder, stdio: ['pipe', 'pipe', 'inherit'] });
+    const shell = spawn('/bin/sh', ['-c', SCRIPT, 'sh', ...this.programs, ...askedFor('report').words], { cwd: this.folder, stdio: ['pipe', 'pipe', 'inherit'] });
     readline.createInterface({ input: shell.stdout }).on('line', (line) => this.take(line));
     shell.on('error', (error) => this.end(new RunFault(`/bin/sh can't be run: ${error.message}`)));
     shell.on('close', () => this.end(new RunFault('a shell ended before its time')));

@@ -3,7 +3,9 @@
 
 const { spawn } = require('child_process');
 const { RunFault } = require('../bolgwyr/faults.js');
-const { CRATES, TOOLS, prepare, programPath, readyOf } = require('../programs/index.js');
+const { askedFor, cratesOf, prepare, programPath, readyOf } = require('../programs/index.js');
+
+const TOOLS = ['report', 'name_lint', 'renamer'];
 
 const INFO = 3;
 const ERROR = 1;
@@ -11,10 +13,11 @@ const ERROR = 1;
 // Builds what isn't there, and says so.
 function prepareFirst(told) {
   try {
-    if (CRATES.some((crate) => readyOf(crate).place === null)) {
-      told({ type: INFO, message: 'builds its programs first, which takes some minutes' });
+    const crates = cratesOf(TOOLS);
+    if (crates.some((crate) => readyOf(crate).place === null)) {
+      told({ type: INFO, message: 'builds its program first, which takes some minutes' });
     }
-    prepare(CRATES);
+    prepare(crates);
   } catch (error) {
     told({ type: ERROR, message: error.message });
   }
@@ -22,7 +25,7 @@ function prepareFirst(told) {
 
 // The run of a tool on a tree, in the form of `runTool`.
 function runBeside(tool, words, input) {
-  const { crate, words: own } = TOOLS[tool];
+  const { crate, words: own } = askedFor(tool);
   const program = programPath(crate);
   const child = spawn(program, [...own, ...words]);
   const chunks = { stdout: [], stderr: [] };

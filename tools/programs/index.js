@@ -6,16 +6,10 @@ const path = require('path');
 const { spawnSync } = require('child_process');
 const { RunFault } = require('../bolgwyr/faults.js');
 
-// The crate of each tool, and the word by which that crate's program knows it.
-const TOOLS = {
-  report: { crate: 'report_main', words: [] },
-  renamer: { crate: 'tools_main', words: ['renamer'] },
-  mangler: { crate: 'tools_main', words: ['mangler'] },
-  name_lint: { crate: 'tools_main', words: ['name_lint'] },
-  module_linker: { crate: 'tools_main', words: ['module_linker'] },
-};
-
-const CRATES = ['report_main', 'tools_main'];
+// The program that has all tools, and the one that has the report alone.
+const ALL_TOOLS = 'tools_main';
+const REPORT_ALONE = 'report_main';
+const CRATES = [REPORT_ALONE, ALL_TOOLS];
 
 // The programs of an installed copy stand here, with a file that notes how each was made. It has no crates.
 const INSTALLED = path.join(__dirname, '..', '..', 'programs');
@@ -23,7 +17,22 @@ const STATES = path.join(INSTALLED, 'states');
 const isInstalled = () => fs.existsSync(INSTALLED);
 
 // The report program that is to run in the place of the repository's own.
-const GIVEN = { report_main: 'BOLGWYR_REPORT' };
+const GIVEN = { [REPORT_ALONE]: 'BOLGWYR_REPORT' };
+
+// Whether the environment names a program that has the report alone. Else the one that has all tools is asked, so that one is to be built.
+function isReportGiven() {
+  const { BOLGWYR_REPORT: report, BOLGWYR_PROGRAMS: folder } = process.env;
+  return Boolean(report) || (Boolean(folder) && fs.existsSync(path.join(folder, REPORT_ALONE)));
+}
+
+// The crate whose program has a tool, and the words by which that program knows it.
+function askedFor(tool) {
+  const isAlone = tool === 'report' && isReportGiven();
+  return isAlone ? { crate: REPORT_ALONE, words: [] } : { crate: ALL_TOOLS, words: [tool] };
+}
+
+// The crates whose programs have some tools.
+const cratesOf = (tools) => [...new Set(tools.map((tool) => askedFor(tool).crate))];
 
 // Where the program of each crate stands that was asked for, by its crate. A run of this process keeps to it.
 const places = new Map();
@@ -100,7 +109,7 @@ function programPath(crate) {
 
 // Runs a tool with words and standard input, and gives its status, standard output as bytes and standard error as text.
 function runTool(tool, words, input) {
-  const { crate, words: own } = TOOLS[tool];
+  const { crate, words: own } = askedFor(tool);
   const program = programPath(crate);
   const run = spawnSync(program, [...own, ...words], { input, maxBuffer: Infinity });
   if (run.status === null && run.signal === null) {
@@ -109,4 +118,4 @@ function runTool(tool, words, input) {
   return { status: run.status, signal: run.signal, stdout: run.stdout, stderr: run.stderr.toString('utf8') };
 }
 
-module.exports = { CRATES, STATES, TOOLS, isInstalled, prepare, programPath, prove, readyOf, runTool };
+module.exports = { CRATES, STATES, askedFor, cratesOf, isInstalled, prepare, programPath, prove, readyOf, runTool };
