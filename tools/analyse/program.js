@@ -2,7 +2,7 @@
 // What the programs answer on a tree.
 
 const { RunFault } = require('../bolgwyr/faults.js');
-const { programPath, runTool, TOOLS } = require('../programs/index.js');
+const { programPath, runBy, runTool } = require('../programs/index.js');
 const { Refusal } = require('./refusal.js');
 
 // What each exit status without an answer means for a file.
@@ -29,7 +29,7 @@ function readRefusal(line) {
 
 // Throws what a run without an answer means.
 function fail(tool, { status, signal, stderr }) {
-  const program = programPath(TOOLS[tool].crate);
+  const program = programPath(runBy(tool).crate);
   const line = stderr.trim().split('\n').pop();
   if (CAUSES.has(status)) {
     throw new Refusal(CAUSES.get(status));

@@ -27,13 +27,13 @@ function unusedSymbols(nameText) {
 
 const SEPARATOR = '+';
 
-// The answers of the lint of names and of the report on a tree. Either may be absent where no rule needs it.
+// The answers of the lint of names and of the report on a tree, as bytes. Either may be absent where no rule needs it.
 class Answers {
   constructor({ text, tree, names, report }) {
     this.text = text;
     this.tree = tree;
-    this.nameText = names;
-    this.reportText = report;
+    this.nameBytes = names;
+    this.report = report;
     this.known = {};
   }
 
@@ -47,16 +47,25 @@ class Answers {
   }
 
   get names() {
-    return this.kept('names', () => readNames(this.nameText));
+    return this.kept('names', () => readNames(this.nameBytes.toString('utf8')));
+  }
+
+  get reportText() {
+    return this.kept('reportText', () => this.report.toString('utf8'));
+  }
+
+  // Whether the report has a line that begins with the word. Its first line is of the outermost scope.
+  tells(word) {
+    return this.report.includes(`\n${word} `);
   }
 
   namesOf(kind) {
     return this.names.filter((name) => name.kind === kind);
   }
 
-  // Lines of the report that begin with these words.
+  // Lines of the report that begin with these words. Most reports have no findings, and aren't read for them.
   lines(...words) {
-    return this.kept(words.join(SEPARATOR), () => parseReport(this.reportText, new Set(words)));
+    return this.kept(words.join(SEPARATOR), () => parseReport(words.some((word) => this.tells(word)) ? this.reportText : '', new Set(words)));
   }
 
   get findings() {
@@ -73,7 +82,7 @@ class Answers {
 
   // Whether a name is declared more than once.
   get redeclares() {
-    return this.reportText.includes('\nredecl ');
+    return this.tells('redecl');
   }
 }
 

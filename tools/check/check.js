@@ -22,8 +22,8 @@ function treeOf(text, settings) {
 
 // The findings by the runs of the programs.
 function judge(text, tree, runs, settings) {
-  const [names, report] = ['name_lint', 'report'].map((tool) => runs[tool]?.stdout.toString('utf8'));
-  return findingsOf(new Answers({ text, tree, names, report }), settings);
+  const { name_lint: names, report } = runs;
+  return findingsOf(new Answers({ text, tree, names: names?.stdout, report: report?.stdout }), settings);
 }
 
 // What a refusal comes to: a finding where there is a place, else the file has no answer.
@@ -53,14 +53,14 @@ function sound(tree, tool, run) {
   }
 }
 
-// The same by a runner of programs.
-async function checkBy(runner, text, settings) {
+// The same by a pool of programs.
+async function checkBy(pool, text, settings) {
   try {
     const tree = treeOf(text, settings);
     const tools = programsFor(settings.rules);
-    const runs = tools.length === 0 ? {} : await runner.run(tools, tree.json);
-    tools.forEach((tool) => sound(tree, tool, runs[tool]));
-    return judge(text, tree, runs, settings);
+    const runs = await pool.runAll(tools, WORDS, tree.json);
+    tools.forEach((tool, at) => sound(tree, tool, runs[at]));
+    return judge(text, tree, Object.fromEntries(tools.map((tool, at) => [tool, runs[at]])), settings);
   } catch (error) {
     return refused(error);
   }

@@ -13,7 +13,7 @@ const { Answers } = require('./answers.js');
 // All that the lint says of a text: `{ kind, id, name, span, line, column }` each. Settings: `file`, `known`, `parser`, `goal`.
 function lintText(text, settings) {
   const tree = convertText(text, settings);
-  const names = askAbout(tree, 'name_lint', settings.known).stdout.toString('utf8');
+  const names = askAbout(tree, 'name_lint', settings.known).stdout;
   const answers = new Answers({ text, tree, names });
   return answers.names.map((name) => ({ ...name, ...answers.positions.placeOf(name.span.start) }));
 }

@@ -1,23 +1,22 @@
 'use strict';
-// Checks many files on the thread that calls: it makes trees while shells run the programs on those that are made.
+// Checks many files on the thread that calls: it makes trees while programs answer on those that are made.
 
+const { Pool } = require('../programs/pool.js');
 const { checkBy } = require('./check.js');
 const { resultOf } = require('./one-file.js');
-const { Runner } = require('./runner.js');
 
-// How many trees wait for a shell: enough that none is idle.
+// How many trees wait for a program: enough that none is idle.
 const WAITING = 3;
 
 const breath = () => new Promise((resolve) => { setImmediate(resolve); });
 
-// Jobs: `{ file, name, settings, place }`; `told` hears the place and the result of each as it comes. The scratch folder is the
-// caller's, and takes names that begin with `prefix`.
-async function checkMany(jobs, { stamp, programs, shells, folder, prefix }, told) {
-  const runner = new Runner({ programs, size: shells, folder, prefix });
+// Jobs: `{ file, name, settings, place }`; `told` hears the place and the result of each as it comes. `size` is how many programs there are.
+async function checkMany(jobs, { stamp, programs, size }, told) {
+  const pool = new Pool({ size, programs, isTogether: jobs.length > 1 });
   const waiting = new Set();
   const faults = [];
   const begin = (job) => {
-    const done = resultOf(job, stamp, (text, settings) => checkBy(runner, text, settings))
+    const done = resultOf(job, stamp, (text, settings) => checkBy(pool, text, settings))
       .then((result) => told(job.place, result))
       .catch((fault) => faults.push(fault))
       .finally(() => waiting.delete(done));
@@ -25,13 +24,13 @@ async function checkMany(jobs, { stamp, programs, shells, folder, prefix }, told
   };
   for (const job of jobs) {
     begin(job);
-    await (waiting.size >= WAITING * shells ? Promise.race(waiting) : breath());
+    await (waiting.size >= WAITING * size ? Promise.race(waiting) : breath());
     if (faults.length > 0) {
       break;
     }
   }
   await (faults.length > 0 ? null : Promise.all(waiting));
-  runner.close();
+  pool.close();
   if (faults.length > 0) {
     throw faults[0];
   }

@@ -27,13 +27,14 @@ function failed({ file }, error) {
   return { file, findings: [], failure: error.message };
 }
 
-// The result of a job, `{ file, name, settings }`; `check` gives the findings of a text.
+// The result of a job, `{ file, name, settings }`; `check` gives the findings of a text. Without a stamp nothing is kept, and there is no key.
 async function resultOf(job, stamp, check) {
   try {
     const bytes = bytesOf(job.file);
     const { text, findings } = textOf(bytes);
     const found = findings ?? await check(text, { ...job.settings, file: job.name });
-    return withText({ file: job.file, key: keyOf(stamp, bytes, job), findings: found }, bytes);
+    const key = stamp === '' ? undefined : keyOf(stamp, bytes, job);
+    return withText({ file: job.file, key, findings: found }, bytes);
   } catch (error) {
     return failed(job, error);
   }

@@ -30,10 +30,13 @@ function defaultRules() {
 
 const isOn = (rule) => rule !== undefined && rule.severity !== 'off';
 
+// The programs that any rule goes by.
+const PROGRAMS = [...new Set(Object.values(RULES).flatMap(({ programs }) => programs))];
+
 // The programs that rules need, by their names in tools/programs.
 function programsFor(rules) {
   const wanted = Object.keys(RULES).filter((name) => isOn(rules[name])).flatMap((name) => RULES[name].programs);
   return [...new Set(wanted)];
 }
 
-module.exports = { RULES, SEVERITIES, SYNTAX, UNRESOLVED, defaultRules, isOn, programsFor };
+module.exports = { PROGRAMS, RULES, SEVERITIES, SYNTAX, UNRESOLVED, defaultRules, isOn, programsFor };

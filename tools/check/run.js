@@ -1,9 +1,12 @@
 'use strict';
-// Checks files: those that the cache knows at once, a few here, many with the processors that there are.
+// Checks files: those that the cache knows at once, all others with the processors that there are.
 
 const fs = require('fs');
 const os = require('os');
-const { keptResult, resultOf } = require('./one-file.js');
+const { RunFault } = require('../bolgwyr/faults.js');
+const { programsFor } = require('../programs/index.js');
+const { keptResult } = require('./one-file.js');
+const { PROGRAMS } = require('./rules.js');
 
 // What a thread more is worth: it has to compile all code anew, which takes as long as a fraction of so many bytes do.
 const BYTES_A_THREAD = 5 << 20;
@@ -38,31 +41,37 @@ function runThread(workerData, told) {
 
 async function checkByThreads(jobs, threads, settings, told) {
   const shares = Array.from({ length: threads }, (_, place) => {
-    return { jobs: shareOf(jobs, place, threads), settings: { ...settings, shells: 1, prefix: `${place}-` } };
+    return { jobs: shareOf(jobs, place, threads), settings: { ...settings, size: 1 } };
   });
   await Promise.all(shares.map((share) => runThread(share, told)));
 }
 
-// Checks what isn't kept, in a scratch folder that goes with the process.
+// The programs that any rule goes by; without one of them no file gets an answer.
+function programsToRun() {
+  const programs = programsFor(PROGRAMS);
+  for (const program of Object.values(programs)) {
+    try {
+      fs.accessSync(program, fs.constants.X_OK);
+    } catch (error) {
+      throw new RunFault(`${program} can't be run: ${error.message}`);
+    }
+  }
+  return programs;
+}
+
+// Checks what isn't kept.
 async function checkAnew(jobs, stamp, told) {
-  const { programsToRun } = require('./runner.js');
-  const { scratchFolder } = require('./scratch.js');
   const processors = os.availableParallelism();
   const sorted = largestFirst(jobs);
   const bytes = sorted.reduce((sum, { size }) => sum + size, 0);
   const threads = Math.min(processors, Math.floor(bytes / BYTES_A_THREAD));
-  const settings = { stamp, programs: programsToRun(), folder: scratchFolder() };
+  const settings = { stamp, programs: programsToRun() };
   if (threads > 1) {
     await checkByThreads(sorted, threads, settings, told);
   } else {
     const { checkMany } = require('./many-files.js');
-    await checkMany(sorted, { ...settings, shells: Math.min(processors, jobs.length), prefix: '' }, told);
+    await checkMany(sorted, { ...settings, size: Math.min(processors, PROGRAMS.length * jobs.length) }, told);
   }
-}
-
-async function checkOne(job, stamp, told) {
-  const { checkText } = require('./check.js');
-  told(job.place, await resultOf(job, stamp, checkText));
 }
 
 // The results of files, in their order. Jobs: `{ file, name, settings }`; `told` hears that a result is there.
@@ -84,7 +93,7 @@ async function checkFiles(jobs, cache, told) {
       take(place, kept);
     }
   });
-  await (left.length === 1 ? checkOne(left[0], cache.stamp, take) : left.length > 1 && checkAnew(left, cache.stamp, take));
+  await (left.length > 0 && checkAnew(left, cache.stamp, take));
   return results;
 }
 

@@ -5,7 +5,8 @@ const crypto = require('crypto');
 const fs = require('fs');
 const path = require('path');
 const { load } = require('../source-to-tree/load.js');
-const { CRATES, prepare, programPath } = require('../programs/index.js');
+const { cratesOf, prepare, programPath } = require('../programs/index.js');
+const { PROGRAMS } = require('./rules.js');
 const { version } = require('../../package.json');
 
 const FOLDERS = ['analyse', 'check', 'programs', 'source-to-tree'].map((name) => path.join(__dirname, '..', name));
@@ -35,8 +36,9 @@ function traceOfPackage(name) {
 
 function stamp() {
   load('globals');
-  prepare(CRATES);
-  const programs = CRATES.map(programPath);
+  const crates = cratesOf(PROGRAMS);
+  prepare(crates);
+  const programs = crates.map(programPath);
   const traces = [version, process.version, ...[...FOLDERS.flatMap(filesBelow), ...programs].map(traceOf), ...PACKAGES.map(traceOfPackage)];
   return crypto.createHash('sha256').update(JSON.stringify(traces)).digest('base64');
 }

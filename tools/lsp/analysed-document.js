@@ -18,7 +18,7 @@ const WORDS = { report: ['--check'], name_lint: [] };
 
 function sound(tree, tool, run) {
   try {
-    return answered(tool, run).stdout.toString('utf8');
+    return answered(tool, run).stdout;
   } catch (error) {
     throw error instanceof RefusedTree ? explain(error.refusal, tree) : error;
   }

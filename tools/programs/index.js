@@ -6,17 +6,10 @@ const path = require('path');
 const { spawnSync } = require('child_process');
 const { RunFault } = require('../bolgwyr/faults.js');
 
-// The crate of each tool, and the word by which that crate's program knows it.
-const TOOLS = {
-  report: { crate: 'report_main', words: [] },
-  renamer: { crate: 'tools_main', words: ['renamer'] },
-  mangler: { crate: 'tools_main', words: ['mangler'] },
-  name_lint: { crate: 'tools_main', words: ['name_lint'] },
-  tangled_names: { crate: 'tools_main', words: ['tangled_names'] },
-  module_linker: { crate: 'tools_main', words: ['module_linker'] },
-};
-
-const CRATES = ['report_main', 'tools_main'];
+// The program that has all tools and serves requests to them, and the one that has the report alone.
+const SERVING = 'tools_main';
+const REPORT_ALONE = 'report_main';
+const CRATES = [REPORT_ALONE, SERVING];
 
 // The programs of an installed copy stand here, with a file that notes how each was made. It has no crates.
 const INSTALLED = path.join(__dirname, '..', '..', 'programs');
@@ -24,7 +17,27 @@ const STATES = path.join(INSTALLED, 'states');
 const isInstalled = () => fs.existsSync(INSTALLED);
 
 // The report program that is to run in the place of the repository's own.
-const GIVEN = { report_main: 'BOLGWYR_REPORT' };
+const GIVEN = { [REPORT_ALONE]: 'BOLGWYR_REPORT' };
+
+const isNamed = () => Boolean(process.env[GIVEN[REPORT_ALONE]]);
+
+// Whether the folder that is named for programs has the one with the report alone.
+function isInFolder() {
+  const folder = process.env.BOLGWYR_PROGRAMS;
+  return Boolean(folder) && fs.existsSync(path.join(folder, REPORT_ALONE));
+}
+
+const asked = (tool, isAlone) => (isAlone ? { crate: REPORT_ALONE, words: [] } : { crate: SERVING, words: [tool] });
+
+// The crate whose program answers many requests to a tool, and the words by which that program knows it. All tools are in one program,
+// so that one is to be built.
+const servedBy = (tool) => asked(tool, tool === 'report' && isNamed());
+
+// The same for a program that runs for one answer.
+const runBy = (tool) => asked(tool, tool === 'report' && (isNamed() || isInFolder()));
+
+// The crates whose programs answer requests to some tools.
+const cratesOf = (tools) => [...new Set(tools.map((tool) => servedBy(tool).crate))];
 
 // Where the program of each crate stands that was asked for, by its crate. A run of this process keeps to it.
 const places = new Map();
@@ -99,9 +112,16 @@ function programPath(crate) {
   return places.get(crate);
 }
 
+// Where the programs that have some tools stand, by their crates.
+function programsFor(tools) {
+  const crates = cratesOf(tools);
+  prepare(crates);
+  return Object.fromEntries(crates.map((crate) => [crate, programPath(crate)]));
+}
+
 // Runs a tool with words and standard input, and gives its status, standard output as bytes and standard error as text.
 function runTool(tool, words, input) {
-  const { crate, words: own } = TOOLS[tool];
+  const { crate, words: own } = runBy(tool);
   const program = programPath(crate);
   const run = spawnSync(program, [...own, ...words], { input, maxBuffer: Infinity });
   if (run.status === null && run.signal === null) {
@@ -110,4 +130,4 @@ function runTool(tool, words, input) {
   return { status: run.status, signal: run.signal, stdout: run.stdout, stderr: run.stderr.toString('utf8') };
 }
 
-module.exports = { CRATES, STATES, TOOLS, isInstalled, prepare, programPath, prove, readyOf, runTool };
+module.exports = { CRATES, SERVING, STATES, cratesOf, isInstalled, prepare, programPath, programsFor, prove, readyOf, runBy, runTool, servedBy };

@@ -52,6 +52,9 @@ class Kit:
     def c_library(self):
         return [f"{self.at}/c/libos_c.a", f"{self.at}/c/liblibc_c.a"]
 
-    def link(self, program, object_file):
-        """The words of a call that links the object file of a program."""
-        return [f"{self.at}/bin/rattle-link", "--target", TARGET, *self.toolchain(), "-o", program, object_file, *self.c_library()]
+    def clang(self):
+        return f"{self.at}/toolchain/bin/clang"
+
+    def link(self, program, object_files):
+        """The words of a call that links the object files of a program."""
+        return [f"{self.at}/bin/rattle-link", "--target", TARGET, *self.toolchain(), "-o", program, *object_files, *self.c_library()]

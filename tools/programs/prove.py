@@ -154,7 +154,7 @@ class Crate:
 
     def link(self):
         """Links the program, which then has a stamp too, and tells whether it could."""
-        words = self.kit.link(self.made(), f"{self.made()}.o")
+        words = self.kit.link(self.made(), [f"{self.made()}.o"])
         return subprocess.run(words, stdout=self.log, stderr=subprocess.STDOUT, check=False).returncode == 0
 
     def stamp(self):

@@ -10,7 +10,7 @@ broken off goes on where it was: a crate that is proved stays proved until its f
 
 Examples:
   bolgwyr prove               both programs
-  bolgwyr prove report_main   the report program, which tables, checks and pages ask`;
+  bolgwyr prove tools_main    the program that all commands ask`;
 
 function add(program, name) {
   const { Argument } = load('commander');

@@ -1,0 +1,65 @@
+'use strict';
+// Runs tools side by side, by programs that stay.
+
+const { spawn } = require('child_process');
+const { RunFault } = require('../bolgwyr/faults.js');
+const { SERVING, servedBy } = require('./index.js');
+const { Served } = require('./served.js');
+
+// The run of a program for a single input.
+function runOnce(program, words, input) {
+  const child = spawn(program, words);
+  const pieces = { stdout: [], stderr: [] };
+  child.stdout.on('data', (piece) => pieces.stdout.push(piece));
+  child.stderr.on('data', (piece) => pieces.stderr.push(piece));
+  // A program that refuses a tree needn't read all of it.
+  child.stdin.on('error', () => {});
+  child.stdin.end(input);
+  return new Promise((resolve, reject) => {
+    child.on('error', (error) => reject(new RunFault(`${program} can't be run: ${error.message}`)));
+    child.on('close', (status, signal) => {
+      resolve({ status, signal, stdout: Buffer.concat(pieces.stdout), stderr: Buffer.concat(pieces.stderr).toString('utf8') });
+    });
+  });
+}
+
+class Pool {
+  // `size` is how many programs there are at most; `programs` tells where those of the crates stand; `isTogether`, whether one of them gets
+  // all that is asked of an input, which takes less than to wake several.
+  constructor({ size, programs, isTogether }) {
+    this.size = size;
+    this.programs = programs;
+    this.isTogether = isTogether;
+    this.served = [];
+  }
+
+  // The runs of some tools on an input; each is asked with the words that it has in the table.
+  runAll(tools, words, input) {
+    const one = this.isTogether ? this.idlest() : undefined;
+    return Promise.all(tools.map((tool) => this.run(tool, words[tool], input, one)));
+  }
+
+  // The program that has least to do, or one more where all are at work.
+  idlest() {
+    const best = this.served.reduce((one, other) => (other.waiting.length < one.waiting.length ? other : one), this.served[0]);
+    if (best !== undefined && (best.waiting.length === 0 || this.served.length === this.size)) {
+      return best;
+    }
+    const more = new Served(this.programs[SERVING]);
+    this.served.push(more);
+    return more;
+  }
+
+  // The run of a tool on an input, in the form of `runTool`.
+  run(tool, words, input, program = this.idlest()) {
+    const { crate, words: own } = servedBy(tool);
+    const all = [...own, ...words];
+    return crate === SERVING ? program.run(all, input) : runOnce(this.programs[crate], all, input);
+  }
+
+  close() {
+    this.served.forEach((program) => program.close());
+  }
+}
+
+module.exports = { Pool };

@@ -1,0 +1,88 @@
+'use strict';
+// A program that stays and answers requests, one behind the other: to start a process takes longer than most answers do.
+
+const { spawn } = require('child_process');
+const { RunFault } = require('../bolgwyr/faults.js');
+const { AnswerReader, requestHead } = require('./frames.js');
+
+const NOTHING = Buffer.alloc(0);
+
+class Served {
+  constructor(program) {
+    this.program = program;
+    this.waiting = []; // requests that have no answer yet, in order
+    this.child = null;
+  }
+
+  // The run of a tool on an input, in the form of `runTool`.
+  run(words, input) {
+    return new Promise((resolve, reject) => {
+      const request = { words, input, resolve, reject };
+      this.waiting.push(request);
+      if (this.child === null) {
+        this.start();
+      } else {
+        this.send(request);
+      }
+    });
+  }
+
+  // Starts the program, which gets all that waits.
+  start() {
+    const child = spawn(this.program, ['serve']);
+    const errors = [];
+    const reader = new AnswerReader((answer) => this.take(answer));
+    child.stdout.on('data', (piece) => reader.push(piece));
+    child.stderr.on('data', (piece) => errors.push(piece));
+    // A program that ends needn't have read all.
+    child.stdin.on('error', () => {});
+    child.on('error', (error) => this.fail(new RunFault(`${this.program} can't be run: ${error.message}`)));
+    child.on('close', (status, signal) => this.ended({ status, signal, stdout: NOTHING, stderr: Buffer.concat(errors).toString('utf8') }));
+    this.child = child;
+    this.waiting.forEach((request) => this.send(request));
+  }
+
+  // What is asked in one go is written in one.
+  send({ words, input }) {
+    const { stdin } = this.child;
+    if (stdin.writableCorked === 0) {
+      stdin.cork();
+      process.nextTick(() => stdin.uncork());
+    }
+    stdin.write(requestHead(words, input));
+    stdin.write(input);
+  }
+
+  take({ status, stdout, stderr }) {
+    this.waiting.shift()?.resolve({ status, signal: null, stdout, stderr: stderr.toString('utf8') });
+  }
+
+  // How the program ended is the answer to the request that it was at; those behind it go to another one.
+  ended(run) {
+    this.child = null;
+    const request = this.waiting.shift();
+    if (request === undefined) {
+      return;
+    }
+    if (run.status === 0) {
+      request.reject(new RunFault(`${this.program} ended without an answer`));
+    } else {
+      request.resolve(run);
+    }
+    if (this.waiting.length > 0) {
+      this.start();
+    }
+  }
+
+  // Ends all that waits.
+  fail(fault) {
+    this.waiting.splice(0).forEach(({ reject }) => reject(fault));
+  }
+
+  // Has the program end once it has answered what waits.
+  close() {
+    this.child?.stdin.end();
+  }
+}
+
+module.exports = { Served };
