@@ -2,6 +2,7 @@
 'use strict';
 // Renames random symbols of real files to random names: each renaming is refused with a place, or eslint-scope (TypeScript's language
 // service for TypeScript) ties the names of both texts alike, and renaming back gives the first text where nothing was written out.
+// With --page what a page foresees is compared with what the command says.
 
 const { load } = require('./source-to-tree/load.js');
 const { RunFault } = require('./bolgwyr/faults.js');
@@ -9,6 +10,7 @@ const { textOf } = require('./rename/files.js');
 const { analysed } = require('./rename/analysed.js');
 const { filesBelow } = require('./judge-rename/sources.js');
 const { judge } = require('./judge-rename/judge.js');
+const { judgePage } = require('./judge-rename/page.js');
 const { randomFrom, shuffled } = require('./judge-rename/random.js');
 const { randomName } = require('./judge-rename/names.js');
 
@@ -53,7 +55,7 @@ function analysisOf(file, tally) {
   }
 }
 
-function judgeFile(file, { each, left, random, tally }) {
+function judgeFile(file, { each, left, random, tally, judged }) {
   const analysis = analysisOf(file, tally);
   if (analysis === null || analysis.report.symbols.length === 0) {
     return;
@@ -61,7 +63,7 @@ function judgeFile(file, { each, left, random, tally }) {
   for (let time = 0; time < Math.min(each, left); time += 1) {
     const symbol = analysis.report.symbols[random(analysis.report.symbols.length)];
     const { name } = randomName(analysis, random);
-    const found = judge(analysis, symbol, name);
+    const found = judged(analysis, symbol, name);
     tally.add(found);
     if (found.wrong !== null) {
       const { line, column } = analysis.positions.placeOf(symbol.span.start);
@@ -77,8 +79,10 @@ function main() {
     .option('--each <number>', 'how many in each file', Number, 8)
     .option('--largest <bytes>', 'files that are larger are left out', Number, 400000)
     .option('--seed <number>', 'decides files, symbols and names', Number, 1)
+    .option('--page', 'what a page foresees')
     .parse();
-  const { count, each, largest, seed } = program.opts();
+  const { count, each, largest, seed, page } = program.opts();
+  const judged = page ? judgePage : judge;
   const random = randomFrom(seed);
   const tally = new Tally();
   const files = shuffled(program.args.flatMap((folder) => filesBelow(folder, largest)), random);
@@ -87,7 +91,7 @@ function main() {
     if (left <= 0) {
       break;
     }
-    judgeFile(file, { each, left, random, tally });
+    judgeFile(file, { each, left, random, tally, judged });
   }
   tally.show();
   return tally.counts.wrong === 0 ? 0 : 1;

@@ -1,6 +1,7 @@
 #!/bin/sh
-# Makes pages with bolgwyr scopes and tries them in a headless Chromium: clicks, keys, parts of the address, a page of ten
-# thousand lines, and pictures in light and dark. They stay in the folder given as word, else in a scratch one that goes.
+# Makes pages with bolgwyr scopes and tries them in a headless Chromium: clicks, keys, parts of the address, findings, renaming in
+# place, a project of several files, the pictures of scopes and modules, a page of ten thousand lines, and how all looks in light and
+# dark, wide and narrow. The pages stay in the folder given as word, else in a scratch one that goes.
 set -eu
 here="$(cd "$(dirname "$0")" && pwd)"
 if [ $# -gt 0 ]; then
@@ -19,7 +20,10 @@ cp stored-report.sh faulty.report "$folder/programs"
 mv "$folder/programs/stored-report.sh" "$folder/programs/report_main"
 ln -sf "${BOLGWYR_PROGRAMS:-$here/../crates/tools_main/out}/tools_main" "$folder/programs/tools_main"
 BOLGWYR_PROGRAMS="$folder/programs" "$bolgwyr" scopes faulty.ts -o "$folder/faulty.html"
+"$bolgwyr" scopes renamed.ts -o "$folder/renamed.html"
+(cd project && "$bolgwyr" scopes --project main.mjs -o "$folder/project.html")
 node long-source.js >"$folder/long.mjs"
 "$bolgwyr" scopes "$folder/long.mjs" -o "$folder/long.html"
-node whole.js "$folder/shown.html" shown.mjs "$folder/faulty.html" faulty.ts "$folder/long.html" "$folder/long.mjs"
+node whole.js "$folder/shown.html" shown.mjs "$folder/faulty.html" faulty.ts "$folder/long.html" "$folder/long.mjs" \
+    "$folder/renamed.html" renamed.ts "$folder/project.html" project/main.mjs
 node page.js "$folder"

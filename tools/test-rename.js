@@ -5,6 +5,7 @@
 const { renamings } = require('./test-rename/renamings.js');
 const { calls } = require('./test-rename/calls.js');
 const { commands } = require('./test-rename/commands.js');
+const { foreseen } = require('./test-rename/foreseen.js');
 
 function main() {
   let failed = 0;
@@ -17,6 +18,7 @@ function main() {
     }
   };
   renamings(expect);
+  foreseen(expect);
   calls(expect);
   commands(expect);
   process.stdout.write(`${done - failed} of ${done} cases of renaming as wanted\n`);

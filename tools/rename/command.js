@@ -5,7 +5,8 @@ const { hasColour } = require('../bolgwyr/colour.js');
 const { STATUS, UsageFault } = require('../bolgwyr/faults.js');
 const { say, tell } = require('../analyse/output.js');
 const { printable } = require('../analyse/refusal.js');
-const { coloured, diffLines } = require('./diff.js');
+const { coloured } = require('./coloured-diff.js');
+const { diffLines } = require('./diff.js');
 const { textOf, writeFiles } = require('./files.js');
 const { RenameRefusal, checkName, rename, renameInProject } = require('./index.js');
 

@@ -1,9 +1,6 @@
 'use strict';
 // The unified diff of two texts with the same lines but for what stands in them.
 
-const { paints } = require('../bolgwyr/colour.js');
-const { visible } = require('../analyse/visible.js');
-
 const CONTEXT = 3;
 const NO_END = '\\ No newline at end of file';
 
@@ -75,15 +72,4 @@ function diffLines(file, textBefore, textAfter) {
   return [`--- ${fileWord(file)}`, `+++ ${fileWord(file)}`, ...groups.flatMap((group) => hunkOf(before, after, group))];
 }
 
-const COLOURS = [[/^(?:---|\+\+\+) /, 'place'], [/^@@/, 'quiet'], [/^-/, 'error'], [/^\+/, 'good']];
-
-// The same lines for a terminal. Names of files stand in the first two.
-function coloured(lines) {
-  const paint = paints(true);
-  return lines.map((line, at) => {
-    const found = COLOURS.find(([start], place) => start.test(line) && (place > 0 || at < 2));
-    return found === undefined ? visible(line) : paint[found[1]](visible(line));
-  });
-}
-
-module.exports = { coloured, diffLines };
+module.exports = { diffLines };

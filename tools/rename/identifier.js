@@ -6,6 +6,11 @@ const IDENTIFIER = /^[$_\p{ID_Start}][$\u200c\u200d\p{ID_Continue}]*$/u;
 // Escapes (`\u0061`) are spellings of an identifier, none of its characters.
 const isIdentifier = (name) => IDENTIFIER.test(name);
 
+// What is wrong with a name that is no identifier, or null.
+function unfit(name) {
+  return isIdentifier(name) ? null : `${JSON.stringify(name)} is no identifier${name.includes('\\') ? ': escapes are refused' : ''}`;
+}
+
 const words = (text) => new Set(text.split(' '));
 
 const RESERVED = words('break case catch class const continue debugger default delete do else enum export extends false finally for '
@@ -40,4 +45,4 @@ const isSpecial = (name) => RULES.some((rule) => rule.words.has(name));
 
 const reason = ({ where, section }, name) => `\`${name}\` ${where}${section === null ? '' : ` (ECMAScript ${section})`}`;
 
-module.exports = { isIdentifier, isSpecial, reason, ruleAgainst };
+module.exports = { isIdentifier, isSpecial, reason, ruleAgainst, unfit };

@@ -3,15 +3,16 @@
 
 const { UsageFault } = require('../bolgwyr/faults.js');
 const { analysed } = require('./analysed.js');
-const { isIdentifier } = require('./identifier.js');
+const { unfit } = require('./identifier.js');
 const { renameInProject } = require('./project.js');
 const { RenameRefusal } = require('./refusal.js');
 const { symbolAt } = require('./symbol-at.js');
 const { renameSymbol } = require('./symbol.js');
 
 function checkName(name) {
-  if (!isIdentifier(name)) {
-    throw new UsageFault(`${JSON.stringify(name)} is no identifier${name.includes('\\') ? ': escapes are refused' : ''}`);
+  const fault = unfit(name);
+  if (fault !== null) {
+    throw new UsageFault(fault);
   }
 }
 

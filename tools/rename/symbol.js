@@ -6,44 +6,17 @@ const { Positions } = require('../analyse/positions.js');
 const { EditFault, edited } = require('../edits/index.js');
 const { runTool } = require('../programs/index.js');
 const { withTables } = require('./analysed.js');
+const { refuseReserved, refuseSeen, refuseTangled } = require('./by-itself.js');
 const { changedError } = require('./early-errors.js');
-const { isSpecial, reason, ruleAgainst } = require('./identifier.js');
 const { inWords } = require('./meets.js');
-const { placeKind } = require('./place-kind.js');
 const { RenameRefusal } = require('./refusal.js');
-const { seenByOthers, warningsFor } = require('./seen.js');
+const { warningsFor } = require('./seen.js');
 const { withSpecifiers } = require('./specifiers.js');
 const { tangledNames } = require('./tangled.js');
 const { unexported } = require('./unexported.js');
 const { writtenOut } = require('./written-out.js');
 
 const REFUSED = 8;
-
-function refuseReserved(analysis, symbol, name) {
-  if (!isSpecial(name)) {
-    return;
-  }
-  for (const node of analysis.occurrencesOf(symbol)) {
-    const rule = ruleAgainst(name, placeKind(analysis, symbol, node));
-    if (rule !== null) {
-      throw new RenameRefusal(reason(rule, name), analysis.spanOf(node));
-    }
-  }
-}
-
-function refuseTangled(analysis, name) {
-  const tangled = analysis.once('tangled', () => tangledNames(analysis)).get(name);
-  if (tangled !== undefined) {
-    throw new RenameRefusal(`\`${name}\` can't be followed: ${tangled.reason}`, tangled.span);
-  }
-}
-
-function refuseSeen(analysis, symbol) {
-  const seen = seenByOthers(analysis, symbol);
-  if (seen !== null) {
-    throw new RenameRefusal(`the name \`${symbol.name}\` is seen by others: ${seen.message}`, analysis.spanOf(seen.node));
-  }
-}
 
 // The tree of the proved renamer.
 function provedTree(analysis, symbol, name) {
@@ -115,7 +88,7 @@ function renamedText(analysis, wanted, name, { map }) {
 function renameUnplaced(given, { id }, name, options) {
   const symbolGiven = given.report.symbols[id];
   refuseReserved(given, symbolGiven, name);
-  refuseTangled(given, symbolGiven.name);
+  refuseTangled(given.once('tangled', () => tangledNames(given)), symbolGiven.name);
   refuseSeen(given, symbolGiven);
   const analysis = writtenOut(given, symbolGiven);
   const symbol = analysis.report.symbols[id];

@@ -3,55 +3,8 @@
 // change the second name alone. The text stays: the edits write the key where they change the name.
 
 const { RunFault } = require('../bolgwyr/faults.js');
-const { DEPTH, KIND, MARKS, ROLE } = require('../edits/rows.js');
 const { withTables } = require('./analysed.js');
-
-const SHORT = 'AssignmentTargetPropertyIdentifier';
-
-const asPart = (row, role, deeper) => row.map((part, at) => (at === ROLE ? role : at === DEPTH ? part + deeper : part));
-
-function opened(row) {
-  const property = row.slice();
-  property[KIND] = 'AssignmentTargetPropertyProperty';
-  property[MARKS] = [];
-  return property;
-}
-
-function keyOf(binding) {
-  const key = asPart(binding, 'key', 0);
-  key[KIND] = 'IdentifierName';
-  return key;
-}
-
-function defaulted(row) {
-  const target = asPart(row, 'binding', 1);
-  target[KIND] = 'AssignmentTargetWithDefault';
-  target[MARKS] = [];
-  return target;
-}
-
-// The rows with these properties written out. What stands below a default gets one level deeper.
-function rowsWithout({ rows, ends }, properties) {
-  const written = [];
-  const deeper = []; // where the properties with defaults around end
-  rows.forEach((row, node) => {
-    while (deeper.length > 0 && deeper[deeper.length - 1] <= node) {
-      deeper.pop();
-    }
-    const shift = deeper.length;
-    const here = asPart(row, row[ROLE], shift);
-    if (!properties.has(node)) {
-      written.push(here);
-      return;
-    }
-    written.push(opened(here), keyOf(asPart(rows[node + 1], 'key', shift)));
-    if (ends[node] > node + 2) {
-      written.push(defaulted(here));
-      deeper.push(ends[node]);
-    }
-  });
-  return written;
-}
+const { withoutShortTargets } = require('./short-targets.js');
 
 // The tables of two trees that differ in the numbers of nodes alone.
 function tablesOf({ scopes, symbols, references, diagnostics }) {
@@ -62,14 +15,12 @@ function tablesOf({ scopes, symbols, references, diagnostics }) {
 
 // The analysis with the properties written out that assign to the symbol in short, or the same one where there are none.
 function writtenOut(analysis, symbol) {
-  const { rows, parents } = analysis;
-  const assigned = analysis.occurrencesOf(symbol).filter((node) => rows[parents[node]][KIND] === SHORT && rows[node][ROLE] === 'binding');
-  const properties = new Set(assigned.map((node) => parents[node]));
-  if (properties.size === 0) {
+  const rows = withoutShortTargets(analysis, symbol);
+  if (rows === analysis.rows) {
     return analysis;
   }
   const { source, options, positions } = analysis;
-  const tree = { ...analysis.tree, rows: rowsWithout(analysis, properties) };
+  const tree = { ...analysis.tree, rows };
   const written = withTables({ source, options, positions, tree, json: Buffer.from(JSON.stringify(tree)) });
   if (tablesOf(written.report) !== tablesOf(analysis.report)) {
     throw new RunFault('a property that is written out has other tables');

@@ -21,6 +21,7 @@ const SYNTAX = [
   { what: '`satisfies`', before: words(`[^.\\s]\\s*$`), from: words(`^satisfies\\s`), by: ['typescript'] },
   { what: '`satisfies`', before: words('(?:^|[^.])$'), from: words(`^[\\p{ID_Continue}$]+${SPACE}satisfies\\s`), by: ['typescript'] },
   { what: 'this character in names', before: words(''), from: words('^#?(?![\\0-\\x7f])[\\p{ID_Start}\\p{ID_Continue}]') },
+  { what: 'strings as names of exports', before: words(`\\b(?:import|export)\\b[^;]*(?:\\bas|[{,])\\s*$`), from: words(`^["']`), by: ['typescript'] },
   { what: 'private names that begin with an escape', before: words(''), from: words('^#\\\\u'), by: ['typescript'] },
   { what: 'attributes of imports', before: words(`["']\\s*$`), from: words('^with\\s*\\{') },
   { what: 'assertions of imports', before: words(`["'][ \\t]*$`), from: words('^assert\\s*\\{'), by: ['acorn'] },
@@ -41,12 +42,22 @@ const NAMES = { acorn: 'acorn', typescript: 'TypeScript', '@babel/parser': "Babe
 // What no acorn knows, and another parser does.
 const HELP = { acorn: { decorators: "Babel's", '`accessor`': "Babel's", 'assertions of imports': "Babel's" } };
 
+const ESCAPE = /^#?\\u(?:\{([\da-f]+)\}|([\da-f]{4}))/i;
+const IN_NAMES = /[\p{ID_Continue}\u200c\u200d]/u;
+
+// An escape of a character that names have.
+function escapedIn(from) {
+  const found = ESCAPE.exec(from);
+  const point = found === null ? NaN : parseInt(found[1] || found[2], 16);
+  return point <= 0x10ffff && IN_NAMES.test(String.fromCodePoint(point)) ? { what: 'this character in names' } : undefined;
+}
+
 // The syntax at a place that is newer than the parser, else undefined.
 function syntaxAt(parser, text, offset) {
   const at = offset + /^[ \t]*/.exec(text.slice(offset, offset + REACH))[0].length; // some tell the end of what stands before
   const before = text.slice(Math.max(0, at - REACH), at);
   const from = text.slice(at, at + REACH);
-  return SYNTAX.find((one) => (!one.by || one.by.includes(parser.name)) && one.from.test(from) && one.before.test(before));
+  return SYNTAX.find((one) => (!one.by || one.by.includes(parser.name)) && one.from.test(from) && one.before.test(before)) || escapedIn(from);
 }
 
 function refusalFor({ name, version }, { what, none }, offset) {

@@ -6,15 +6,7 @@ const { rename } = require('../rename/index.js');
 
 const EDITS = require('./edits.js');
 const REFUSALS = require('./refusals.js');
-
-const MARK = '§';
-
-// Line and column of the mark, and the text without it.
-function unmarked(marked) {
-  const [before, behind] = marked.split(MARK);
-  const lines = before.replace(/^\ufeff/, '').split(/\r\n|[\n\r\u2028\u2029]/);
-  return { text: before + behind, line: lines.length, column: [...lines[lines.length - 1]].length + 1 };
-}
+const { unmarked } = require('./marks.js');
 
 function outcome(filename, text, options) {
   try {

@@ -4,12 +4,14 @@
 const { spawnSync } = require('child_process');
 const { programPath } = require('../programs/index.js');
 
-// The report of a tree, or why there is none. The words are the report program's.
-function reportOf(json, words = []) {
-  const run = spawnSync(programPath('report_main'), words, { input: json, maxBuffer: 1 << 30 });
-  if (run.status === 0 || run.status === 1) return { report: run.stdout.toString() };
-  return { refused: `status ${run.status}: ${run.stderr.toString().trim()}` };
+// The report that a run gave, or why there is none.
+function reportIn({ status, stdout, stderr }) {
+  if (status === 0 || status === 1) return { report: stdout.toString() };
+  return { refused: `status ${status}: ${stderr.toString().trim()}` };
 }
+
+// The report of a tree. The words are the report program's.
+const reportOf = (json, words = []) => reportIn(spawnSync(programPath('report_main'), words, { input: json, maxBuffer: 1 << 30 }));
 
 const LINE = {
   scope: /^scope (\d+) parent (\S+) node (\d+) flags (\S+)$/,
@@ -68,4 +70,4 @@ class Analysis {
   }
 }
 
-module.exports = { reportOf, Analysis };
+module.exports = { reportIn, reportOf, Analysis };

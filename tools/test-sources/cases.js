@@ -88,6 +88,8 @@ const REFUSED = [
   ['a place', 'x.js', 'let a;\nlet é = ;', 'x.js:2:9: Unexpected token', 'acorn'],
   ['a place in TypeScript', 'x.ts', 'let a;\nlet é = ;', 'x.ts:2:9: Expression expected.'],
   ['types in JavaScript', 'x.js', 'let a: B', 'x.js:1:8: types and declarations of TypeScript stand in TypeScript files only', 'typescript'],
+  ['a return in a static block', 'x.js', 'class A { static { () => { return }; return } }', "x.js:1:38: 'return' outside of function", 'acorn'],
+  ['a return in a static block by TypeScript', 'x.js', 'class A { static { if (a) return } }', "x.js:1:27: 'return' outside of function", 'typescript'],
   ['what stands in no tree', 'x.ts', 'enum A { 1 }', 'x.ts:1:10: An enum member cannot have a numeric name.'],
   ['a target that is none', 'x.ts', 'a() = 1', 'x.ts:1:1: The left-hand side of an assignment expression must be a variable or a property access.'],
   ['a modifier in a wrong place', 'x.ts', 'class A { async b: C }', "x.ts:1:11: 'async' modifier cannot be used here"],

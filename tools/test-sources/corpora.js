@@ -8,7 +8,8 @@ const { treeOf, Refusal } = require('../source-to-tree/convert');
 const { parsersFor } = require('../source-to-tree/parsers');
 const { goalOf } = require('../source-to-tree/languages');
 const acorn = require('../source-to-tree/ways/acorn');
-const { reportOf } = require('./analysis');
+const { reportIn } = require('./analysis');
+const { Served } = require('./served');
 
 const PROGRESS = 1000;
 
@@ -57,16 +58,17 @@ function outcomeOf(way, source, options) {
 // The analyser says the same of equal trees.
 class Reports {
   constructor() {
+    this.served = new Served();
     this.last = { json: Buffer.alloc(0), said: null };
   }
 
   of(json) {
-    if (!this.last.json.equals(json)) this.last = { json, said: Reports.make(json) };
+    if (!this.last.json.equals(json)) this.last = { json, said: this.make(json) };
     return this.last.said;
   }
 
-  static make(json) {
-    const { report, refused } = reportOf(json, ['--check']);
+  make(json) {
+    const { report, refused } = reportIn(this.served.ask(['report', '--check'], json));
     if (report === undefined) return { end: 'broken', why: refused };
     const told = /^diag .*$/m.exec(report);
     return told === null ? { end: 'silent', why: 'no diagnostic' } : { end: 'told', why: told[0] };
@@ -80,11 +82,18 @@ const RIGHT = {
   any: ['silent', 'told', 'refused', 'newer'],
 };
 
+// Where two trees differ first.
+function firstOther(json, other) {
+  const [rows, others] = [json, other].map((bytes) => JSON.parse(bytes).rows.map((row) => JSON.stringify(row)));
+  const at = rows.findIndex((row, place) => row !== others[place]);
+  return at < 0 ? `${rows.length} rows in place of ${others.length}` : `${rows[at]} in place of ${others[at]}`;
+}
+
 class Corpus {
-  constructor(ways, shown) {
+  constructor({ ways, shown, trees }) {
     this.ways = ways;
     this.shown = shown;
-    this.reports = new Reports();
+    this.reports = trees ? null : new Reports();
     this.counts = new Map();
     this.wrong = new Map(ways.map((way) => [way, []]));
     this.files = 0;
@@ -92,30 +101,61 @@ class Corpus {
 
   count(way, kind, end) {
     const key = `${way} ${kind}`;
-    if (!this.counts.has(key)) this.counts.set(key, { silent: 0, told: 0, refused: 0, newer: 0, broken: 0, wrong: 0 });
+    if (!this.counts.has(key)) this.counts.set(key, { silent: 0, told: 0, refused: 0, newer: 0, broken: 0, differing: 0, wrong: 0 });
     this.counts.get(key)[end] += 1;
   }
 
-  // One source, whose kind tells how it should end.
+  // One source, whose kind tells how it should end. Ways that have a tree of it have the same one.
   add(name, source, kind, options) {
     this.files += 1;
-    if (this.files % PROGRESS === 0) process.stderr.write(`${this.files} sources\n`);
+    if (this.files % PROGRESS === 0) process.stderr.write(`${this.sums().join('\n')}\n`);
+    let first = null;
     for (const way of this.ways) {
       const outcome = outcomeOf(way, source, options);
-      const { end, why } = outcome.json === undefined ? outcome : this.reports.of(outcome.json);
-      this.count(way, kind, end);
-      if (RIGHT[kind].includes(end)) continue;
-      this.count(way, kind, 'wrong');
-      this.wrong.get(way).push(`${name}: ${kind}, ${end}: ${why}`);
+      this.addEnd({ name, kind, way }, outcome);
+      if (outcome.json === undefined) continue;
+      first = first || { way, json: outcome.json };
+      if (!outcome.json.equals(first.json)) this.addDiffering({ name, kind, way }, outcome.json, first);
     }
   }
 
+  addEnd({ name, kind, way }, outcome) {
+    const { end, why } = outcome.json === undefined ? outcome : this.endOf(outcome.json);
+    this.count(way, kind, end);
+    if (!this.right(kind).includes(end)) this.addWrong(way, kind, `${name}: ${kind}, ${end}: ${why}`);
+  }
+
+  // Where trees alone are compared, nothing is asked of the analyser, and what it should tell of isn't told.
+  right(kind) {
+    return this.reports === null ? [...RIGHT[kind], 'silent'] : RIGHT[kind];
+  }
+
+  endOf(json) {
+    return this.reports === null ? { end: 'silent' } : this.reports.of(json);
+  }
+
+  addDiffering({ name, kind, way }, json, first) {
+    this.count(way, kind, 'differing');
+    this.addWrong(way, kind, `${name}: ${kind}, another tree than by ${first.way}: ${firstOther(json, first.json)}`);
+  }
+
+  addWrong(way, kind, what) {
+    this.count(way, kind, 'wrong');
+    const line = `  ${way}: ${what}`;
+    process.stderr.write(`${line}\n`);
+    this.wrong.get(way).push(line);
+  }
+
+  sums() {
+    const counted = (counts) => Object.entries(counts).map(([end, count]) => `${count} ${end}`).join(', ');
+    return [`${this.files} sources`, ...[...this.counts].map(([key, counts]) => `${key}: ${counted(counts)}`)];
+  }
+
+  // No more is added behind this.
   print() {
-    console.log(`${this.files} sources`);
-    for (const [key, counts] of this.counts) console.log(`${key}: ${Object.entries(counts).map(([end, count]) => `${count} ${end}`).join(', ')}`);
-    for (const [way, list] of this.wrong) {
-      for (const line of list.slice(0, this.shown)) console.log(`  ${way}: ${line}`);
-    }
+    if (this.reports !== null) this.reports.served.end();
+    console.log(this.sums().join('\n'));
+    for (const list of this.wrong.values()) list.slice(0, this.shown).forEach((line) => console.log(line));
   }
 }
 

@@ -65,11 +65,21 @@ function checkBoth(tally) {
   checkTree(tally, withBoth({ ...ast, comments: comments.map(commentNode) }), ['places told twice', 'x.js', source, []]);
 }
 
+// JSON has no words for large numbers and integers, nor for regular expressions.
+function checkJson(tally) {
+  const [parser] = parsersFor('acorn', __dirname);
+  const source = '[1e999, .9e999, null, 1n, /a/, 1, true]';
+  const { ast } = acorn.read(source, { lang: 'js', folder: __dirname, parser });
+  const json = JSON.stringify(ast, (field, value) => (typeof value === 'bigint' ? null : value));
+  checkTree(tally, JSON.parse(json), ['values that JSON has no words for', 'x.js', source, []]);
+}
+
 const commentNode = ({ block, start, end }) => ({ type: block ? 'Block' : 'Line', start, end });
 
 function checkDialects(tally) {
   checkRanges(tally);
   checkBoth(tally);
+  checkJson(tally);
   const [babel] = parsersIn(__dirname);
   if (babel === undefined) {
     console.log("not tried: the dialect of Babel, whose parser isn't installed");

@@ -42,10 +42,11 @@ const COLLECTIONS = { '--test262': checkTest262, '--typescript': checkTypeScript
 
 // A collection of sources: its folder, and how much of it by which ways.
 function checkCollection(word, folder, words) {
-  const options = { stride: 1, seconds: 3600, ways: ['acorn', 'estree', 'typescript'], shown: 20 };
-  for (let i = 0; i < words.length; i += 2) {
-    const name = words[i].slice(2);
-    options[name] = name === 'ways' ? words[i + 1].split(',') : Number(words[i + 1]);
+  const options = { stride: 1, seconds: 3600, ways: ['acorn', 'estree', 'typescript'], shown: 20, trees: words.includes('--trees') };
+  const given = words.filter((one) => one !== '--trees');
+  for (let i = 0; i < given.length; i += 2) {
+    const name = given[i].slice(2);
+    options[name] = name === 'ways' ? given[i + 1].split(',') : Number(given[i + 1]);
   }
   COLLECTIONS[word](folder, options);
   return 0;

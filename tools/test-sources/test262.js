@@ -10,15 +10,15 @@ const FRONT = /\/\*---([^]*?)---\*\//;
 function headOf(source) {
   const found = FRONT.exec(source);
   if (found === null) return null;
-  const flags = /^flags:\s*\[([^\]]*)\]/m.exec(found[1]) || /^flags:\s*\n((?:\s+-.*\n?)+)/m.exec(found[1]);
-  const isNegative = /^negative:/m.test(found[1]) && /^\s+phase:\s*(?:parse|early)\s*$/m.test(found[1]);
+  const flags = /^\s*flags:\s*\[([^\]]*)\]/m.exec(found[1]) || /^\s*flags:\s*\n((?:\s+-.*\n?)+)/m.exec(found[1]);
+  const isNegative = /^\s*negative:/m.test(found[1]) && /^\s+phase:\s*(?:parse|early)\s*$/m.test(found[1]);
   return { goal: flags !== null && /\bmodule\b/.test(flags[1]) ? 'module' : 'script', kind: isNegative ? 'negative' : 'positive' };
 }
 
 const isTest = (file) => file.endsWith('.js') && !file.endsWith('_FIXTURE.js');
 
-function checkTest262(folder, { ways, shown, ...sample }) {
-  const corpus = new Corpus(ways, shown);
+function checkTest262(folder, { ways, shown, trees, ...sample }) {
+  const corpus = new Corpus({ ways, shown, trees });
   for (const file of sampleOf(folder, isTest, sample)) {
     const source = fs.readFileSync(file, 'utf8');
     const head = headOf(source);

@@ -19,9 +19,9 @@ function filesOf(file, source) {
   }).filter(({ name, text }) => SOURCE.test(name) && text.trim() !== '');
 }
 
-function checkTypeScript(folder, { ways, shown, ...sample }) {
-  const plain = new Corpus(ways, shown);
-  const typed = new Corpus(ways.filter((way) => way === 'typescript' || way === 'babel'), shown);
+function checkTypeScript(folder, { ways, shown, trees, ...sample }) {
+  const plain = new Corpus({ ways, shown, trees });
+  const typed = new Corpus({ ways: ways.filter((way) => way === 'typescript' || way === 'babel'), shown, trees });
   for (const file of sampleOf(folder, (name) => SOURCE.test(name), sample)) {
     for (const { name, text } of filesOf(file, fs.readFileSync(file, 'utf8'))) {
       const corpus = /\.[mc]?js$/i.test(name) ? plain : typed;

@@ -3,7 +3,7 @@
 
 const { escape } = require('./html.js');
 
-const MARKS = ['comment', 'label', 'diagnostic'];
+const MARKS = ['comment', 'label', 'unused', 'finding'];
 
 function openTag(event) {
   if (event.type === 'scope') {
@@ -18,7 +18,7 @@ class LineWriter {
     this.events = events;
     this.next = 0;
     this.open = [];
-    this.active = { comment: 0, label: 0, diagnostic: 0 };
+    this.active = Object.fromEntries(MARKS.map((mark) => [mark, 0]));
     this.parts = [];
   }
 

@@ -1,7 +1,7 @@
 'use strict';
-// What a page shows of an analysis, with places in the string in the place of bytes.
+// What a page shows of a file, with places in the string in the place of bytes.
 
-const { labelSpan } = require('../text.js');
+const { prefixOf } = require('./ids.js');
 const { scopeKind } = require('./names.js');
 
 // A span with places in the string, and line and column of its start.
@@ -34,32 +34,39 @@ function scopeModels(analysis) {
   return scopes;
 }
 
-function diagnosticModel(positions, diagnostic) {
-  const labels = diagnostic.labels.map((label) => ({ ...label, span: placed(positions, label.span) }));
-  return { ...diagnostic, labels };
+// A finding and what belongs to it, each with its place; what stands in another file has that file's name.
+function findingModel(positions, { rule, severity, message, said = null, help = null, note = null, related, ...place }) {
+  const others = related.map((other) => ({
+    text: other.message,
+    file: other.file ?? null,
+    line: other.line,
+    column: other.column,
+    span: other.file === undefined ? placed(positions, other.span) : null,
+  }));
+  return { rule, severity, message, help, note, places: [{ text: said, file: null, span: placed(positions, place.span) }, ...others] };
 }
 
-function unusedLabelModel(analysis, label) {
-  const span = labelSpan(analysis, label.node);
-  return { name: analysis.positions.textOf(span), span: placed(analysis.positions, span) };
-}
-
-// `unused` are the numbers of symbols that nothing in use uses.
-function modelOf(analysis, unused) {
+// The names that nothing in use uses are no places of their own: the names are marked.
+function modelOf({ analysis, tree, unused, findings, number = 0 }) {
   const { report, positions } = analysis;
   return {
+    number,
+    prefix: prefixOf(number),
     file: analysis.file,
     goal: analysis.goal,
     lang: analysis.lang,
     positions,
+    tables: { filename: analysis.file, source: positions.text, tree, report },
     scopes: scopeModels(analysis),
     symbols: report.symbols.map((symbol) => ({ ...symbol, declarations: declarationsOf(positions, symbol), isUnused: unused.has(symbol.id) })),
     references: report.references.map((entry) => ({ ...entry, span: placed(positions, analysis.spanOf(entry.node)) })),
     free: report.free,
-    unusedLabels: report.unusedLabels.map((label) => unusedLabelModel(analysis, label)),
-    diagnostics: report.diagnostics.map((diagnostic) => diagnosticModel(positions, diagnostic)),
+    findings: findings.map((finding) => findingModel(positions, finding)),
     comments: analysis.comments.map(([start, end]) => placed(positions, { start, end })),
+    specifiers: [],
+    defaultExport: null,
+    imports: [],
   };
 }
 
-module.exports = { modelOf };
+module.exports = { modelOf, placed };

@@ -1,5 +1,5 @@
 'use strict';
-// What scopes, symbols and places are called in a page, and the ids of its elements.
+// What scopes and counts are called in a page.
 
 const KINDS = new Map([
   ['Program', 'program'],
@@ -21,13 +21,8 @@ function scopeKind(kind) {
   return KINDS.get(kind) || kind;
 }
 
-// The element of a symbol's n-th declaration.
-function declarationId(symbol, place) {
-  return place === 0 ? `symbol-${symbol}` : `symbol-${symbol}-${place}`;
-}
-
 function plural(number, one, many = `${one}s`) {
   return `${number} ${number === 1 ? one : many}`;
 }
 
-module.exports = { declarationId, plural, scopeKind };
+module.exports = { plural, scopeKind };

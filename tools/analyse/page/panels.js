@@ -1,5 +1,5 @@
 'use strict';
-// The lists beside the source: symbols, free names, scopes, unused labels and diagnostics.
+// The lists beside the source of a file: findings, free names, symbols and scopes.
 
 const { childrenOf } = require('./boxes.js');
 const { escape } = require('./html.js');
@@ -13,74 +13,77 @@ function placeOf(span) {
 }
 
 function section(id, title, count, body, open) {
-  return `<details class="panel" id="panel-${id}"${open ? ' open' : ''}><summary><h2>${title} <span class="count">${count}</span></h2></summary>${body}</details>`;
+  return `<details class="panel" id="${id}"${open ? ' open' : ''}><summary><h2>${title} <span class="count">${count}</span></h2></summary>${body}</details>`;
 }
 
 function list(items) {
   return items.length === 0 ? '<p class="none">none</p>' : `<ul>${items.join('')}</ul>`;
 }
 
-function symbolItem(symbol) {
+function symbolItem({ prefix }, symbol) {
   const uses = plural(symbol.references.length, 'use');
   const look = symbol.isUnused ? ' class="unused"' : '';
-  return `<li${look}><a href="#symbol-${symbol.id}">${escape(symbol.name)}</a> <small>${placeOf(symbol.span)}, ${uses}</small></li>`;
+  const place = placeOf(symbol.declarations[0]);
+  return `<li${look}><a href="#${prefix}symbol-${symbol.id}">${escape(symbol.name)}</a> <small>${place}, ${uses}</small></li>`;
 }
 
 function symbolsPanel(model) {
-  const symbols = model.symbols.map((symbol) => ({ ...symbol, span: symbol.declarations[0] }));
-  const filter = '<label class="filter">Filter <input type="search" id="filter" autocomplete="off" spellcheck="false"></label>';
-  return section('symbols', 'Symbols', symbols.length, filter + list(symbols.map(symbolItem)), true);
+  const { prefix, symbols } = model;
+  const filter = `<label class="filter">Filter <input type="search" id="${prefix}filter" autocomplete="off" spellcheck="false"></label>`;
+  return section(`${prefix}panel-symbols`, 'Symbols', symbols.length, filter + list(symbols.map((symbol) => symbolItem(model, symbol))), true);
 }
 
 // Selecting the name tells all its places; the list has the first.
-function freeItem(model, entry, place) {
-  const first = entry.references.slice(0, FIRST).map((id) => `<a href="#ref-${id}">${placeOf(model.references[id].span)}</a>`);
+function freeItem({ prefix, references }, entry, place) {
+  const first = entry.references.slice(0, FIRST).map((id) => `<a href="#${prefix}ref-${id}">${placeOf(references[id].span)}</a>`);
   const more = entry.references.length > FIRST ? ` and ${entry.references.length - FIRST} more` : '';
-  return `<li id="free-${place}"><a href="#free-${place}">${escape(entry.name)}</a> <small>${first.join(' ')}${more}</small></li>`;
+  return `<li id="${prefix}free-${place}"><a href="#${prefix}free-${place}">${escape(entry.name)}</a> <small>${first.join(' ')}${more}</small></li>`;
 }
 
 function freePanel(model) {
   const items = model.free.map((entry, place) => freeItem(model, entry, place));
-  return section('free', 'Free names', items.length, list(items), true);
+  return section(`${model.prefix}panel-free`, 'Free names', items.length, list(items), true);
 }
 
-function labelsPanel(model) {
-  const items = model.unusedLabels.map((label, place) =>
-    `<li><a href="#label-${place}">${escape(label.name)}</a> <small>${placeOf(label.span)}</small></li>`);
-  return section('labels', 'Unused labels', items.length, list(items), items.length > 0);
+// A place of another file is told, and leads nowhere.
+function placeItem(id, { text, file, line, column, span }) {
+  const said = text === null ? '' : ` ${escape(text)}`;
+  const place = span === null ? `${escape(file)}:${line}:${column}` : `<a href="#${id}">${placeOf(span)}</a>`;
+  return `<li>${place}${said}</li>`;
 }
 
-function diagnosticItem(diagnostic, place) {
-  const places = diagnostic.labels.map((label, part) => {
-    const said = label.text === null ? '' : ` ${escape(label.text)}`;
-    return `<li><a href="#diagnostic-${place}-${part}">${placeOf(label.span)}</a>${said}</li>`;
-  });
-  const code = diagnostic.code === null ? '' : `<b>${escape(diagnostic.code)}</b> `;
-  const help = diagnostic.help === null ? '' : `<p>Help: ${escape(diagnostic.help)}</p>`;
-  const note = diagnostic.note === null ? '' : `<p>Note: ${escape(diagnostic.note)}</p>`;
-  return `<li class="message">${code}${escape(diagnostic.message)}<ul>${places.join('')}</ul>${help}${note}</li>`;
+function remark(word, text) {
+  return text === null ? '' : `<p>${word}: ${escape(text)}</p>`;
 }
 
-function diagnosticsPanel(model) {
-  const items = model.diagnostics.map(diagnosticItem);
-  return section('diagnostics', 'Diagnostics', items.length, list(items), items.length > 0);
+// A finding: its own place leads, and what belongs to it stands below.
+function findingItem({ prefix }, { rule, severity, message, help, note, places }, number) {
+  const ids = places.map((place, at) => `${prefix}finding-${number}-${at}`);
+  const items = places.map((place, at) => placeItem(ids[at], place));
+  const lead = `<a href="#${ids[0]}">${escape(message)}</a> <small>${severity}, ${rule}</small>`;
+  return `<li class="message ${severity}">${lead}<ul>${items.join('')}</ul>${remark('Help', help)}${remark('Note', note)}</li>`;
 }
 
-function scopeHead(scope) {
+function findingsPanel(model) {
+  const items = model.findings.map((finding, number) => findingItem(model, finding, number));
+  return section(`${model.prefix}panel-findings`, 'Findings', items.length, list(items), items.length > 0);
+}
+
+function scopeHead({ prefix }, scope) {
   const flags = scope.flags.length === 0 ? '' : ` <small>${scope.flags.join(' ')}</small>`;
-  const names = scope.bindings.map((entry) => `<a href="#symbol-${entry.symbol}">${escape(entry.name)}</a>`);
+  const names = scope.bindings.map((entry) => `<a href="#${prefix}symbol-${entry.symbol}">${escape(entry.name)}</a>`);
   const lines = `${scope.span.line}–${scope.lastLine}`;
-  return `<a class="scope-link" href="#scope-${scope.id}">${scope.kind} ${lines}</a>${flags}<div>${names.join(' ')}</div>`;
+  return `<a class="scope-link" href="#${prefix}scope-${scope.id}">${scope.kind} ${lines}</a>${flags}<div>${names.join(' ')}</div>`;
 }
 
 // Scopes inside scopes, each a box with its names.
-function writeScopeBox(children, scope, out) {
-  out.push(`<li class="box">${scopeHead(scope)}`);
+function writeScopeBox(model, children, scope, out) {
+  out.push(`<li class="box">${scopeHead(model, scope)}`);
   const inside = children[scope.id];
   if (inside.length > 0) {
     out.push('<ul>');
     for (const inner of inside) {
-      writeScopeBox(children, inner, out);
+      writeScopeBox(model, children, inner, out);
     }
     out.push('</ul>');
   }
@@ -89,12 +92,12 @@ function writeScopeBox(children, scope, out) {
 
 function scopesPanel(model) {
   const out = [];
-  writeScopeBox(childrenOf(model.scopes), model.scopes[0], out);
-  return section('scopes', 'Scopes', model.scopes.length, `<ul>${out.join('')}</ul>`, false);
+  writeScopeBox(model, childrenOf(model.scopes), model.scopes[0], out);
+  return section(`${model.prefix}panel-scopes`, 'Scopes', model.scopes.length, `<ul>${out.join('')}</ul>`, false);
 }
 
 function panelsHtml(model) {
-  return [diagnosticsPanel, labelsPanel, freePanel, symbolsPanel, scopesPanel].map((panel) => panel(model)).join('\n');
+  return [findingsPanel, freePanel, symbolsPanel, scopesPanel].map((panel) => panel(model)).join('\n');
 }
 
 module.exports = { panelsHtml };

@@ -25,20 +25,20 @@ function writeLines(writer, first, last, out) {
   }
 }
 
-function openBox(box) {
+function openBox(box, prefix) {
   const { id, kind, span, lastLine } = box.scope;
   const label = `scope ${id}: ${kind}, lines ${span.line} to ${lastLine}`;
   const edge = `--indent:${box.indent};--rank:${Math.min(box.rank, MOST_EDGES)}`;
-  return `<div class="scope" id="scope-${id}" style="${edge}" role="group" aria-label="${label}">`;
+  return `<div class="scope" id="${prefix}scope-${id}" style="${edge}" role="group" aria-label="${label}">`;
 }
 
 // A box is its lines and the boxes inside it, in order.
-function writeBox(box, writer, out) {
-  out.push(openBox(box));
+function writeBox(box, writer, prefix, out) {
+  out.push(openBox(box, prefix));
   let line = box.first;
   for (const inner of box.inside) {
     writeLines(writer, line, inner.first - 1, out);
-    writeBox(inner, writer, out);
+    writeBox(inner, writer, prefix, out);
     line = inner.last + 1;
   }
   writeLines(writer, line, box.last, out);
@@ -81,7 +81,7 @@ function sourceHtml(model) {
   const { root, inline } = layOut(model.scopes, (line) => indentOf(model.positions, line));
   const writer = new LineWriter(model.positions, eventsOf(model, inline));
   const out = [];
-  writeBox(root, writer, out);
+  writeBox(root, writer, model.prefix, out);
   const width = widthOf(model.positions);
   return `<div class="numbers" aria-hidden="true">${lineNumbers(model.positions.lines)}</div>
 <div class="source" style="--width:${width}">${out.join('')}</div>`;

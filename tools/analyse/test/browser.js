@@ -53,7 +53,11 @@ class Browser {
     this.session = sessionId;
     await this.send('Page.enable');
     await this.send('Performance.enable', { timeDomain: 'threadTicks' });
-    await this.send('Emulation.setDeviceMetricsOverride', { width, height, deviceScaleFactor: 1, mobile: false });
+    await this.resize(width, height);
+  }
+
+  resize(width, height) {
+    return this.send('Emulation.setDeviceMetricsOverride', { width, height, deviceScaleFactor: 1, mobile: false });
   }
 
   // Opens an address anew, also where only its part behind # differs from the last one's.
@@ -120,6 +124,6 @@ class Browser {
   }
 }
 
-const VIRTUAL = { Tab: 9, Enter: 13, Escape: 27, ArrowUp: 38, ArrowDown: 40 };
+const VIRTUAL = { Tab: 9, Enter: 13, Escape: 27, ArrowUp: 38, ArrowDown: 40, F2: 113 };
 
 module.exports = { Browser };

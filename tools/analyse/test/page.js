@@ -1,15 +1,23 @@
 'use strict';
-// Tries pages in a browser: page.js FOLDER, with shown.html, faulty.html and long.html in it. Screenshots go there too.
+// Tries pages in a browser: page.js FOLDER [NAME..], with the pages that tools/test-page.sh makes in it, and some tries in place of all.
+// Screenshots go there too.
 
 const path = require('path');
 const { pathToFileURL } = require('url');
 const { Browser } = require('./browser.js');
+const { click } = require('./tries/asking.js');
+const { tryFindings } = require('./tries/finding.js');
+const { tryModules, tryScopes } = require('./tries/pictures.js');
+const { tryTies } = require('./tries/project.js');
+const { OPEN_RENAMING, tryLongRenaming, tryRefusals, tryRenaming } = require('./tries/renaming.js');
+const { tryAddress, tryClicks, tryKeys, tryLong } = require('./tries/selecting.js');
 
-const folder = path.resolve(process.argv[2]);
+const [given, ...wanted] = process.argv.slice(2);
+const folder = path.resolve(given);
 const address = (name, part = '') => `${pathToFileURL(path.join(folder, name)).href}${part}`;
 
 // How long all tries may take, in milliseconds.
-const LONGEST = 300_000;
+const LONGEST = 1_200_000;
 
 let failed = 0;
 function expect(name, value, wanted) {
@@ -18,105 +26,33 @@ function expect(name, value, wanted) {
   console.log(same ? `ok: ${name}` : `FAILED: ${name}: ${JSON.stringify(value)} in place of ${JSON.stringify(wanted)}`);
 }
 
-// The text of the elements that a selector finds.
-const texts = (selector) => `[...document.querySelectorAll(${JSON.stringify(selector)})].map((e) => e.textContent)`;
-const ids = (selector) => `[...document.querySelectorAll(${JSON.stringify(selector)})].map((e) => e.id)`;
+// What is to be seen: a page, the part of its address, and what is done there.
+const SHOWN = [
+  ['shown', 'shown.html', '#ref-2', ''],
+  ['findings', 'faulty.html', '', ''],
+  ['renaming', 'renamed.html', '#symbol-2', OPEN_RENAMING],
+  ['underscore', 'project.html', '#m2-symbol-2', ''],
+  ['scopes', 'shown.html', '', click('#views [data-view=scopes]')],
+  ['modules', 'project.html', '', click('#views [data-view=modules]')],
+];
 
-// The id of the n-th element in the source with this text and look.
-const named = (look, text, place = 0) =>
-  `[...document.querySelectorAll('.source a.${look}')].filter((e) => e.textContent === '${text}')[${place}].id`;
+const SIZES = { wide: [1400, 900], narrow: [420, 800] };
 
-async function tryClicks(browser) {
-  await browser.open(address('shown.html'));
-  const reference = await browser.ask(named('r', 'limit'));
-  const declaration = await browser.ask(named('d', 'limit'));
-  await browser.click(`#${reference}`);
-  expect('a click on a reference marks its declaration', await browser.ask(ids('a.declaration')), [declaration]);
-  expect('and its other uses', await browser.ask(texts('.source a.tied')), ['limit', 'limit']);
-  expect('and says which one it was', await browser.ask(ids('[aria-current]')), [reference]);
-  expect('the details tell the name', await browser.ask(texts('#details .name')), ['limit']);
-  expect('the details tell the declaration, the scope and the uses', await browser.ask(texts('#details a')),
-    ['2:7', '0 (program, lines 1 to 26)', '8:20', '25:21', '6 (function, lines 8 to 12)']);
-  expect('the address names it', await browser.ask('location.hash'), `#${reference}`);
-  await browser.click(`#${await browser.ask(named('d', 'twice'))}`);
-  expect('all declarations of a name are marked', await browser.ask(texts('a.declaration')), ['twice', 'twice']);
-  await browser.click(`#${await browser.ask(named('f', 'JSON'))}`);
-  expect('a free name has no declaration', await browser.ask(texts('a.declaration')), []);
-  expect('and is told to be free', await browser.ask("document.querySelector('#details').textContent.includes('is free')"), true);
-  await browser.click('#details a[href^="#scope-"]');
-  expect('a scope is chosen by its link', await browser.ask("document.querySelectorAll('.chosen[id^=scope-]').length"), 1);
-}
-
-async function tryKeys(browser) {
-  await browser.open(address('shown.html'));
-  await browser.key('j', 'j');
-  expect('j begins at the first name', await browser.ask(texts('[aria-current]')), ['readFile']);
-  await browser.key('j', 'j');
-  expect('j goes to the next place of the name', await browser.ask("document.querySelector('[aria-current]').className.split(' ')[0]"), 'r');
-  await browser.key('k', 'k');
-  expect('k goes back', await browser.ask("document.querySelector('[aria-current]').className.split(' ')[0]"), 'd');
-  await browser.key('n', 'n');
-  expect('n goes to the next symbol', await browser.ask(texts('[aria-current]')), ['limit']);
-  await browser.key('p', 'p');
-  expect('p goes back', await browser.ask(texts('[aria-current]')), ['readFile']);
-  await browser.key('Tab');
-  expect('Tab goes to the next name', await browser.ask('document.activeElement.textContent'), 'limit');
-  await browser.key('Enter', '\r');
-  expect('Enter selects it', await browser.ask(texts('a.declaration')), ['limit']);
-  await browser.key('Escape');
-  expect('Escape clears', await browser.ask("document.querySelectorAll('.declaration, .tied, [aria-current]').length"), 0);
-  expect('and the address', await browser.ask('location.hash'), '');
-  await browser.key('/', '/');
-  expect('/ goes to the filter', await browser.ask('document.activeElement.id'), 'filter');
-  await browser.send('Input.insertText', { text: 'lim' });
-  expect('which leaves the names with these letters', await browser.ask(texts('#panel-symbols li:not([hidden]) a')), ['limit']);
-}
-
-async function tryAddress(browser) {
-  await browser.open(address('shown.html', '#symbol-1'));
-  expect('a part of the address selects a symbol', await browser.ask(texts('a.declaration')), ['limit']);
-  expect('text of the source is no markup', await browser.ask("document.querySelector('.source b') === null"), true);
-  expect('the source is whole', await browser.ask("document.querySelector('.source').textContent.includes('\"<b>&amp;</b>\"')"), true);
-  await browser.open(address('faulty.html', '#diagnostic-0-1'));
-  expect('diagnostics are listed', await browser.ask("document.querySelectorAll('.message').length"), 2);
-  expect('and marked', await browser.ask(texts('.source .diagnostic')), ['twice', 'twice', 'm']);
-  expect('unused labels are listed', await browser.ask(texts('#panel-labels li a')), ['unused']);
-  expect('and marked', await browser.ask(texts('.source .label')), ['unused']);
-}
-
-// The page's own processor time of what an expression does, in milliseconds, with the painting. Other work on the machine
-// doesn't count.
-async function spentOn(browser, expression) {
-  const before = await browser.processorTime();
-  await browser.ask(`${expression}; new Promise((resolve) => requestAnimationFrame(() => setTimeout(resolve)))`);
-  return Math.round(await browser.processorTime() - before);
-}
-
-async function tryLong(browser) {
-  await browser.open(address('long.html'));
-  const lines = await browser.ask("document.querySelector('.numbers').textContent.split('\\n').length");
-  console.log(`a page of ${lines} lines takes ${Math.round(await browser.processorTime())} ms to load`);
-  const click = await spentOn(browser, "[...document.querySelectorAll('.source a.r')].pop().click()");
-  console.log(`a click in it takes ${click} ms`);
-  const jump = await spentOn(browser, "location.hash = '#symbol-' + (document.querySelectorAll('#panel-symbols li').length - 1)");
-  console.log(`a jump to its last symbol takes ${jump} ms`);
-  const seen = await browser.ask(`(() => { const b = document.querySelector('a.declaration').getBoundingClientRect();
-    return b.top > 0 && b.bottom < innerHeight; })()`);
-  expect('the last symbol is in view', seen, true);
-  expect('a click is quick', click < 1000, true);
-}
-
-async function takePictures(browser) {
+async function takePictures({ browser }) {
   for (const scheme of ['light', 'dark']) {
     await browser.colours(scheme);
-    await browser.open(address('shown.html', '#ref-2'));
-    await browser.screenshot(path.join(folder, `${scheme}.png`));
-    await browser.open(address('faulty.html'));
-    await browser.screenshot(path.join(folder, `faulty-${scheme}.png`));
+    for (const [size, [width, height]] of Object.entries(SIZES)) {
+      await browser.resize(width, height);
+      for (const [name, page, part, done] of SHOWN) {
+        await browser.open(address(page, part));
+        await browser.ask(done);
+        await browser.screenshot(path.join(folder, `${name}-${size}-${scheme}.png`));
+      }
+    }
   }
-  await browser.open(address('long.html', '#symbol-40'));
-  await browser.screenshot(path.join(folder, 'long-dark.png'));
 }
+
+const TRIES = [tryClicks, tryKeys, tryAddress, tryFindings, tryRenaming, tryRefusals, tryTies, tryScopes, tryModules, tryLong, tryLongRenaming, takePictures];
 
 async function main() {
   const browser = new Browser();
@@ -127,8 +63,8 @@ async function main() {
   }, LONGEST);
   try {
     await browser.attach(1400, 900);
-    for (const part of [tryClicks, tryKeys, tryAddress, tryLong, takePictures]) {
-      await part(browser);
+    for (const part of TRIES.filter(({ name }) => wanted.length === 0 || wanted.includes(name))) {
+      await part({ browser, address, expect });
     }
   } finally {
     clearTimeout(late);

@@ -8,7 +8,7 @@ const { visible } = require('../visible.js');
 const SIGNS = { '&lt;': '<', '&gt;': '>', '&quot;': '"', '&amp;': '&' };
 
 function faultOf(page, source) {
-  const shown = page.slice(page.indexOf('<div class="source"'), page.indexOf('\n</main>'));
+  const shown = page.slice(page.indexOf('<div class="source"'), page.indexOf('\n</article>'));
   const text = shown.replace(/<[^>]*>/g, '').replace(/&(lt|gt|quot|amp);/g, (sign) => SIGNS[sign]);
   const lines = source.replace(/^\ufeff/, '').split(/\r\n|[\n\r\u2028\u2029]/);
   if (text !== lines.map((line) => `${visible(line)}\n`).join('')) {

@@ -1,25 +1,32 @@
 'use strict';
-// bolgwyr scopes: a page that shows the scopes of a source file.
+// bolgwyr scopes: a page that shows the scopes of source files.
 
 const fs = require('fs');
-const { RunFault, STATUS } = require('../faults.js');
+const { load } = require('../../source-to-tree/load.js');
+const { RunFault, STATUS, UsageFault } = require('../faults.js');
 const { addReading, nameOf } = require('./sources.js');
 
 const EXAMPLES = `
 Examples:
   bolgwyr scopes sum.mjs -o page.html        one page that needs nothing else
-  bolgwyr scopes --check lib.ts > page.html  with early errors
+  bolgwyr scopes --project src/index.js > page.html
+                                             all modules that this one reaches, each in a tab
 
 A part behind # selects in the page: page.html#ref-3, #symbol-2, #scope-1, #free-0.`;
 
 function pageOf(file, options) {
-  const { analyseFile, askAbout, readAnalysis } = require('../../analyse/analysis.js');
+  const { analysedFile } = require('../../analyse/page/analysed-file.js');
+  const { modelOf } = require('../../analyse/page/model.js');
   const { pageHtml } = require('../../analyse/page/page.js');
-  const { unusedSymbols } = require('../../check/answers.js');
   const { parser, goal, tree } = options;
-  const words = options.check ? ['--check'] : [];
-  const found = analyseFile(file, { file: nameOf(file, options), words, parser, goal, tree });
-  return pageHtml(readAnalysis(found), unusedSymbols(askAbout(found.tree, 'name_lint', []).stdout.toString('utf8')));
+  return pageHtml([modelOf(analysedFile(file, { file: nameOf(file, options), parser, goal, tree }))]);
+}
+
+function projectPage(entries) {
+  const { pageHtml } = require('../../analyse/page/page.js');
+  const { projectModels } = require('../../analyse/page/project.js');
+  const { models, graph } = projectModels(entries);
+  return pageHtml(models, { title: entries.join(', '), graph });
 }
 
 function write(page, file) {
@@ -37,23 +44,28 @@ function write(page, file) {
 // A text that is at fault is a finding; a file that can't be read is none.
 function run(file, options) {
   const { Refusal } = require('../../analyse/refusal.js');
+  if ((file === undefined) === (options.project === undefined)) {
+    throw new UsageFault('a file is wanted, or --project with entries');
+  }
   try {
-    write(pageOf(file, options), options.output);
+    write(file === undefined ? projectPage(options.project) : pageOf(file, options), options.output);
   } catch (error) {
     if (!(error instanceof Refusal)) {
       throw error;
     }
-    require('../../analyse/output.js').tell(error.lineFor(nameOf(file, options)));
+    require('../../analyse/output.js').tell(error.lineFor(error.file ?? nameOf(file, options)));
     process.exitCode = error.line === undefined ? STATUS.FAILED : STATUS.FOUND;
   }
 }
 
 function add(program, name) {
+  const { Option } = load('commander');
   const command = program.command(name)
-    .description('Write a page that shows a source file in the boxes of its scopes')
-    .argument('<file>', 'the source file; - is standard input')
+    .description('Write a page that shows source files in the boxes of their scopes')
+    .argument('[file]', 'the source file; - is standard input')
     .option('-o, --output <page>', 'the page, else standard output')
-    .option('--check', 'early errors, too')
+    .option('--project <entry...>', 'in place of a file: all modules that these files or folders reach')
+    .addOption(new Option('--check', 'early errors, too').hideHelp()) // they are findings, which the page has always
     .option('--tree', 'the file holds a tree already, as JSON');
   addReading(command)
     .addHelpText('after', EXAMPLES)

@@ -72,6 +72,12 @@ function property(kind) {
 
 const definition = property('PropertyDefinition');
 const accessor = property('AccessorProperty');
+function staticBlock(c, role, node) {
+  c.open(role, 'StaticBlock', node);
+  c.within(true, () => each(c, 'body', node.body, 'statement'));
+  c.close();
+}
+
 const ELEMENTS = {
   MethodDefinition: method,
   TSAbstractMethodDefinition: method,
@@ -85,7 +91,7 @@ const ELEMENTS = {
   AccessorProperty: accessor,
   TSAbstractAccessorProperty: accessor,
   ClassAccessorProperty: accessor,
-  StaticBlock: plain('StaticBlock', { body: 'statement' }),
+  StaticBlock: staticBlock,
   TSIndexSignature: (c, role, node) => visit.indexSignature(c, role, node),
 };
 visit.classElement = byType(ELEMENTS, 'a member of a class');

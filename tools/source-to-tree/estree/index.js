@@ -22,6 +22,15 @@ class EstreeConversion {
     this.text = text;
     this.writer = writer;
     this.annotations = annotations;
+    this.isInStaticBlock = false;
+  }
+
+  // Runs what is inside a static block, or inside a function of one.
+  within(isInStaticBlock, run) {
+    const outer = this.isInStaticBlock;
+    this.isInStaticBlock = isInStaticBlock;
+    run();
+    this.isInStaticBlock = outer;
   }
 
   start(node) {

@@ -27,15 +27,16 @@ const BABEL_LITERALS = {
   RegExpLiteral: LITERALS.regex,
 };
 
-// Values that JSON has no words for come as null, so the other fields tell first.
-function familyOf(node) {
+// Values that JSON has no words for come as null, so the other fields tell first, and of a number that is too large the text.
+function familyOf(c, node) {
   if (node.regex) return 'regex';
   if (node.bigint) return 'bigint';
-  return node.value === null ? 'null' : typeof node.value;
+  if (node.value !== null) return typeof node.value;
+  return /[.\d]/.test(c.text[c.start(node)]) ? 'number' : 'null';
 }
 
 visit.literal = (c, role, node) => {
-  const visitor = BABEL_LITERALS[node.type] || LITERALS[familyOf(node)];
+  const visitor = BABEL_LITERALS[node.type] || LITERALS[familyOf(c, node)];
   visitor(c, role, node);
 };
 

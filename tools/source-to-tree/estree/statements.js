@@ -73,6 +73,13 @@ function catchClause(c, role, node) {
 visit.catchClause = catchClause;
 visit.switchCase = plain('SwitchCase', { test: 'expression', consequent: 'statement' });
 
+// A program may have it outside of functions; a static block never has.
+const plainReturn = plain('ReturnStatement', { argument: 'expression' });
+function returnStatement(c, role, node) {
+  if (c.isInStaticBlock) c.refuse(node, "'return' outside of function");
+  plainReturn(c, role, node);
+}
+
 const STATEMENTS = {
   BlockStatement: visit.block,
   EmptyStatement: plain('EmptyStatement'),
@@ -86,7 +93,7 @@ const STATEMENTS = {
   ForOfStatement: forOf,
   ContinueStatement: plain('ContinueStatement', { label: 'label' }),
   BreakStatement: plain('BreakStatement', { label: 'label' }),
-  ReturnStatement: plain('ReturnStatement', { argument: 'expression' }),
+  ReturnStatement: returnStatement,
   WithStatement: plain('WithStatement', { object: 'expression', body: 'statement' }),
   SwitchStatement: plain('SwitchStatement', { discriminant: 'expression', cases: 'switchCase' }),
   LabeledStatement: plain('LabeledStatement', { label: 'label', body: 'statement' }),

@@ -94,7 +94,7 @@ function property(c, role, node) {
 function staticBlock(c, role, node) {
   modifierMarks(c, node, []);
   c.open(role, 'StaticBlock', node);
-  for (const statement of node.body.statements) visit.statement(c, 'body', statement);
+  c.within(true, () => each(c, 'body', node.body.statements, 'statement'));
   c.close();
 }
 

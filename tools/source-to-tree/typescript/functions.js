@@ -72,7 +72,7 @@ visit.signature = (c, node, text) => {
 function functionBody(c, node) {
   if (!node) return;
   c.open('body', 'FunctionBody', node);
-  visit.body(c, node.statements);
+  c.within(false, () => visit.body(c, node.statements));
   c.close();
 }
 

@@ -40,11 +40,20 @@ class TypeScriptConversion {
     this.text = text;
     this.writer = writer;
     this.annotations = annotations;
+    this.isInStaticBlock = false;
     this.isTyped = writer.isTyped;
     this.afterHashbang = text.startsWith('#!') ? lineEndFrom(text, 2) : 0;
     this.hidden = [];
     this.longWays = new Map();
     this.allowed = [];
+  }
+
+  // Runs what is inside a static block, or inside a function of one.
+  within(isInStaticBlock, run) {
+    const outer = this.isInStaticBlock;
+    this.isInStaticBlock = isInStaticBlock;
+    run();
+    this.isInStaticBlock = outer;
   }
 
   kindName(node) {

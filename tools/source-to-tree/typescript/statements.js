@@ -64,7 +64,7 @@ function forOf(c, role, node) {
   c.open(role, 'ForOfStatement', node, '', marksOf({ await: node.awaitModifier }));
   visit.loopLeft(c, 'left', node.initializer);
   visit.expression(c, 'right', node.expression);
-  visit.statement(c, 'body', node.statement);
+  visit.substatement(c, 'body', node.statement);
   c.close();
 }
 
@@ -98,26 +98,43 @@ function throwStatement(c, role, node) {
   c.close();
 }
 
+// The compiler takes `let` for a declaration also where a line end makes it a name: behind a head or a label there is none.
+visit.substatement = (c, role, node) => {
+  const list = c.kindName(node) === 'VariableStatement' ? node.declarationList : null;
+  const isLet = list !== null && kindOfVariables(c, list) === 'let' && list.declarations.length > 0;
+  if (isLet && /[\n\r\u2028\u2029]/.test(c.text.slice(c.start(list), c.start(list.declarations[0])))) {
+    c.refuse(list, '`let` before a line end is a name here.');
+  }
+  visit.statement(c, role, node);
+};
+
+// A program may have it outside of functions; a static block never has.
+const plainReturn = plain('ReturnStatement', ['argument', 'expression', 'expression']);
+function returnStatement(c, role, node) {
+  if (c.isInStaticBlock) c.refuse(node, "'return' outside of function");
+  plainReturn(c, role, node);
+}
+
 const STATEMENTS = {
   Block: visit.block,
   EmptyStatement: plain('EmptyStatement'),
   DebuggerStatement: plain('DebuggerStatement'),
   ExpressionStatement: plain('ExpressionStatement', ['expression', 'expression', 'expression']),
-  IfStatement: plain('IfStatement', ['test', 'expression', 'expression'], ['consequent', 'thenStatement', 'statement'],
-    ['alternate', 'elseStatement', 'statement']),
-  DoStatement: plain('DoWhileStatement', ['body', 'statement', 'statement'], ['test', 'expression', 'expression']),
-  WhileStatement: plain('WhileStatement', ['test', 'expression', 'expression'], ['body', 'statement', 'statement']),
+  IfStatement: plain('IfStatement', ['test', 'expression', 'expression'], ['consequent', 'thenStatement', 'substatement'],
+    ['alternate', 'elseStatement', 'substatement']),
+  DoStatement: plain('DoWhileStatement', ['body', 'statement', 'substatement'], ['test', 'expression', 'expression']),
+  WhileStatement: plain('WhileStatement', ['test', 'expression', 'expression'], ['body', 'statement', 'substatement']),
   ForStatement: plain('ForStatement', ['init', 'initializer', 'loopInit'], ['test', 'condition', 'expression'],
-    ['update', 'incrementor', 'expression'], ['body', 'statement', 'statement']),
+    ['update', 'incrementor', 'expression'], ['body', 'statement', 'substatement']),
   ForInStatement: plain('ForInStatement', ['left', 'initializer', 'loopLeft'], ['right', 'expression', 'expression'],
-    ['body', 'statement', 'statement']),
+    ['body', 'statement', 'substatement']),
   ForOfStatement: forOf,
   ContinueStatement: plain('ContinueStatement', ['label', 'label', 'label']),
   BreakStatement: plain('BreakStatement', ['label', 'label', 'label']),
-  ReturnStatement: plain('ReturnStatement', ['argument', 'expression', 'expression']),
-  WithStatement: plain('WithStatement', ['object', 'expression', 'expression'], ['body', 'statement', 'statement']),
+  ReturnStatement: returnStatement,
+  WithStatement: plain('WithStatement', ['object', 'expression', 'expression'], ['body', 'statement', 'substatement']),
   SwitchStatement: switchStatement,
-  LabeledStatement: plain('LabeledStatement', ['label', 'label', 'label'], ['body', 'statement', 'statement']),
+  LabeledStatement: plain('LabeledStatement', ['label', 'label', 'label'], ['body', 'statement', 'substatement']),
   ThrowStatement: throwStatement,
   TryStatement: plain('TryStatement', ['block', 'tryBlock', 'block'], ['handler', 'catchClause', 'catchClause'],
     ['finalizer', 'finallyBlock', 'block']),

@@ -1,0 +1,2 @@
+export * from './parse.mjs';
+export { default as store } from './store.mjs';

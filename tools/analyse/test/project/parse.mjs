@@ -1,0 +1,3 @@
+export const parse = (text) => Number(text);
+let top = 3;
+export { top as limit };

@@ -1,0 +1,108 @@
+#!/usr/bin/env node
+'use strict';
+// How long after the last of some keys bolgwyr lsp says what it finds in a file of ten thousand lines, and answers a hover: in
+// milliseconds by the clock, and the processor time of the server with the programs that it runs. Other work on the machine counts in
+// the first and not in the second.
+// usage: latency.js [--rounds N] [--within MILLISECONDS]   (status 1 where the median of the clock's is more)
+
+const fs = require('fs');
+const path = require('path');
+const { execFileSync } = require('child_process');
+const { load } = require('../source-to-tree/load.js');
+const { Client } = require('./client.js');
+
+const { Command } = load('commander');
+
+const SOURCE = path.join(__dirname, '..', 'analyse', 'test', 'long-source.js');
+const URI = 'file:///tmp/long.mjs';
+const KEYS = 'fresh';
+const BETWEEN_KEYS = 60; // milliseconds
+const TICK = 1000 / Number(execFileSync('getconf', ['CLK_TCK'], { encoding: 'utf8' }));
+
+const sleep = (time) => new Promise((resolve) => setTimeout(resolve, time));
+
+// What the system tells of a process: its parent, and the ticks that it and its ended children took; null where it has ended.
+function statOf(id) {
+  try {
+    const text = fs.readFileSync(`/proc/${id}/stat`, 'utf8');
+    const fields = text.slice(text.lastIndexOf(')') + 2).split(' ').map(Number);
+    return { id, parent: fields[1], ticks: fields.slice(11, 15).reduce((sum, ticks) => sum + ticks, 0) };
+  } catch {
+    return null;
+  }
+}
+
+// The processor time of a process and all below it, in milliseconds.
+function processorTime(root) {
+  const stats = fs.readdirSync('/proc').filter((name) => /^\d+$/.test(name)).map((name) => statOf(Number(name))).filter(Boolean);
+  const below = new Set([root]);
+  stats.sort((left, right) => left.id - right.id).forEach(({ id, parent }) => below.has(parent) && below.add(id));
+  return TICK * stats.filter(({ id }) => below.has(id)).reduce((sum, { ticks }) => sum + ticks, 0);
+}
+
+// Where the keys are pressed: behind the name of a function in the middle.
+function placeIn(text) {
+  const lines = text.split('\n');
+  const line = lines.findIndex((one) => one.startsWith('function work250('));
+  return { line, character: 'function work250'.length };
+}
+
+const change = (client, version, range, text) => client.notify('textDocument/didChange', {
+  textDocument: { uri: URI, version }, contentChanges: [{ range, text }],
+});
+
+// One round: keys, and the times until what is found is told; then the letters are taken away again.
+async function round(client, place, first) {
+  let version = first;
+  for (const [at, key] of [...KEYS].entries()) {
+    await sleep(BETWEEN_KEYS);
+    version += 1;
+    const here = { ...place, character: place.character + at };
+    change(client, version, { start: here, end: here }, key);
+  }
+  const [started, processor] = [performance.now(), processorTime(client.child.pid)];
+  await client.diagnosticsOf(URI, version);
+  const told = performance.now() - started;
+  const spent = processorTime(client.child.pid) - processor;
+  change(client, version + 1, { start: place, end: { ...place, character: place.character + KEYS.length } }, '');
+  const asked = performance.now();
+  await client.request('textDocument/hover', { textDocument: { uri: URI }, position: place });
+  const answered = performance.now() - asked;
+  await client.diagnosticsOf(URI, version + 1);
+  client.messages.length = 0;
+  return { told, spent, answered };
+}
+
+function inWords(what, values) {
+  const sorted = [...values].sort((left, right) => left - right).map(Math.round);
+  return `${what}: median ${sorted[sorted.length >> 1]} ms, least ${sorted[0]}, greatest ${sorted[sorted.length - 1]}`;
+}
+
+const medianOf = (values) => [...values].sort((left, right) => left - right)[values.length >> 1];
+
+async function main() {
+  const program = new Command('latency')
+    .option('--rounds <number>', 'how many times', Number, 15)
+    .option('--within <milliseconds>', 'how long it may take by the clock', Number, Infinity)
+    .parse();
+  const { rounds, within } = program.opts();
+  const text = execFileSync(process.execPath, [SOURCE], { encoding: 'utf8', maxBuffer: Infinity });
+  const client = new Client();
+  await client.request('initialize', { capabilities: {} });
+  client.notify('initialized', {});
+  client.open(URI, text);
+  await client.diagnosticsOf(URI, 1);
+  const found = [];
+  for (let at = 0; at <= rounds; at += 1) {
+    found.push(await round(client, placeIn(text), 1 + at * (KEYS.length + 1)));
+  }
+  await client.end();
+  const counted = found.slice(1); // the first is for the code to be compiled
+  console.log(`${text.split('\n').length} lines, ${rounds} rounds of ${KEYS.length} keys`);
+  console.log(inWords('from the last key until the findings are told, by the clock', counted.map(({ told }) => told)));
+  console.log(inWords('processor time of that', counted.map(({ spent }) => spent)));
+  console.log(inWords('a hover right behind a key, by the clock', counted.map(({ answered }) => answered)));
+  process.exitCode = medianOf(counted.map(({ told }) => told)) > within ? 1 : 0;
+}
+
+main();
