@@ -18,9 +18,10 @@ const isScript = (file) => /\.[cm]?js$/.test(file);
 
 const names = () => fs.readFileSync(0, 'utf8').split('\n').filter((name) => name !== '');
 
-// The files of a folder that both linters read.
+// The files of a folder, and of the packages in it, that both linters read.
 function list(folder) {
-  const files = sourcesOf([folder]).map(({ file }) => file).filter(isScript);
+  const folders = [folder, path.join(folder, 'node_modules')].filter((name) => fs.existsSync(name));
+  const files = sourcesOf(folders).map(({ file }) => file).filter(isScript);
   console.log(files.filter((file) => treeOf(file) !== null).join('\n'));
 }
 

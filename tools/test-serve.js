@@ -1,12 +1,16 @@
 #!/usr/bin/env node
 'use strict';
-// Tries that requests which stand one behind the other are answered as each tool's own run answers, and how such a run ends.
+// Tries that requests which stand one behind the other are answered as each tool's own run answers, how such a run ends, and what
+// those who ask get where a program ends in the midst.
 // usage: test-serve.js
 
 const fs = require('fs');
+const os = require('os');
 const path = require('path');
 const { spawnSync } = require('child_process');
-const { programPath } = require('./programs/index.js');
+const { programPath, programsFor } = require('./programs/index.js');
+const { Pool } = require('./programs/pool.js');
+const { Served } = require('./programs/served.js');
 
 const LENGTH_BYTES = 8;
 const sample = (name) => fs.readFileSync(path.join(__dirname, '..', 'samples', name));
@@ -94,5 +98,86 @@ for (const [what, bytes, status, line] of ENDS) {
   expect(what, [status, line, 1], [run.status, run.stderr.toString(), answersIn(run.stdout).length]);
 }
 
-console.log(`${passed} passed, ${failed} failed`);
-process.exitCode = failed === 0 ? 0 : 1;
+// A program that answers as many requests as its name says, and then ends as told. It answers each with the words, in two pieces.
+const STAND_IN = (answers, end) => `#!${process.execPath}
+const { readSync, writeSync } = require('fs');
+function take(length) {
+  const bytes = Buffer.alloc(length);
+  for (let at = 0; at < length;) {
+    const read = readSync(0, bytes, at, length - at);
+    if (read === 0) process.exit(0);
+    at += read;
+  }
+  return bytes;
+}
+for (let left = ${answers}; ; left -= 1) {
+  const head = take(16);
+  const words = take(head.readUInt32LE(0));
+  take(head.readUInt32LE(8));
+  if (left === 0) { ${end} }
+  const answer = Buffer.alloc(24);
+  answer.writeUInt32LE(1, 0);
+  answer.writeUInt32LE(words.length, 8);
+  writeSync(1, answer.subarray(0, 10));
+  writeSync(1, Buffer.concat([answer.subarray(10), words]));
+}
+`;
+
+// How programs end that answer a request or none: what four requests get.
+const STAND_INS = [
+  ['that answers all', STAND_IN(9, ''), ['1 a', '1 b', '1 c', '1 d']],
+  ['that a signal ends at each second request', STAND_IN(1, 'process.kill(process.pid, "SIGKILL"); for (;;);'), ['1 a', 'SIGKILL', '1 c', 'SIGKILL']],
+  ['that ends with a status at each request', STAND_IN(0, 'writeSync(2, "out of memory\\n"); process.exit(7);'), ['7 out of memory', '7 out of memory', '7 out of memory', '7 out of memory']],
+  ['that ends well without an answer', STAND_IN(1, 'process.exit(0);'), ['1 a', 'ended without an answer', '1 c', 'ended without an answer']],
+  ['that writes half of an answer', STAND_IN(0, 'writeSync(1, Buffer.alloc(9)); process.exit(6);'), ['6 ', '6 ', '6 ', '6 ']],
+];
+
+async function told(run) {
+  try {
+    const { status, signal, stdout, stderr } = await run;
+    return signal ?? `${status} ${stdout}${stderr}`.trim();
+  } catch (error) {
+    return error.message.replace(/^\S+ /, '');
+  }
+}
+
+async function tryStandIns(folder) {
+  for (const [place, [what, script, wanted]] of STAND_INS.entries()) {
+    const program = path.join(folder, String(place));
+    fs.writeFileSync(program, script, { mode: 0o755 });
+    const served = new Served(program);
+    const found = await Promise.all(['a', 'b', 'c', 'd'].map((word) => told(served.run([word], Buffer.alloc(300_000)))));
+    expect(`a program ${what}`, wanted.map((one) => one.trim()), found);
+    served.close();
+  }
+  const missing = new Served(path.join(folder, 'none'));
+  expect('a program that there is not', true, (await told(missing.run(['a'], Buffer.alloc(0)))).startsWith("can't be run"));
+}
+
+// Many requests at once, of one tool and of several, are each answered as when they stand alone.
+async function tryPool(isTogether) {
+  const pool = new Pool({ size: 3, programs: programsFor(['report', 'name_lint']), isTogether });
+  const words = { report: ['--check'], name_lint: [] };
+  const inputs = ['function.json', 'names.json', 'tangled.json', 'assignment.json'].map(sample);
+  const runs = await Promise.all([...inputs, ...inputs, ...inputs].map((input) => pool.runAll(Object.keys(words), words, input)));
+  pool.close();
+  runs.forEach((pair, at) => Object.keys(words).forEach((tool, place) => {
+    const { status, stdout, stderr } = pair[place];
+    expect(`${tool} of many`, direct([tool, ...words[tool]], inputs[at % inputs.length]), { status, out: stdout.toString(), errs: stderr });
+  }));
+}
+
+async function main() {
+  const folder = fs.mkdtempSync(path.join(os.tmpdir(), 'bolgwyr-test-'));
+  try {
+    await tryStandIns(folder);
+    await tryPool(true);
+    await tryPool(false);
+  } finally {
+    fs.rmSync(folder, { recursive: true, force: true });
+  }
+  console.log(`${passed} passed, ${failed} failed`);
+  process.exitCode = failed === 0 ? 0 : 1;
+}
+
+main();

@@ -4,6 +4,7 @@
 const path = require('path');
 const { Positions } = require('./positions.js');
 const { Refusal } = require('./refusal.js');
+const { Rows } = require('./rows.js');
 
 // What a refusal that names no bound means.
 const BOUNDS = {
@@ -36,22 +37,13 @@ function rowOf(fields) {
   return { depth, role, kind, span: { start, end }, text, marks };
 }
 
-// The number of each node's parent: the last node before it that is one level higher.
-function parentsOf(rows) {
-  const open = [];
-  return rows.map(([depth], node) => {
-    open[depth] = node;
-    return depth === 0 ? null : open[depth - 1];
-  });
-}
-
 // What stands before the rows, which has no texts.
 function headOf(json) {
   const end = json.indexOf(',"rows":[');
   return JSON.parse(`${json.toString('latin1', 0, end)}}`);
 }
 
-// A tree's text, and what stands in it once that is asked for.
+// A tree's text as the converter writes it, and what stands in it once that is asked for.
 class Tree {
   constructor(json) {
     this.json = json;
@@ -77,13 +69,18 @@ class Tree {
     return this.head.lang !== 'js' && this.head.lang !== 'jsx';
   }
 
+  // The rows one by one, without a reading of the whole tree.
+  get rows() {
+    return this.kept('rows', () => new Rows(this.json));
+  }
+
   row(node) {
-    return rowOf(this.value.rows[node]);
+    return rowOf(this.known.value === undefined ? this.rows.at(node) : this.value.rows[node]);
   }
 
   // The number of a node's parent, null for the root.
   parent(node) {
-    return this.kept('parents', () => parentsOf(this.value.rows))[node];
+    return this.rows.parent(node);
   }
 }
 
@@ -99,9 +96,16 @@ function convertText(text, { file, parser, goal, clock = {} }) {
   }
 }
 
+// A tree in any form of JSON, which is read as a whole.
+class GivenTree extends Tree {
+  row(node) {
+    return rowOf(this.value.rows[node]);
+  }
+}
+
 // A tree that the text is already.
 function readTree(text) {
-  return new Tree(Buffer.from(text, 'utf8'));
+  return new GivenTree(Buffer.from(text, 'utf8'));
 }
 
 module.exports = { BOUNDS, convertText, readTree };

@@ -5,21 +5,9 @@ const { knownSets } = require('./environments.js');
 
 const VALUES = ['Read', 'Write', 'ValueAsType'];
 
-// The node of a reference, by its span: nodes stand in order of their starts.
-function nodesBySpan(tree) {
-  const nodes = new Map();
-  tree.value.rows.forEach(([, , kind, start], node) => {
-    if (kind === 'IdentifierReference') {
-      nodes.set(start, node);
-    }
-  });
-  return nodes;
-}
-
 // `typeof name` asks whether there is such a name.
-function isUnderTypeof(answers, span) {
-  const { tree } = answers;
-  let node = answers.kept('referenceNodes', () => nodesBySpan(tree)).get(span.start);
+function isUnderTypeof(tree, span) {
+  let node = tree.rows.nodeAt('IdentifierReference', span.start);
   do {
     node = tree.parent(node);
   } while (tree.row(node).kind === 'ParenthesizedExpression');
@@ -41,7 +29,7 @@ function* undeclared(answers, { env, globals }) {
   const sets = knownSets(env, new Set(found.map(({ name }) => name)), answers.tree.head.goal);
   const isKnown = (name) => globals.get(name) ?? sets.some((set) => set.has(name));
   for (const { id, name, span } of found) {
-    if (!isKnown(name) && !isUnderTypeof(answers, span) && !isType(answers, id)) {
+    if (!isKnown(name) && !isUnderTypeof(answers.tree, span) && !isType(answers, id)) {
       yield { span, message: `'${name}' is not declared` };
     }
   }

@@ -1,22 +1,30 @@
 'use strict';
-// A buffer of bytes that JSON is written to. Its calls make no objects. What is written often is kept as words of four bytes,
-// of which the last may reach behind its end: the next write goes over that.
+// A buffer of bytes that JSON is written to. Its calls make no objects. What is written often is kept as words of eight bytes, and the
+// groups of a number as words of four; the last word may reach behind the end: the next write goes over that.
 
 const QUOTE = 0x22;
 const BACKSLASH = 0x5c;
-const WORD = 4;
+const WORD = 8;
 const THOUSAND = 1000;
 
-// A text of one byte a character as words, and how many bytes it has.
+// An ASCII text as words, and how many bytes it has. The words are numbers in the engine's own form, since these are read and written
+// eight bytes at once; bytes of ASCII are never those of what is no number.
 function wordsOf(text) {
   const bytes = Buffer.alloc(WORD * Math.ceil(text.length / WORD));
   bytes.latin1Write(text);
-  const words = new Int32Array(bytes.length / WORD);
-  for (let i = 0; i < words.length; i++) words[i] = bytes.readInt32LE(WORD * i);
+  const words = new Float64Array(bytes.length / WORD);
+  for (let i = 0; i < words.length; i++) words[i] = bytes.readDoubleLE(WORD * i);
   return { words, length: text.length };
 }
 
-const groupsOf = (digits) => Int32Array.from({ length: THOUSAND }, (_, value) => wordsOf(String(value).padStart(digits, '0')).words[0]);
+// The digits of a number below a thousand, so many at least, as a word of four bytes.
+function groupOf(value, digits) {
+  const bytes = Buffer.alloc(WORD);
+  bytes.latin1Write(String(value).padStart(digits, '0'));
+  return bytes.readInt32LE();
+}
+
+const groupsOf = (digits) => Int32Array.from({ length: THOUSAND }, (_, value) => groupOf(value, digits));
 const SHORT = groupsOf(1); // the digits of a number below a thousand
 const PADDED = groupsOf(3); // three digits of it
 
@@ -51,7 +59,7 @@ class Bytes {
 
   copy({ words, length }) {
     const { view, end } = this;
-    for (let i = 0, at = end; i < words.length; i++, at += WORD) view.setInt32(at, words[i], true);
+    for (let i = 0, at = end; i < words.length; i++, at += WORD) view.setFloat64(at, words[i], true);
     this.end = end + length;
   }
 

@@ -7,13 +7,19 @@ const { Refusal } = require('./refusal');
 const { isMissing } = require('./load');
 const { isBefore } = require('./parsers');
 
+// A call that is made when it is first wanted; to look a module up takes as long as to read a small file.
+function once(call) {
+  let made;
+  return () => (made ??= call());
+}
+
 // Each way: `parsersIn` gives the parsers for the files of a folder, `read` gives what one made of the text, `write` writes the
 // rows below the root and gives the comments.
 const WAYS = {
-  acorn: () => require('./ways/acorn'),
-  typescript: () => require('./ways/typescript'),
-  babel: () => require('./ways/babel'),
-  estree: () => require('./ways/estree'),
+  acorn: once(() => require('./ways/acorn')),
+  typescript: once(() => require('./ways/typescript')),
+  babel: once(() => require('./ways/babel')),
+  estree: once(() => require('./ways/estree')),
 };
 
 const TURNS = {

@@ -2,14 +2,14 @@
 // Classes and their members.
 
 const { skipTrivia, afterWords } = require('../trivia');
-const { visit, each, byType, plain, marksOf } = require('./visit');
+const { visit, each, byType, plain, marksOf, marksOfTwo } = require('./visit');
 const { DECLARATIONS } = require('./statements');
 
 visit.decorator = plain('Decorator', { expression: 'expression' });
 
 visit.class = (c, role, node, text) => {
   const start = classStart(c, node);
-  c.writer.open(role, 'Class', start, c.end(node), text, marksOf({ declare: node.declare, abstract: node.abstract }));
+  c.writer.open(role, 'Class', start, c.end(node), text, marksOfTwo('declare', node.declare, 'abstract', node.abstract));
   each(c, 'decorators', node.decorators, 'decorator');
   each(c, 'id', node.id, 'bindingName');
   each(c, 'typeParameters', node.typeParameters, 'typeParameters');

@@ -2,7 +2,7 @@
 // Expressions.
 
 const { skipTrivia } = require('../trivia');
-const { visit, each, plain, markOf, marksOf } = require('./visit');
+const { visit, each, plain, markOf, marksOf, marksOfTwo } = require('./visit');
 const { BABEL_LITERALS } = require('./literals');
 
 visit.template = plain('TemplateLiteral', { quasis: 'templateElement', expressions: 'expression' });
@@ -35,7 +35,7 @@ function array(c, role, node) {
 }
 
 function propertyMarks({ shorthand, computed }, method) {
-  return method || shorthand ? marksOf({ method, shorthand, computed }) : markOf('computed', computed);
+  return method && shorthand ? marksOf({ method, shorthand, computed }) : marksOfTwo(method ? 'method' : 'shorthand', method || shorthand, 'computed', computed);
 }
 
 function objectProperty(c, role, node) {
@@ -63,7 +63,7 @@ function importCall(c, role, node) {
 function call(c, role, node) {
   if (node.callee.type === 'Import') return importCall(c, role, node);
   const pure = c.annotations.takesPure(c.start(node));
-  c.open(role, 'CallExpression', node, '', pure ? marksOf({ optional: node.optional, pure }) : markOf('optional', node.optional));
+  c.open(role, 'CallExpression', node, '', marksOfTwo('optional', node.optional, 'pure', pure));
   base(c, 'callee', node, node.callee);
   each(c, 'typeArguments', typeArgumentsOf(node), 'typeArguments');
   each(c, 'arguments', node.arguments, 'argument');

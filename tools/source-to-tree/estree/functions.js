@@ -2,7 +2,7 @@
 // Functions, arrows and their parameters.
 
 const { skipTrivia, openParenthesis, closingEnd, nameEnd } = require('../trivia');
-const { visit, each, markOf, marksOf } = require('./visit');
+const { visit, each, markOf, marksOf, marksOfTwo } = require('./visit');
 const { DECLARATIONS } = require('./statements');
 
 const isThis = (node) => node !== undefined && node.type === 'Identifier' && node.name === 'this';
@@ -95,7 +95,8 @@ function functionBody(c, node) {
 }
 
 function functionMarks({ async, generator, declare }, pure) {
-  return async || generator || declare ? marksOf({ async, generator, declare, pure }) : markOf('pure', pure);
+  if (declare || pure) return marksOf({ async, generator, declare, pure });
+  return marksOfTwo('async', async, 'generator', generator);
 }
 
 // A function with the text given; its list of parameters is unique where it is a method's.

@@ -2,10 +2,10 @@
 // Imports and exports.
 
 const { skipTrivia, nameEnd, closingEnd } = require('../trivia');
-const { visit, each, byType, marksOf } = require('./visit');
+const { visit, each, byType, markOf } = require('./visit');
 const { STATEMENTS } = require('./statements');
 
-const typeMark = (kind) => marksOf({ type: kind === 'type' });
+const typeMark = (kind) => markOf('type', kind === 'type');
 
 const SPECIFIERS = {
   ImportSpecifier(c, role, node) {

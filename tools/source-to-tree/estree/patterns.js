@@ -2,7 +2,7 @@
 // Patterns: those that bind names, and those that are assigned to.
 
 const { closingEnd } = require('../trivia');
-const { visit, each, plain, byType, marksOf } = require('./visit');
+const { visit, each, plain, byType, markOf, marksOfTwo } = require('./visit');
 
 const isRest = (node) => node.type === 'RestElement' || node.type === 'SpreadElement' || node.type === 'ExperimentalRestProperty';
 
@@ -18,7 +18,7 @@ function openPattern(c, role, kind, node, list, mark) {
 }
 
 function bindingProperty(c, role, node) {
-  c.open(role, 'BindingProperty', node, '', marksOf({ shorthand: node.shorthand, computed: node.computed }));
+  c.open(role, 'BindingProperty', node, '', marksOfTwo('shorthand', node.shorthand, 'computed', node.computed));
   visit.key(c, 'key', node.key, node.computed);
   visit.binding(c, 'value', node.value);
   c.close();
@@ -62,7 +62,7 @@ function targetProperty(c, role, node) {
     c.close();
     return;
   }
-  c.open(role, 'AssignmentTargetPropertyProperty', node, '', marksOf({ computed: node.computed }));
+  c.open(role, 'AssignmentTargetPropertyProperty', node, '', markOf('computed', node.computed));
   visit.key(c, 'key', node.key, node.computed);
   visit.targetOrDefault(c, 'binding', node.value);
   c.close();

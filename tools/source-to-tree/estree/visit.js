@@ -46,9 +46,15 @@ function marksOf(conditions) {
   return marks;
 }
 
+// The same of two marks, for nodes that there are many of.
+function marksOfTwo(first, isFirst, second, isSecond) {
+  if (!isFirst) return markOf(second, isSecond);
+  return isSecond ? [first, second] : [first];
+}
+
 // The one mark there is where its condition holds.
 function markOf(mark, condition) {
   return condition ? [mark] : NO_MARKS;
 }
 
-module.exports = { visit, each, plain, byType, marksOf, markOf };
+module.exports = { visit, each, plain, byType, marksOf, marksOfTwo, markOf };

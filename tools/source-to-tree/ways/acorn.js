@@ -60,8 +60,27 @@ function parseAs(Parser, sourceType, text) {
   return { ast: Parser.parse(text, options), comments, goal: sourceType };
 }
 
-// What the class makes of the text as the first goal that it takes it for, or its errors.
+// A line that begins as a statement does which makes a file a module.
+const LIKE_A_MODULE = /^(?:import|export)\b/m;
+
+const isModuleStatement = ({ type }) => type === 'ImportDeclaration' || type.startsWith('Export');
+
+// What the class makes of a module, or null where the text could be a script as well, or is none of both.
+function parseModule(Parser, text) {
+  try {
+    const parsed = parseAs(Parser, 'module', text);
+    return parsed.ast.body.some(isModuleStatement) ? parsed : null;
+  } catch (error) {
+    if (!(error instanceof SyntaxError) || error.pos === undefined) throw error;
+    return null;
+  }
+}
+
+// What the class makes of the text as the first goal that it takes it for, or its errors. What is a module for sure isn't tried as a
+// script before.
 function parse(Parser, goals, text) {
+  const likely = goals.length > 1 && LIKE_A_MODULE.test(text) ? parseModule(Parser, text) : null;
+  if (likely !== null) return { parsed: likely };
   const errors = [];
   for (const goal of goals) {
     try {
