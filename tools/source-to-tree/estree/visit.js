@@ -51,4 +51,7 @@ function markOf(mark, condition) {
   return condition ? [mark] : NO_MARKS;
 }
 
-module.exports = { visit, each, plain, byType, marksOf, markOf };
+// Of a call, an element and the like; dialects name them in two ways.
+const typeArgumentsOf = (node) => node.typeArguments || node.typeParameters;
+
+module.exports = { visit, each, plain, byType, marksOf, markOf, typeArgumentsOf };

@@ -77,9 +77,11 @@ function parseAs(goal, text, { lang, parser }) {
     return error === undefined ? { parsed: { ast, goal } } : { error };
   } catch (error) {
     if (error instanceof SyntaxError && error.pos !== undefined) return { error };
-    throw error instanceof TypeError ? new Refusal(`Babel's parser fails on this text: ${error.message}`) : error;
+    throw isOverflow(error) ? error : new Refusal(`Babel's parser fails on this text: ${error.message}`);
   }
 }
+
+const isOverflow = (error) => error instanceof RangeError && /call stack/.test(error.message);
 
 const furthest = (a, b) => (a.pos > b.pos ? a : b);
 
