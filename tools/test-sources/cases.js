@@ -50,6 +50,7 @@ const JS = [
   ['a private member of a chain', 'x.js', 'class A { #a; m(b) { return b?.#a.c } }', ['argument ChainExpression «b?.#a.c»', 'object PrivateFieldExpression [optional] «b?.#a»']],
   ['assert on the next line', 'x.mjs', 'import "a"\nassert\n{ type: "json" }', ['body ImportDeclaration «import "a"»', 'body ExpressionStatement «assert»', 'body BlockStatement «{ type: "json" }»']],
   ['escapes without a value behind a tag', 'x.js', 't`\\u{${a}\\u0041`; t`\\101`; t`\\u{110000}\\`${`\\x41`}`; t`\\08\r\n`', ['quasis TemplateElement "\\\\u{" «\\u{»', 'quasis TemplateElement "A" «\\u0041»', 'quasis TemplateElement "\\\\101" «\\101»', 'quasis TemplateElement "\\\\u{110000}\\\\`" «\\u{110000}\\`»', 'quasis TemplateElement "A" «\\x41»', 'quasis TemplateElement "\\\\08\\n" «\\08\r\n»']],
+  ['escapes in braces behind a tag', 'x.js', 't`\\u{62}${a}\\\\u{62}\\u{000063}\r\n`', ['quasis TemplateElement "b" «\\u{62}»', 'quasis TemplateElement "\\\\u{62}c\\n" «\\\\u{62}\\u{000063}\r\n»']],
   ['classes', 'x.js', 'a = class B extends (C, D) { static #e = 1; f; "g" = 2; [h]; };', ['right Class "expression" «class B extends (C, D) { static #e = 1; f; "g" = 2; [h]; }»', 'heritage ParenthesizedExpression «(C, D)»', 'body PropertyDefinition [static] «static #e = 1;»', 'body PropertyDefinition [computed] «[h];»']],
 ];
 
