@@ -45,11 +45,13 @@ const HELP = { acorn: { decorators: "Babel's", '`accessor`': "Babel's", 'asserti
 const ESCAPE = /^#?\\u(?:\{([\da-f]+)\}|([\da-f]{4}))/i;
 const IN_NAMES = /[\p{ID_Continue}\u200c\u200d]/u;
 
-// An escape of a character that names have.
+const ASCII = 0x7f;
+
+// An escape of a character that names have. Every parser knows those of ASCII, which may spell words that are no names.
 function escapedIn(from) {
   const found = ESCAPE.exec(from);
   const point = found === null ? NaN : parseInt(found[1] || found[2], 16);
-  return point <= 0x10ffff && IN_NAMES.test(String.fromCodePoint(point)) ? { what: 'this character in names' } : undefined;
+  return point > ASCII && point <= 0x10ffff && IN_NAMES.test(String.fromCodePoint(point)) ? { what: 'this character in names' } : undefined;
 }
 
 // The syntax at a place that is newer than the parser, else undefined.

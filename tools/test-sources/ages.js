@@ -53,6 +53,8 @@ const PLAIN = [
   ['acorn', 'x.js', 'a = /(?<b/', '1:6: Invalid regular expression: /(?<b/: Invalid capture group name'],
   ['acorn', 'x.js', 'a = /(?<b>c)(?:|(?<b>d))/', '1:6: Invalid regular expression: /(?<b>c)(?:|(?<b>d))/: Duplicate capture group name'],
   ['acorn', 'x.js', 'let \\u0021', '1:5: Invalid Unicode escape'],
+  ['acorn', 'x.js', 'v\\u0061r a', '1:1: Escape sequence in keyword var'],
+  ['acorn', 'x.js', '\\u0076ar a', '1:1: Escape sequence in keyword var'],
   ['typescript', 'x.js', 'if (a) let // a name\nb = 1', '1:8: `let` before a line end is a name here.'],
   ['acorn', 'x.js', 'a = /b/vu', '1:6: Invalid regular expression flag'],
   ['acorn', 'x.js', 'a.@b', "1:3: Unexpected character '@'"],

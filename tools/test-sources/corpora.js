@@ -37,7 +37,11 @@ function handedOver(source, { filename, goal }) {
   const text = source.replace(/^\ufeff/, '');
   const { ast, comments } = acorn.read(text, { lang: 'js', filename, goal: goal || goalOf(filename), folder: __dirname, parser });
   const nodes = comments.map(({ block, start, end }) => ({ type: block ? 'Block' : 'Line', start, end }));
-  return JSON.parse(JSON.stringify({ ...ast, comments: nodes }, (key, value) => (typeof value === 'bigint' ? null : value)));
+  try {
+    return JSON.parse(JSON.stringify({ ...ast, comments: nodes }, (key, value) => (typeof value === 'bigint' ? null : value)));
+  } catch (error) {
+    throw error instanceof RangeError ? new Refusal('too deep for JSON') : error;
+  }
 }
 
 function convertBy(way, source, options) {

@@ -87,11 +87,18 @@ function checkBabel(tally, top) {
     tally.check(`by Babel where others are too old: ${source}`, tree.rows.some((row) => row[2] === kind && row[5] === text));
   }
   tally.check('what Babel refuses in a text that others are too old for', /x\.js:1:20: Unexpected token/.test(refusalOf('{ using a = b } c =;', path.join(top, 'x.js'))));
+  checkFaults(tally);
 }
 
-function refusalOf(source, filename) {
+// Some Babels fail within on this.
+function checkFaults(tally) {
+  const line = refusalOf('new <any>A();', 'x.ts', { parser: 'babel' });
+  tally.check('where Babel fails', line === 'a tree' || /^x\.ts(?::1:\d+)?: /.test(line), line);
+}
+
+function refusalOf(source, filename, options = {}) {
   try {
-    treeOf(source, { filename });
+    treeOf(source, { filename, ...options });
     return 'a tree';
   } catch (error) {
     if (!(error instanceof Refusal)) throw error;

@@ -2,10 +2,16 @@
 // Classes and their members.
 
 const { skipTrivia, afterWords } = require('../trivia');
-const { visit, each, byType, plain, marksOf, marksOfTwo } = require('./visit');
+const { visit, each, byType, plain, marksOf, marksOfTwo, typeArgumentsOf } = require('./visit');
 const { DECLARATIONS } = require('./statements');
 
 visit.decorator = plain('Decorator', { expression: 'expression' });
+
+// Before a line end Babel takes the types for a part of the expression.
+function heritageOf({ superClass, superTypeArguments, superTypeParameters }) {
+  if (superClass && superClass.type === 'TSInstantiationExpression') return { base: superClass.expression, types: typeArgumentsOf(superClass) };
+  return { base: superClass, types: superTypeArguments || superTypeParameters };
+}
 
 visit.class = (c, role, node, text) => {
   const start = classStart(c, node);
@@ -13,8 +19,9 @@ visit.class = (c, role, node, text) => {
   each(c, 'decorators', node.decorators, 'decorator');
   each(c, 'id', node.id, 'bindingName');
   each(c, 'typeParameters', node.typeParameters, 'typeParameters');
-  each(c, 'heritage', node.superClass, 'expression');
-  each(c, 'typeArguments', node.superTypeArguments || node.superTypeParameters, 'typeArguments');
+  const { base, types } = heritageOf(node);
+  each(c, 'heritage', base, 'expression');
+  each(c, 'typeArguments', types, 'typeArguments');
   each(c, 'implements', node.implements, 'implements');
   c.open('body', 'ClassBody', node.body);
   each(c, 'body', node.body.body, 'classElement');

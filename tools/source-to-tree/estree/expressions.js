@@ -2,7 +2,7 @@
 // Expressions.
 
 const { skipTrivia } = require('../trivia');
-const { visit, each, plain, markOf, marksOf, marksOfTwo } = require('./visit');
+const { visit, each, plain, markOf, marksOf, marksOfTwo, typeArgumentsOf } = require('./visit');
 const { BABEL_LITERALS } = require('./literals');
 
 visit.template = plain('TemplateLiteral', { quasis: 'templateElement', expressions: 'expression' });
@@ -13,8 +13,6 @@ visit.callee = (c, role, node) => {
   if (node.type === 'Super') c.leaf(role, 'Super', node);
   else visit.expression(c, role, node);
 };
-
-const typeArgumentsOf = (node) => node.typeArguments || node.typeParameters;
 
 // An array, its holes told by the places of their commas.
 function array(c, role, node) {

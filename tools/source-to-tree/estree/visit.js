@@ -57,4 +57,7 @@ function markOf(mark, condition) {
   return condition ? [mark] : NO_MARKS;
 }
 
-module.exports = { visit, each, plain, byType, marksOf, marksOfTwo, markOf };
+// Of a call, an element and the like; dialects name them in two ways.
+const typeArgumentsOf = (node) => node.typeArguments || node.typeParameters;
+
+module.exports = { visit, each, plain, byType, marksOf, marksOfTwo, markOf, typeArgumentsOf };

@@ -28,7 +28,8 @@ function pieceText(c, node, { start, end, isTagged }) {
     return withLineFeeds(raw);
   }
   if (useless >= 0 && /[0-9]/.test(raw[useless + 1])) throw new Refusal('Octal escape sequences are not allowed in templates.', start + useless);
-  return node.text;
+  // Behind a tag the compiler leaves some escapes in braces as they are spelled.
+  return isTagged && raw.includes('\\u{') ? stringValue(withLineFeeds(raw)) : node.text;
 }
 
 // A piece of a template, without the marks at its ends.

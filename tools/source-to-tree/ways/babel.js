@@ -2,6 +2,7 @@
 // Reads JavaScript, JSX and TypeScript with Babel's parser, which stands alone or in Babel's bundle for browsers. Its tree is a
 // dialect of ESTree.
 
+const { Refusal } = require('../refusal');
 const { refusalOf } = require('../newer');
 const { isBefore, parsersFor } = require('../parsers');
 const { write } = require('./estree');
@@ -75,10 +76,12 @@ function parseAs(goal, text, { lang, parser }) {
     const error = ast.errors.find((one) => !isLeft(one, lang));
     return error === undefined ? { parsed: { ast, goal } } : { error };
   } catch (error) {
-    if (!(error instanceof SyntaxError) || error.pos === undefined) throw error;
-    return { error };
+    if (error instanceof SyntaxError && error.pos !== undefined) return { error };
+    throw isOverflow(error) ? error : new Refusal(`Babel's parser fails on this text: ${error.message}`);
   }
 }
+
+const isOverflow = (error) => error instanceof RangeError && /call stack/.test(error.message);
 
 const furthest = (a, b) => (a.pos > b.pos ? a : b);
 
