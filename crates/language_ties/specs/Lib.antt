@@ -1,0 +1,6 @@
+pub mod Environments
+pub mod Bound
+pub mod Moved
+pub mod Meaning
+pub mod EarlyErrors
+pub mod Agreement
