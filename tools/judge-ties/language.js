@@ -40,7 +40,7 @@ function environmentsRound(node, child) {
     case 'ArrowFunctionExpression':
       return functionEnvironments(node, child, ['ArrowParameters']);
     case 'StaticBlock':
-      return ['Body'];
+      return ['StaticBlock'];
     case 'BlockStatement':
       return ['Block'];
     case 'SwitchStatement':
@@ -65,15 +65,16 @@ function environmentsAt(node) {
   const found = [];
   for (let child = node; child.parent !== null; child = child.parent) {
     const { parent } = child;
-    if (parent.kind === 'IfStatement' && child.kind === 'Function' && isDeclaration(child)) found.push({ kind: 'Block', opener: child.id });
+    if (parent.kind === 'IfStatement' && child.kind === 'Function' && isDeclaration(child)) found.push({ kind: 'IfBody', opener: child.id });
     for (const kind of environmentsRound(parent, child)) found.push({ kind, opener: parent.id });
   }
   return found;
 }
 
 const sameEnvironment = (left, right) => left.kind === right.kind && left.opener === right.opener;
-const TAKES_VARIABLES = ['Global', 'Parameters', 'ArrowParameters', 'Body'];
+const TAKES_VARIABLES = ['Global', 'Parameters', 'ArrowParameters', 'Body', 'StaticBlock'];
 const takesVariables = ({ kind }) => TAKES_VARIABLES.includes(kind);
+const isBlock = (environment) => !takesVariables(environment);
 
 // Code is strict in modules, classes and under the directive (11.2.2).
 const hasDirective = ({ children }) => children.some(({ kind, text }) => kind === 'Directive' && text === 'use strict');
@@ -127,7 +128,7 @@ const isPlain = ({ marks }) => !marks.includes('async') && !marks.includes('gene
 function functionNames(node, isModule) {
   if (!isDeclaration(node)) return namesAt(node, 'id').map((id) => bound('OwnName', id, { kind: 'OwnName', opener: node.id }));
   const environments = environmentsAt(node);
-  const mayMove = environments[0].kind === 'Block' && isPlain(node) && !isStrictAt(node, isModule);
+  const mayMove = isBlock(environments[0]) && isPlain(node) && !isStrictAt(node, isModule);
   const { passed, target } = outward(environments);
   return namesAt(node, 'id').map((id) => bound('Function', id, environments[0], mayMove ? { also: [target], passed } : {}));
 }
@@ -169,7 +170,7 @@ function writtenAt(node, isModule) {
 }
 
 // Whether a name is bound lexically in the environment, so that a variable of it may not pass or end there.
-const isLexicalIn = (other, environment) => sameEnvironment(other.environment, environment) && (other.sort === 'Lexical' || (other.sort === 'Function' && environment.kind === 'Block'));
+const isLexicalIn = (other, environment) => sameEnvironment(other.environment, environment) && (other.sort === 'Lexical' || (other.sort === 'Function' && isBlock(environment)));
 
 // Whether the other is why a function stays in its block: a variable of its name would be an early error, or is a parameter's
 // (B.3.2.1). V8 takes a function past functions in blocks around it.
@@ -217,4 +218,4 @@ function meanings(rows, { isModule = false, asV8 = false } = {}) {
   return { nodes, all, references: used.map((node) => ({ node: node.id, name: node.text, meaning: meaning(all, environmentsAt(node), node.text) })) };
 }
 
-module.exports = { meanings, clashes, environmentsAt, meaning, isBoundIn };
+module.exports = { meanings, clashes, environmentsAt, meaning };

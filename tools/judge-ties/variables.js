@@ -2,7 +2,7 @@
 // A program with fresh names for all its variables, as crates/language_ties has them: one name for variables that a program
 // itself ties to one another, as those of a function in a block.
 
-const { environmentsAt, meaning, isBoundIn } = require('./language');
+const { environmentsAt, meaning } = require('./language');
 
 // Sets of keys that grow together.
 function classes() {
@@ -77,4 +77,4 @@ function withFreshNames(source, told) {
   return edits.reduce((text, { node: { span }, variable }) => text.slice(0, span[0]) + nameOf(variable) + text.slice(span[1]), source);
 }
 
-module.exports = { withFreshNames, isBoundIn };
+module.exports = { withFreshNames };

@@ -1,2 +1,4 @@
 pub mod Programs
 pub mod Rows
+pub mod SwitchShape
+pub mod EnvironmentsRound

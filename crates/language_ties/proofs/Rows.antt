@@ -4,7 +4,7 @@ use Rattle.std.specs.Str.{chars}
 use Rattle.std.proofs.Common.{◌≡◌, [], ◌∷◌, codes, refl}
 use Rattle.language_ties.specs.Agreement.{differing}
 use Rattle.language_ties.specs.Meaning.{meanings, unbound, of_object, bound}
-use Rattle.language_ties.specs.declared.environment_kind.EnvironmentKind.TheVariants.{ArrowParameters, Block, Body, Catch, Class, Global, Loop, Object, OwnName, Parameters}
+use Rattle.language_ties.specs.declared.environment_kind.EnvironmentKind.TheVariants.{ArrowParameters, Block, Body, Catch, Class, Global, IfBody, Loop, Object, OwnName, Parameters, StaticBlock}
 use Rattle.language_ties.proofs.Programs.{one_block, barred_block, strict_block, header_and_var, parameter_and_var, own_name, own_name_and_var, classes, loops, cases, catches, arrows, in_module, if_body, labelled, special_blocks, reads_arguments, two_blocks, own_name_and_catch, own_name_and_block, catch_and_block, let_and_if, if_and_parameter, catch_and_var, in_with, block_and_var}
 
 -- a function in a block: its block binds it, and the script its variable
@@ -75,7 +75,7 @@ unfolding encode chars
 own_name_and_var_f_agrees = refl
 
 -- a class has its name inside, too
-classes_meant : meanings classes ≡ record { node = 4; meaning = bound (record { kind = Class; maker = 1 }) (2 ∷ []) } ∷ record { node = 7; meaning = bound (record { kind = Class; maker = 1 }) (2 ∷ []) } ∷ record { node = 12; meaning = bound (record { kind = Class; maker = 1 }) (2 ∷ []) } ∷ record { node = 18; meaning = bound (record { kind = Body; maker = 13 }) (16 ∷ []) } ∷ record { node = 30; meaning = bound (record { kind = Class; maker = 21 }) (22 ∷ []) } ∷ record { node = 32; meaning = unbound } ∷ record { node = 34; meaning = bound (record { kind = Global; maker = 0 }) (2 ∷ []) } ∷ record { node = 36; meaning = unbound } ∷ []
+classes_meant : meanings classes ≡ record { node = 4; meaning = bound (record { kind = Class; maker = 1 }) (2 ∷ []) } ∷ record { node = 7; meaning = bound (record { kind = Class; maker = 1 }) (2 ∷ []) } ∷ record { node = 12; meaning = bound (record { kind = Class; maker = 1 }) (2 ∷ []) } ∷ record { node = 18; meaning = bound (record { kind = StaticBlock; maker = 13 }) (16 ∷ []) } ∷ record { node = 30; meaning = bound (record { kind = Class; maker = 21 }) (22 ∷ []) } ∷ record { node = 32; meaning = unbound } ∷ record { node = 34; meaning = bound (record { kind = Global; maker = 0 }) (2 ∷ []) } ∷ record { node = 36; meaning = unbound } ∷ []
 unfolding encode chars
 classes_meant = refl
 
@@ -173,7 +173,7 @@ unfolding encode chars
 in_module_f_agrees = refl
 
 -- the body of an `if` is as in a block
-if_body_meant : meanings if_body ≡ record { node = 8; meaning = bound (record { kind = Block; maker = 3 }) (4 ∷ []) } ∷ record { node = 10; meaning = bound (record { kind = Global; maker = 0 }) (4 ∷ []) } ∷ []
+if_body_meant : meanings if_body ≡ record { node = 8; meaning = bound (record { kind = IfBody; maker = 3 }) (4 ∷ []) } ∷ record { node = 10; meaning = bound (record { kind = Global; maker = 0 }) (4 ∷ []) } ∷ []
 unfolding encode chars
 if_body_meant = refl
 

@@ -13,7 +13,7 @@ use Rattle.semantic_tree.specs.declared.node.Node.{Node}
 use Rattle.semantic_model.specs.Binder.{is_statement, is_special}
 use Rattle.semantic_model.specs.Names.{bound_names, names_at}
 use Rattle.semantic_model.specs.Step.{Step, entering}
-use Rattle.language_ties.specs.Environments.{Environment, is_made_for, made_for, environments, innermost, passed, variable_environment}
+use Rattle.language_ties.specs.Environments.{Environment, takes_variables, made_for, environments, innermost, passed, variable_environment}
 use Rattle.language_ties.specs.contracts.bound_as.BoundAs.{the_type as the_ways}
 use Rattle.language_ties.specs.declared.bound_as.BoundAs.{BoundAs}
 use Rattle.language_ties.specs.declared.bound_as.BoundAs.TheVariants as bound
@@ -64,12 +64,12 @@ abbrev pub bound_by_declarator : Node → List Node → List Bound
 bound_by_declarator x [] = []
 bound_by_declarator x (declaration ∷ path) =
     let es : List Environment = environments x (declaration ∷ path) in
-    map (cond (is_with_text kind.VariableDeclaration (codes "var") declaration) (bound_outward es) (bound_here bound.Lexical es)) (names_at role.Id x)
+    map (cond (is_with_text kind.VariableDeclaration (codes "var") declaration) (bound_outward es) (bound_here bound.Lexical es)) (bound_names x)
 
 -- a plain function in a block of sloppy code, which may have a variable beside (B.3.2, B.3.3)
 abbrev pub is_block_function : SourceType → Node → List Node → Bool
 is_block_function s x path =
-    is_made_for environment.Block (innermost (environments x path)) && not (is_special x) && not (is_strict s path)
+    not (takes_variables (innermost (environments x path))) && not (is_special x) && not (is_strict s path)
 
 -- a function's declaration, as if its variable were barred by nothing
 abbrev pub bound_by_declaration : SourceType → Node → List Node → Node → Bound

@@ -1,5 +1,5 @@
 -- The environments round a place, innermost first, by the nodes above it (ECMA-262, 9.1).
-use Rattle.std.specs.Prelude.{ℕ, ◌==◌, List, [], ◌∷◌, ◌++◌, Bool, false, ◌&&◌, ◌||◌, not, cond}
+use Rattle.std.specs.Prelude.{ℕ, ◌==◌, List, [], ◌∷◌, ◌++◌, Bool, false, ◌&&◌, ◌||◌, not, Option, Some, None, cond}
 use denote.Enum.Bare.{sameb}
 use Rattle.semantic_kinds.specs.Classes.{holds_kind}
 use Rattle.semantic_kinds.specs.Kinds.{same_kind}
@@ -58,10 +58,10 @@ abbrev pub made_by : AstType → Node → Node → List Environment
 made_by kind.Program x child = made_for environment.Global x ∷ []
 made_by kind.Function x child = body_round x child ++ made_for environment.Parameters x ∷ made_for environment.OwnName x ∷ []
 made_by kind.ArrowFunctionExpression x child = body_round x child ++ made_for environment.ArrowParameters x ∷ []
-made_by kind.StaticBlock x child = made_for environment.Body x ∷ []
+made_by kind.StaticBlock x child = made_for environment.StaticBlock x ∷ []
 made_by kind.BlockStatement x child = made_for environment.Block x ∷ []
 made_by kind.SwitchStatement x child = cond (is kind.SwitchCase child) (made_for environment.Block x ∷ []) []
-made_by kind.IfStatement x child = cond (is kind.Function child && is_statement child) (made_for environment.Block child ∷ []) []
+made_by kind.IfStatement x child = cond (is kind.Function child && is_statement child) (made_for environment.IfBody child ∷ []) []
 made_by kind.ForStatement x child = made_for environment.Loop x ∷ []
 made_by kind.ForInStatement x child = made_for environment.Loop x ∷ []
 made_by kind.ForOfStatement x child = made_for environment.Loop x ∷ []
@@ -86,13 +86,21 @@ innermost (e ∷ es) = e
 abbrev pub takes_variables : Environment → Bool
 takes_variables e =
     is_made_for environment.Global e || is_made_for environment.Parameters e || is_made_for environment.ArrowParameters e || is_made_for environment.Body e
+    || is_made_for environment.StaticBlock e
 
 -- the environments that a variable passes
 abbrev pub passed : List Environment → List Environment
 passed [] = []
 passed (e ∷ es) = cond (takes_variables e) [] (e ∷ passed es)
 
+abbrev pub first_taking : List Environment → Option Environment
+first_taking [] = None
+first_taking (e ∷ es) = cond (takes_variables e) (Some e) (first_taking es)
+
+abbrev pub environment_or : Environment → Option Environment → Environment
+environment_or d None = d
+environment_or d (Some e) = e
+
 -- the environment where it is bound
 abbrev pub variable_environment : List Environment → Environment
-variable_environment [] = no_environment
-variable_environment (e ∷ es) = cond (takes_variables e) e (variable_environment es)
+variable_environment es = environment_or (innermost es) (first_taking es)

@@ -4,3 +4,5 @@ pub mod Moved
 pub mod Meaning
 pub mod EarlyErrors
 pub mod Agreement
+pub mod EcmaScript
+pub mod Scopes

@@ -1,17 +1,16 @@
 -- Which functions in blocks have a variable in the function around them (ECMA-262, B.3.2).
-use Rattle.std.specs.Prelude.{ℕ, ◌==◌, List, [], ◌∷◌, ◌++◌, Bool, false, ◌&&◌, ◌||◌, not, cond, map, bytes_eq}
+use Rattle.std.specs.Prelude.{ℕ, ◌==◌, List, [], ◌∷◌, ◌++◌, Bool, ◌&&◌, ◌||◌, not, cond, map, bytes_eq}
 use Rattle.std.specs.List.{list_any}
 use Rattle.semantic_tree.specs.Tree.{Tree}
 use Rattle.semantic_model.specs.Step.{steps}
 use Rattle.language_ties.specs.Bound.{Bound, is_bound_as, written}
-use Rattle.language_ties.specs.Environments.{Environment, is_made_for, same_environment}
+use Rattle.language_ties.specs.Environments.{Environment, takes_variables, same_environment}
 use Rattle.language_ties.specs.declared.bound_as.BoundAs.TheVariants as bound
-use Rattle.language_ties.specs.declared.environment_kind.EnvironmentKind.TheVariants as environment
 
 -- whether the environment binds the name lexically, so that no variable of it may pass it or be bound there (14.2.1, 14.7.4.1, 14.12.1, 14.15.1 with B.3.4, 15.2.1, 16.1.1)
 abbrev pub is_lexical_in : Environment → Bound → Bool
 is_lexical_in e b =
-    same_environment b.environment e && (is_bound_as bound.Lexical b || (is_bound_as bound.Function b && is_made_for environment.Block e))
+    same_environment b.environment e && (is_bound_as bound.Lexical b || (is_bound_as bound.Function b && not (takes_variables e)))
 
 -- whether it is a parameter of the function that makes the environment
 abbrev pub is_parameter_of : Environment → Bound → Bool

@@ -11,10 +11,14 @@ pub enum EnvironmentKind {
     Parameters,
     /// The same of an arrow, which has no `arguments`.
     ArrowParameters,
-    /// What a body declares that has an environment of its own (10.2.11, step 28), and a static block (15.7.11).
+    /// What the body of a function declares that has an environment of its own (10.2.11, step 28).
     Body,
-    /// A block, the cases of a `switch`, and a function that is the body of an `if` (14.2.2, 14.12.4, B.3.3).
+    /// A static block of a class (15.7.11).
+    StaticBlock,
+    /// A block, and the cases of a `switch` (14.2.2, 14.12.4).
     Block,
+    /// A function that is the body of an `if` (B.3.3).
+    IfBody,
     /// What the head of a loop declares (14.7.4.3, 14.7.5.7).
     Loop,
     /// The parameter of a catch clause (14.15.2).

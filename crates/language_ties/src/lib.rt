@@ -5,6 +5,7 @@
 
 mod bound_as;
 mod environment_kind;
+pub mod laws;
 
 pub use bound_as::BoundAs;
 pub use environment_kind::EnvironmentKind;
