@@ -17,10 +17,8 @@ const isDeclaration = ({ text }) => text === 'declaration' || text === 'ts-decla
 
 // Whether a list of parameters has an expression: an initializer or a computed key (15.1.2, ContainsExpression).
 function containsExpression({ children }) {
-  return children.some(
-    (child) =>
-      child.role === 'initializer' || child.kind === 'AssignmentPattern' || (child.kind === 'BindingProperty' && child.marks.includes('computed')) || containsExpression(child),
-  );
+  const isOne = ({ role, kind, marks }) => role === 'initializer' || kind === 'AssignmentPattern' || (kind === 'BindingProperty' && marks.includes('computed'));
+  return children.some((child) => isOne(child) || containsExpression(child));
 }
 
 // The environments that a function makes round its body or, in the header, round its parameters.
@@ -76,15 +74,25 @@ const TAKES_VARIABLES = ['Global', 'Parameters', 'ArrowParameters', 'Body', 'Sta
 const takesVariables = ({ kind }) => TAKES_VARIABLES.includes(kind);
 const isBlock = (environment) => !takesVariables(environment);
 
-// Code is strict in modules, classes and under the directive (11.2.2).
+// What makes the code in it strict: a class, or a directive (11.2.2).
 const hasDirective = ({ children }) => children.some(({ kind, text }) => kind === 'Directive' && text === 'use strict');
 
-function isStrictAt(node, isModule) {
-  for (let at = node; at !== null; at = at.parent) {
-    if (at !== node && at.kind === 'Class') return true;
-    if (at.kind === 'Program' && hasDirective(at)) return true;
-    if (at !== node && (at.kind === 'Function' || at.kind === 'ArrowFunctionExpression') && at.children.some((child) => child.kind === 'FunctionBody' && hasDirective(child))) return true;
+function makesStrict(node) {
+  switch (node.kind) {
+    case 'Class':
+      return true;
+    case 'Program':
+      return hasDirective(node);
+    case 'Function':
+    case 'ArrowFunctionExpression':
+      return node.children.some((child) => child.role === 'body' && hasDirective(child));
+    default:
+      return false;
   }
+}
+
+function isStrictAt(node, isModule) {
+  for (let at = node.parent; at !== null; at = at.parent) if (makesStrict(at)) return true;
   return isModule;
 }
 
@@ -128,9 +136,9 @@ const isPlain = ({ marks }) => !marks.includes('async') && !marks.includes('gene
 function functionNames(node, isModule) {
   if (!isDeclaration(node)) return namesAt(node, 'id').map((id) => bound('OwnName', id, { kind: 'OwnName', opener: node.id }));
   const environments = environmentsAt(node);
-  const mayMove = isBlock(environments[0]) && isPlain(node) && !isStrictAt(node, isModule);
+  const isMovable = isBlock(environments[0]) && isPlain(node) && !isStrictAt(node, isModule);
   const { passed, target } = outward(environments);
-  return namesAt(node, 'id').map((id) => bound('Function', id, environments[0], mayMove ? { also: [target], passed } : {}));
+  return namesAt(node, 'id').map((id) => bound('Function', id, environments[0], isMovable ? { also: [target], passed } : {}));
 }
 
 function classNames(node) {
@@ -170,7 +178,9 @@ function writtenAt(node, isModule) {
 }
 
 // Whether a name is bound lexically in the environment, so that a variable of it may not pass or end there.
-const isLexicalIn = (other, environment) => sameEnvironment(other.environment, environment) && (other.sort === 'Lexical' || (other.sort === 'Function' && isBlock(environment)));
+function isLexicalIn(other, environment) {
+  return sameEnvironment(other.environment, environment) && (other.sort === 'Lexical' || (other.sort === 'Function' && isBlock(environment)));
+}
 
 // Whether the other is why a function stays in its block: a variable of its name would be an early error, or is a parameter's
 // (B.3.2.1). V8 takes a function past functions in blocks around it.
@@ -183,11 +193,22 @@ function bars(one, other, asV8) {
 
 const mayMove = ({ sort, also }) => sort === 'Function' && also.length > 0;
 
+// The bound names of each name.
+function byName(all) {
+  const named = new Map();
+  for (const one of all) {
+    if (!named.has(one.name)) named.set(one.name, []);
+    named.get(one.name).push(one);
+  }
+  return named;
+}
+
 // All that a program binds.
 function boundBy(nodes, isModule, asV8) {
   const written = nodes.flatMap((node) => writtenAt(node, isModule));
-  const named = Map.groupBy ? Map.groupBy(written, ({ name }) => name) : written.reduce((map, one) => map.set(one.name, [...(map.get(one.name) || []), one]), new Map());
-  return written.map((one) => (mayMove(one) && named.get(one.name).some((other) => bars(one, other, asV8)) ? { ...one, also: [] } : one));
+  const named = byName(written);
+  const isBarred = (one) => mayMove(one) && named.get(one.name).some((other) => bars(one, other, asV8));
+  return written.map((one) => (isBarred(one) ? { ...one, also: [] } : one));
 }
 
 // Whether a variable of the name passes an environment, or ends in one, that binds it lexically: an early error.

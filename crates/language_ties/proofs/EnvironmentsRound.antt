@@ -1,6 +1,6 @@
 -- The scopes round each node of an ECMAScript program are its environments.
 use Rattle.std.proofs.Common.{◌≡◌, ℕ, ◌==◌, List, [], ◌∷◌, ◌++◌, Option, Some, None, Bool, true, false, ◌&&◌, ◌||◌, not, cond, map, refl, sym, ap, subst, ◌∙◌, inl, inr}
-use Rattle.std.specs.Int.RustNames.{bit_and, bit_or}
+use Rattle.std.specs.Int.RustNames.{bit_and}
 use Rattle.std.proofs.lemmas.Bool.{cases_Bool, not-true}
 use Rattle.std.proofs.lemmas.Nat.{and_or_apart}
 use Rattle.semantic_syntax.specs.declared.scope_flags.TheConstants.ScopeFlags as scope
@@ -19,13 +19,13 @@ use Rattle.semantic_tree.specs.Views.{is, has_text, has_use_strict, holds, child
 use Rattle.semantic_tree.specs.declared.node.Node.{Node}
 use Rattle.std.specs.Str.{bytes_eq}
 use Rattle.std.specs.Prelude.{codes}
-use Rattle.semantic_syntax.specs.SourceTypes.{is_module}
-use Rattle.semantic_model.specs.Binder.{is_statement, is_var}
+use Rattle.semantic_syntax.specs.SourceTypes.{is_module, is_typescript}
+use Rattle.semantic_model.specs.Binder.{is_statement}
 use Rattle.semantic_model.specs.Place.{Place, OpenScope, outside, is_strict}
 use Rattle.semantic_model.specs.Inside.{is_inside, is_in_header, is_parameter_decorator}
 use Rattle.semantic_model.specs.ScopeKind.{strict_if, accessor, value_of, method_flags, flags_of_kind, opened_scope}
 use Rattle.semantic_model.specs.Cursor.{on_entering}
-use Rattle.semantic_model.specs.Step.{Step, steps_below, steps, root_place, scope_at, child_place, chain_within}
+use Rattle.semantic_model.specs.Step.{Step, entering, opening, header_ending, closing, leaving, steps_below, steps, root_place, scope_at, child_place, chain_within}
 use Rattle.semantic_model.proofs.steps.Turn.{Turn, turn_at}
 use Rattle.semantic_model.proofs.steps.TurnCases.{opening_case, ending_case, last_case}
 use Rattle.semantic_model.proofs.steps.EachStep.{EachStep, each_of_node, each_of_turn}
@@ -33,11 +33,11 @@ use Rattle.semantic_model.proofs.form.Clauses.{kind_is}
 use Rattle.semantic_model.proofs.form.ParameterChains.{is_open_inside}
 use Rattle.semantic_model.proofs.form.Shape.{has_form}
 use Rattle.tangle_model.specs.Surroundings.{in_with_under}
-use Rattle.language_ties.specs.EcmaScript.{is_ecmascript_kind, is_ecmascript_forest, is_ecmascript}
+use Rattle.language_ties.specs.EcmaScript.{is_ecmascript_kind, has_foreign_mark, is_foreign_text, is_ecmascript_forest, is_ecmascript}
 use Rattle.language_ties.specs.Environments.{Environment, is_outside_body, has_parameter_expressions, made_by, environments}
 use Rattle.language_ties.specs.Scopes.{Maker, maker_of_scope, makers, HasItsEnvironments, HasThem, ScopesAreEnvironments}
 use Rattle.language_ties.specs.declared.environment_kind.EnvironmentKind.TheVariants as environment
-use Rattle.language_ties.proofs.SwitchShape.{is_case_by_role, cases_stand, program_cases}
+use Rattle.language_ties.proofs.SwitchShape.{is_case_by_role, cases_stand, program_cases, is_bare_rest, none_bare}
 
 -- whether `var` declares in the scope of a node of the kind
 abbrev takes : AstType → Bool
@@ -200,37 +200,72 @@ module _ (p : Place) (r : Role) (node : Node) (fit : IsFitChild p r node) where
           chain_makers own cursor is_open o ∙ ap (with_maker p.node.kind r p.node) (h w)
           ∙ sym (made_makers p.node.kind r p.node node (environments p.node p.path) fit.parent fit.own fit.undecorated fit.case e)
 
-environments_steps : (p : Place) (own : Option OpenScope) (n cursor : ℕ) (f : Forest) → is_ecmascript_kind p.node.kind ≡ true → is_ecmascript_forest f ≡ true → cases_stand p.node.kind f ≡ true → HasItsEnvironments p → OwnMaker p own
-    → EachStep HasThem (steps_below p own n cursor f)
-environments_steps p own n cursor nothing k e c h o = last_case (EachStep HasThem) p own n tt (tt, (tt, tt))
-environments_steps p own n cursor (tree r k2 span text marks below id after) k e c h o =
+-- what is known of a place
+pub record IsKnown (p : Place) : Type 0 where
+  pub round : HasItsEnvironments p
+  pub ecmascript : is_ecmascript_kind p.node.kind ≡ true
+  pub rooted : p.path ≡ [] → p.node.kind ≡ kind.Program
+  pub whole : is_bare_rest p.node p.path ≡ false
+
+abbrev pub KnownAt : Step → Type 0
+KnownAt (entering p) = IsKnown p
+KnownAt (opening p s) = Unit {0}
+KnownAt (header_ending p s) = Unit {0}
+KnownAt (closing p s) = Unit {0}
+KnownAt (leaving p) = Unit {0}
+
+pub each_map : (P Q : Step → Type 0) → ((st : Step) → P st → Q st) → (ss : List Step) → EachStep P ss → EachStep Q ss
+each_map P Q f [] h = tt
+each_map P Q f (s ∷ ss) h = (f s h.0, each_map P Q f ss h.1)
+
+not_empty : {A : Type 0} (x : A) (xs : List A) → x ∷ xs ≡ [] → ⊥
+not_empty x xs e = absurd cc
+
+known_steps : (p : Place) (own : Option OpenScope) (n cursor : ℕ) (f : Forest) → IsKnown p → is_ecmascript_forest f ≡ true → cases_stand p.node.kind f ≡ true → OwnMaker p own → EachStep KnownAt (steps_below p own n cursor f)
+known_steps p own n cursor nothing k e c o = last_case (EachStep KnownAt) p own n tt (tt, (tt, tt))
+known_steps p own n cursor (tree r k2 span text marks below id after) k e c o =
     let node : Node = record { kind = k2; span = span; text = text; marks = marks; children = below; node_id = id } in
     let turn : Turn = turn_at p own n cursor r node after in
-    let here : (is_ecmascript_kind k2 && not (same_role r role.Decorators)) ≡ true = and_first (is_ecmascript_kind k2 && not (same_role r role.Decorators)) _ (and_first ((is_ecmascript_kind k2 && not (same_role r role.Decorators)) && _) _ e) in
-    let forests : (is_ecmascript_forest below && is_ecmascript_forest after) ≡ true = and_second ((is_ecmascript_kind k2 && not (same_role r role.Decorators)) && _) _ e in
-    let cases : (cases_stand k2 below && cases_stand p.node.kind after) ≡ true = and_second (is_case_by_role p.node.kind r k2) _ c in
+    let first : ((is_ecmascript_kind k2 && not (same_role r role.Decorators)) && (not (has_foreign_mark marks) && not (is_foreign_text text))) ≡ true = and_first _ (is_ecmascript_forest below && is_ecmascript_forest after) e in
+    let here : (is_ecmascript_kind k2 && not (same_role r role.Decorators)) ≡ true = and_first _ (not (has_foreign_mark marks) && not (is_foreign_text text)) first in
+    let forests : (is_ecmascript_forest below && is_ecmascript_forest after) ≡ true = and_second _ (is_ecmascript_forest below && is_ecmascript_forest after) e in
+    let cases : (cases_stand k2 below && cases_stand p.node.kind after) ≡ true = and_second (is_case_by_role p.node.kind r k2) (cases_stand k2 below && cases_stand p.node.kind after) c in
     let fit : IsFitChild p r node = record {
-      parent = k;
-      own = and_first (is_ecmascript_kind k2) _ here;
-      undecorated = not-true (same_role r role.Decorators) (and_second (is_ecmascript_kind k2) _ here);
-      case = and_first (is_case_by_role p.node.kind r k2) _ c;
+      parent = k.ecmascript;
+      own = and_first (is_ecmascript_kind k2) (not (same_role r role.Decorators)) here;
+      undecorated = not-true (same_role r role.Decorators) (and_second (is_ecmascript_kind k2) (not (same_role r role.Decorators)) here);
+      case = and_first (is_case_by_role p.node.kind r k2) (cases_stand k2 below && cases_stand p.node.kind after) c;
     } in
-    let own_is : OwnMaker p turn.scope = own_maker p r own n k o in
-    let child_is : HasItsEnvironments turn.child = child_has p r node fit turn.scope cursor (is_open_inside p r own n) own_is h in
-    each_of_turn HasThem turn (record {
-      before = opening_case (EachStep HasThem) p r own n tt (tt, tt);
-      whole = each_of_node HasThem turn.child turn.below child_is (environments_steps turn.child None turn.next turn.inner below fit.own (and_first (is_ecmascript_forest below) _ forests) (and_first (cases_stand k2 below) _ cases) child_is tt) tt;
-      behind = ending_case (EachStep HasThem) p r turn.scope after tt (λ s. (tt, tt)) (λ s. (tt, tt)) (λ s. (tt, (tt, tt)));
-      others = environments_steps p turn.scope turn.rest turn.past after k (and_second (is_ecmascript_forest below) _ forests) (and_second (cases_stand k2 below) _ cases) h own_is;
+    let own_is : OwnMaker p turn.scope = own_maker p r own n k.ecmascript o in
+    let child_is : IsKnown turn.child = record {
+      round = child_has p r node fit turn.scope cursor (is_open_inside p r own n) own_is k.round;
+      ecmascript = fit.own;
+      rooted = λ q. absurd (not_empty p.node p.path q);
+      whole = none_bare p.node.kind r k2 fit.case;
+    } in
+    each_of_turn KnownAt turn (record {
+      before = opening_case (EachStep KnownAt) p r own n tt (tt, tt);
+      whole = each_of_node KnownAt turn.child turn.below child_is (known_steps turn.child None turn.next turn.inner below child_is (and_first (is_ecmascript_forest below) (is_ecmascript_forest after) forests) (and_first (cases_stand k2 below) (cases_stand p.node.kind after) cases) tt) tt;
+      behind = ending_case (EachStep KnownAt) p r turn.scope after tt (λ s. (tt, tt)) (λ s. (tt, tt)) (λ s. (tt, (tt, tt)));
+      others = known_steps p turn.scope turn.rest turn.past after k (and_second (is_ecmascript_forest below) (is_ecmascript_forest after) forests) (and_second (cases_stand k2 below) (cases_stand p.node.kind after) cases) own_is;
     })
 
-root_kind : (p : Tree) → first_fault p ≡ None → is_ecmascript_kind p.root.kind ≡ true
-root_kind p h = subst (λ k. is_ecmascript_kind k ≡ true) (sym (has_form p h).root) refl
-
 -- in a program of ECMAScript without a fault
-pub scopes_are_environments : (p : Tree) → first_fault p ≡ None → is_ecmascript p ≡ true → ScopesAreEnvironments p
-scopes_are_environments p h e =
+pub known_program : (p : Tree) → first_fault p ≡ None → is_ecmascript p ≡ true → EachStep KnownAt (steps p)
+known_program p h e =
     let root : Place = root_place p in
     let n : ℕ = on_entering p.root.kind 0 in
     let below : List Step = steps_below root None 0 n p.root.children in
-    each_of_node HasThem root below (λ w. refl) (environments_steps root None 0 n p.root.children (root_kind p h) (and_second _ (is_ecmascript_forest p.root.children) e) (program_cases p h) (λ w. refl) tt) tt
+    let is_program : p.root.kind ≡ kind.Program = (has_form p h).root in
+    let known : IsKnown root = record { round = λ w. refl; ecmascript = subst (λ k. is_ecmascript_kind k ≡ true) (sym is_program) refl; rooted = λ q. is_program; whole = and_false (is kind.BindingRestElement p.root) } in
+    each_of_node KnownAt root below known (known_steps root None 0 n p.root.children known (and_second (not (is_typescript p.source_type)) (is_ecmascript_forest p.root.children) e) (program_cases p h) tt) tt
+
+has_at : (st : Step) → KnownAt st → HasThem st
+has_at (entering p) k = k.round
+has_at (opening p s) k = tt
+has_at (header_ending p s) k = tt
+has_at (closing p s) k = tt
+has_at (leaving p) k = tt
+
+pub scopes_are_environments : (p : Tree) → first_fault p ≡ None → is_ecmascript p ≡ true → ScopesAreEnvironments p
+scopes_are_environments p h e = each_map KnownAt HasThem has_at (steps p) (known_program p h e)

@@ -858,3 +858,40 @@ block_and_var =
     (node role.Expression kind.IdentifierReference (codes "a") []
     ∷ [])
     ∷ [])
+
+-- `{ let a; { var a } } { let a; { var a } } a`
+abbrev pub clash : Tree
+clash =
+    program goal.Script lang.Js
+    (node role.Body kind.BlockStatement []
+    (node role.Body kind.VariableDeclaration (codes "let")
+    (node role.Declarators kind.VariableDeclarator []
+    (node role.Id kind.BindingIdentifier (codes "a") []
+    ∷ [])
+    ∷ [])
+    ∷ node role.Body kind.BlockStatement []
+    (node role.Body kind.VariableDeclaration (codes "var")
+    (node role.Declarators kind.VariableDeclarator []
+    (node role.Id kind.BindingIdentifier (codes "a") []
+    ∷ [])
+    ∷ [])
+    ∷ [])
+    ∷ [])
+    ∷ node role.Body kind.BlockStatement []
+    (node role.Body kind.VariableDeclaration (codes "let")
+    (node role.Declarators kind.VariableDeclarator []
+    (node role.Id kind.BindingIdentifier (codes "a") []
+    ∷ [])
+    ∷ [])
+    ∷ node role.Body kind.BlockStatement []
+    (node role.Body kind.VariableDeclaration (codes "var")
+    (node role.Declarators kind.VariableDeclarator []
+    (node role.Id kind.BindingIdentifier (codes "a") []
+    ∷ [])
+    ∷ [])
+    ∷ [])
+    ∷ [])
+    ∷ node role.Body kind.ExpressionStatement []
+    (node role.Expression kind.IdentifierReference (codes "a") []
+    ∷ [])
+    ∷ [])

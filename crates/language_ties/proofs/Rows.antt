@@ -1,11 +1,14 @@
 -- What the names of small programs mean, and where the tables say something else, by computation.
 use lib.Utf8.{encode}
 use Rattle.std.specs.Str.{chars}
-use Rattle.std.proofs.Common.{◌≡◌, [], ◌∷◌, codes, refl}
+use Rattle.std.proofs.Common.{◌≡◌, [], ◌∷◌, codes, true, refl}
+use Rattle.tangle_model.specs.Tangled.{tangle_reasons}
+use Rattle.tangle_model.specs.declared.reason.Reason.TheVariants.{BlockFunction, CatchVariable, With}
 use Rattle.language_ties.specs.Agreement.{differing}
+use Rattle.language_ties.specs.EarlyErrors.{has_clash}
 use Rattle.language_ties.specs.Meaning.{meanings, unbound, of_object, bound}
 use Rattle.language_ties.specs.declared.environment_kind.EnvironmentKind.TheVariants.{ArrowParameters, Block, Body, Catch, Class, Global, IfBody, Loop, Object, OwnName, Parameters, StaticBlock}
-use Rattle.language_ties.proofs.Programs.{one_block, barred_block, strict_block, header_and_var, parameter_and_var, own_name, own_name_and_var, classes, loops, cases, catches, arrows, in_module, if_body, labelled, special_blocks, reads_arguments, two_blocks, own_name_and_catch, own_name_and_block, catch_and_block, let_and_if, if_and_parameter, catch_and_var, in_with, block_and_var}
+use Rattle.language_ties.proofs.Programs.{one_block, barred_block, strict_block, header_and_var, parameter_and_var, own_name, own_name_and_var, classes, loops, cases, catches, arrows, in_module, if_body, labelled, special_blocks, reads_arguments, two_blocks, own_name_and_catch, own_name_and_block, catch_and_block, let_and_if, if_and_parameter, catch_and_var, in_with, block_and_var, clash}
 
 -- a function in a block: its block binds it, and the script its variable
 one_block_meant : meanings one_block ≡ record { node = 7; meaning = bound (record { kind = Block; maker = 1 }) (3 ∷ []) } ∷ record { node = 9; meaning = bound (record { kind = Global; maker = 0 }) (3 ∷ []) } ∷ []
@@ -217,6 +220,10 @@ two_blocks_meant : meanings two_blocks ≡ record { node = 12; meaning = bound (
 unfolding encode chars
 two_blocks_meant = refl
 
+two_blocks_f_tangled : tangle_reasons two_blocks (codes "f") ≡ BlockFunction ∷ []
+unfolding encode chars
+two_blocks_f_tangled = refl
+
 two_blocks_f_differs : differing two_blocks (codes "f") ≡ 12 ∷ []
 unfolding encode chars
 two_blocks_f_differs = refl
@@ -225,6 +232,10 @@ two_blocks_f_differs = refl
 own_name_and_catch_meant : meanings own_name_and_catch ≡ record { node = 8; meaning = bound (record { kind = Parameters; maker = 3 }) (17 ∷ []) } ∷ []
 unfolding encode chars
 own_name_and_catch_meant = refl
+
+own_name_and_catch_f_tangled : tangle_reasons own_name_and_catch (codes "f") ≡ CatchVariable ∷ []
+unfolding encode chars
+own_name_and_catch_f_tangled = refl
 
 own_name_and_catch_f_differs : differing own_name_and_catch (codes "f") ≡ 8 ∷ []
 unfolding encode chars
@@ -235,6 +246,10 @@ own_name_and_block_meant : meanings own_name_and_block ≡ record { node = 8; me
 unfolding encode chars
 own_name_and_block_meant = refl
 
+own_name_and_block_f_tangled : tangle_reasons own_name_and_block (codes "f") ≡ BlockFunction ∷ []
+unfolding encode chars
+own_name_and_block_f_tangled = refl
+
 own_name_and_block_f_differs : differing own_name_and_block (codes "f") ≡ 8 ∷ []
 unfolding encode chars
 own_name_and_block_f_differs = refl
@@ -243,6 +258,10 @@ own_name_and_block_f_differs = refl
 catch_and_block_meant : meanings catch_and_block ≡ record { node = 13; meaning = bound (record { kind = Block; maker = 7 }) (9 ∷ []) } ∷ []
 unfolding encode chars
 catch_and_block_meant = refl
+
+catch_and_block_a_tangled : tangle_reasons catch_and_block (codes "a") ≡ BlockFunction ∷ []
+unfolding encode chars
+catch_and_block_a_tangled = refl
 
 catch_and_block_a_differs : differing catch_and_block (codes "a") ≡ 13 ∷ []
 unfolding encode chars
@@ -253,6 +272,10 @@ let_and_if_meant : meanings let_and_if ≡ record { node = 12; meaning = bound (
 unfolding encode chars
 let_and_if_meant = refl
 
+let_and_if_b_tangled : tangle_reasons let_and_if (codes "b") ≡ BlockFunction ∷ []
+unfolding encode chars
+let_and_if_b_tangled = refl
+
 let_and_if_b_differs : differing let_and_if (codes "b") ≡ 12 ∷ []
 unfolding encode chars
 let_and_if_b_differs = refl
@@ -261,6 +284,10 @@ let_and_if_b_differs = refl
 if_and_parameter_meant : meanings if_and_parameter ≡ record { node = 15; meaning = bound (record { kind = Parameters; maker = 1 }) (5 ∷ []) } ∷ record { node = 17; meaning = bound (record { kind = Parameters; maker = 1 }) (5 ∷ []) } ∷ []
 unfolding encode chars
 if_and_parameter_meant = refl
+
+if_and_parameter_a_tangled : tangle_reasons if_and_parameter (codes "a") ≡ BlockFunction ∷ []
+unfolding encode chars
+if_and_parameter_a_tangled = refl
 
 if_and_parameter_a_differs : differing if_and_parameter (codes "a") ≡ 15 ∷ []
 unfolding encode chars
@@ -280,6 +307,10 @@ in_with_meant : meanings in_with ≡ record { node = 5; meaning = bound (record 
 unfolding encode chars
 in_with_meant = refl
 
+in_with_a_tangled : tangle_reasons in_with (codes "a") ≡ With ∷ []
+unfolding encode chars
+in_with_a_tangled = refl
+
 in_with_a_differs : differing in_with (codes "a") ≡ 8 ∷ []
 unfolding encode chars
 in_with_a_differs = refl
@@ -289,6 +320,23 @@ block_and_var_meant : meanings block_and_var ≡ record { node = 10; meaning = b
 unfolding encode chars
 block_and_var_meant = refl
 
+block_and_var_a_tangled : tangle_reasons block_and_var (codes "a") ≡ BlockFunction ∷ []
+unfolding encode chars
+block_and_var_a_tangled = refl
+
 block_and_var_a_differs : differing block_and_var (codes "a") ≡ 12 ∷ []
 unfolding encode chars
 block_and_var_a_differs = refl
+
+-- a `var` that passes a `let` of its name, which is an early error
+clash_meant : meanings clash ≡ record { node = 18; meaning = bound (record { kind = Global; maker = 0 }) (8 ∷ 16 ∷ []) } ∷ []
+unfolding encode chars
+clash_meant = refl
+
+clash_clashes : has_clash clash (codes "a") ≡ true
+unfolding encode chars
+clash_clashes = refl
+
+clash_a_differs : differing clash (codes "a") ≡ 18 ∷ []
+unfolding encode chars
+clash_a_differs = refl

@@ -1,8 +1,8 @@
--- The cases of a `switch` are its children in the role of cases.
-use Rattle.std.proofs.Common.{◌≡◌, ℕ, List, [], ◌∷◌, ◌++◌, Bool, true, false, ◌&&◌, cond, refl, sym, subst, inl, inr}
+-- The cases of a `switch` are its children in the role of cases, and no rest element stands directly in a list of parameters.
+use Rattle.std.proofs.Common.{◌≡◌, ℕ, List, [], ◌∷◌, ◌++◌, Bool, true, false, ◌&&◌, cond, not, refl, sym, ap, subst, ◌∙◌, inl, inr}
 use Rattle.std.specs.List.{list_all}
-use Rattle.std.proofs.lemmas.Bool.{cases_Bool, and_from}
-use Rattle.semantic_syntax.proofs.Truth.{and_first, and_second}
+use Rattle.std.proofs.lemmas.Bool.{cases_Bool, and_from, not-true}
+use Rattle.semantic_syntax.proofs.Truth.{and_first, and_second, and_false}
 use Rattle.semantic_kinds.specs.Classes.{is_of}
 use Rattle.semantic_kinds.specs.Kinds.{same_kind}
 use Rattle.semantic_kinds.specs.Parts.{parts}
@@ -19,6 +19,8 @@ use Rattle.semantic_tree.specs.Nodes.{trees}
 use Rattle.semantic_tree.specs.Place.{child_place, placed_below, root_place}
 use Rattle.semantic_tree.specs.Rules.{is_well_formed}
 use Rattle.semantic_tree.specs.Tree.{Tree}
+use Rattle.semantic_tree.specs.Views.{is}
+use Rattle.semantic_model.specs.Place.{parent_holds}
 use Rattle.semantic_tree.specs.declared.node.Node.{Node}
 use Rattle.semantic_tree.specs.declared.place.Place.{Place}
 use Rattle.std.specs.Prelude.{None}
@@ -26,9 +28,12 @@ use Rattle.semantic_model.proofs.form.Clauses.{kind_is}
 use Rattle.semantic_model.proofs.form.PartsHold.{HoldParts, fit_holds}
 use Rattle.semantic_model.proofs.form.Shape.{NoneMisshapen, first_formed, rest_formed, table_kept, fit_kept, none_misshapen}
 
--- a child of a `switch` is a case exactly in that role
+-- a child of a `switch` is a case exactly in that role, one of a list of parameters is no rest element
 abbrev pub is_case_by_role : AstType → Role → AstType → Bool
-is_case_by_role k r k2 = cond (same_kind k kind.SwitchStatement) (cond (same_role r role.Cases) (same_kind k2 kind.SwitchCase) (cond (same_kind k2 kind.SwitchCase) false true)) true
+is_case_by_role k r k2 =
+    cond (same_kind k kind.SwitchStatement)
+    (cond (same_role r role.Cases) (same_kind k2 kind.SwitchCase) (cond (same_kind k2 kind.SwitchCase) false true))
+    (cond (same_kind k kind.FormalParameters) (not (same_kind k2 kind.BindingRestElement)) true)
 
 abbrev test : AstType → Role → AstType → List ℕ → Bool
 test k r k2 text = is_case_by_role k r k2
@@ -42,18 +47,29 @@ no_case k2 text h = elim (cases_Bool (same_kind k2 kind.SwitchCase)) [
 switch_parts : HoldParts test kind.SwitchStatement (parts kind.SwitchStatement)
 switch_parts = (λ k2 text h. no_case k2 text h, (λ k2 text h. h, tt))
 
+other_kind : (k2 k : AstType) → same_kind k2 k ≡ true → same_kind k kind.BindingRestElement ≡ false → not (same_kind k2 kind.BindingRestElement) ≡ true
+other_kind k2 k h e = subst (λ q. not (same_kind q kind.BindingRestElement) ≡ true) (sym (kind_is k2 k h)) (ap not e)
+
+parameter_parts : HoldParts test kind.FormalParameters (parts kind.FormalParameters)
+parameter_parts = (λ k2 text h. other_kind k2 kind.FormalParameter h refl, (λ k2 text h. other_kind k2 kind.FormalParameterRest h refl, tt))
+
 abbrev pub all_cases : AstType → List (Role × Node) → Bool
 all_cases k cs = list_all (λ c. is_case_by_role k c.0 c.1.kind) cs
 
-all_others : (k : AstType) (cs : List (Role × Node)) → same_kind k kind.SwitchStatement ≡ false → all_cases k cs ≡ true
-all_others k [] e = refl
-all_others k (c ∷ cs) e = and_from (is_case_by_role k c.0 c.1.kind) (all_cases k cs) (rw e refl) (all_others k cs e)
+all_others : (k : AstType) (cs : List (Role × Node)) → same_kind k kind.SwitchStatement ≡ false → same_kind k kind.FormalParameters ≡ false → all_cases k cs ≡ true
+all_others k [] e f = refl
+all_others k (c ∷ cs) e f = and_from (is_case_by_role k c.0 c.1.kind) (all_cases k cs) (rw (e, f) refl) (all_others k cs e f)
+
+by_parts : (k q : AstType) (f : Forest) → HoldParts test q (parts q) → same_kind k q ≡ true → fit (parts k) (trees f) ≡ true → all_cases k (trees f) ≡ true
+by_parts k q f all e h = subst (λ x. all_cases x (trees f) ≡ true) (sym (kind_is k q e)) (fit_holds test q (parts q) (trees f) all (subst (λ x. fit (parts x) (trees f) ≡ true) (kind_is k q e) h))
 
 table_cases : (k : AstType) (f : Forest) → fit (parts k) (trees f) ≡ true → all_cases k (trees f) ≡ true
 table_cases k f h = elim (cases_Bool (same_kind k kind.SwitchStatement)) [
-  | inl e ↦ subst (λ q. all_cases q (trees f) ≡ true) (sym (kind_is k kind.SwitchStatement e))
-    (fit_holds test kind.SwitchStatement (parts kind.SwitchStatement) (trees f) switch_parts (subst (λ q. fit (parts q) (trees f) ≡ true) (kind_is k kind.SwitchStatement e) h))
-  | inr e ↦ all_others k (trees f) e
+  | inl e ↦ by_parts k kind.SwitchStatement f switch_parts e h
+  | inr e ↦ elim (cases_Bool (same_kind k kind.FormalParameters)) [
+    | inl g ↦ by_parts k kind.FormalParameters f parameter_parts g h
+    | inr g ↦ all_others k (trees f) e g
+  ]
 ]
 
 -- of all nodes of a forest below a node of the kind
@@ -77,3 +93,15 @@ pub program_cases : (p : Tree) → first_fault p ≡ None → cases_stand p.root
 program_cases p h =
     let q : (is_well_formed root_place p.root ≡ true) × NoneMisshapen (placed_below root_place p.root.kind p.root.children) = first_formed (root_place, p.root) (placed_below root_place p.root.kind p.root.children) (none_misshapen p h) in
     forest_cases root_place p.root.kind p.root.children (table_cases p.root.kind p.root.children (fit_kept p.root (table_kept root_place p.root q.0))) q.1
+
+-- a rest element directly in a list of parameters
+abbrev pub is_bare_rest : Node → List Node → Bool
+is_bare_rest x path = is kind.BindingRestElement x && parent_holds (is kind.FormalParameters) path
+
+-- there is none
+pub none_bare : (k : AstType) (r : Role) (k2 : AstType) → is_case_by_role k r k2 ≡ true → (same_kind k2 kind.BindingRestElement && same_kind k kind.FormalParameters) ≡ false
+none_bare k r k2 h = elim (cases_Bool (same_kind k kind.FormalParameters)) [
+  | inl e ↦ (let q : not (same_kind k2 kind.BindingRestElement) ≡ true = subst (λ x. is_case_by_role x r k2 ≡ true) (kind_is k kind.FormalParameters e) h in
+      ap (λ b. b && same_kind k kind.FormalParameters) (not-true (same_kind k2 kind.BindingRestElement) q))
+  | inr e ↦ ap (λ b. same_kind k2 kind.BindingRestElement && b) e ∙ and_false (same_kind k2 kind.BindingRestElement)
+]

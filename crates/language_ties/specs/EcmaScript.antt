@@ -6,7 +6,6 @@ use Rattle.semantic_kinds.specs.MarkSets.{has_mark}
 use Rattle.semantic_kinds.specs.Roles.{same_role}
 use Rattle.semantic_kinds.specs.declared.kind.AstType.{AstType}
 use Rattle.semantic_kinds.specs.declared.kind.AstType.TheVariants as kind
-use Rattle.semantic_kinds.specs.declared.mark.Mark.{Mark}
 use Rattle.semantic_kinds.specs.declared.mark.Mark.TheVariants as mark
 use Rattle.semantic_kinds.specs.declared.marks.Marks.{Marks}
 use Rattle.semantic_kinds.specs.declared.role.Role.TheVariants as role

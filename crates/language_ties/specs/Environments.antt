@@ -76,7 +76,7 @@ environments child [] = []
 environments child (x ∷ path) = made_by x.kind x child ++ environments x path
 
 abbrev pub no_environment : Environment
-no_environment = record { kind = environment.Global; maker = 0 }
+no_environment = record { kind = environment.Block; maker = 0 }
 
 abbrev pub innermost : List Environment → Environment
 innermost [] = no_environment

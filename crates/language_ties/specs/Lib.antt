@@ -6,3 +6,5 @@ pub mod EarlyErrors
 pub mod Agreement
 pub mod EcmaScript
 pub mod Scopes
+pub mod ToldNames
+pub mod UnboundNames

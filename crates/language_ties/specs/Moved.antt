@@ -1,5 +1,5 @@
 -- Which functions in blocks have a variable in the function around them (ECMA-262, B.3.2).
-use Rattle.std.specs.Prelude.{ℕ, ◌==◌, List, [], ◌∷◌, ◌++◌, Bool, ◌&&◌, ◌||◌, not, cond, map, bytes_eq}
+use Rattle.std.specs.Prelude.{◌==◌, List, [], ◌∷◌, ◌++◌, Bool, ◌&&◌, ◌||◌, not, cond, map, bytes_eq}
 use Rattle.std.specs.List.{list_any}
 use Rattle.semantic_tree.specs.Tree.{Tree}
 use Rattle.semantic_model.specs.Step.{steps}
