@@ -4,6 +4,7 @@
 
 const { differing } = require('./agreement');
 const { program } = require('./generate');
+const headers = require('./headers');
 const { meanings, clashes } = require('./language');
 const { told, toldAgain } = require('./run');
 const { tablesOf, tangledByProgram } = require('./tables');
@@ -42,7 +43,7 @@ function falsely(tables) {
 
 const sum = { programs: 0, run: 0, references: 0, unlike: 0, wrong: 0 };
 for (let at = seed; sum.programs < many; at += 1) {
-  const source = program(at);
+  const source = at % 2 === 0 ? program(at) : headers.program(at);
   const tables = tablesOrNothing(source);
   if (tables === null) continue;
   sum.programs += 1;

@@ -45,10 +45,11 @@ use Rattle.language_ties.specs.EcmaScript.{is_ecmascript_kind, is_ecmascript}
 use Rattle.language_ties.specs.Environments.{Environment, same_environment, environments, innermost, passed, variable_environment}
 use Rattle.language_ties.specs.Meaning.{is_bound_in, identifiers_in}
 use Rattle.language_ties.specs.Moved.{moved as moved_by, unless_barred, bound_of}
+use Rattle.language_ties.specs.ToldNames.{Named, named_by_declaration, named_by_bound, NamesAsBound, NamesAreBound}
 use Rattle.language_ties.specs.UnboundNames.{binds_name, IsFreeEverywhere}
 use Rattle.language_ties.specs.declared.bound_as.BoundAs.TheVariants as bound
 use Rattle.language_ties.specs.declared.environment_kind.EnvironmentKind.TheVariants as environment
-use Rattle.language_ties.proofs.EnvironmentsRound.{IsKnown, KnownAt, known_program}
+use Rattle.language_ties.proofs.EnvironmentsRound.{IsKnown, KnownAt, each_map, known_program}
 use Rattle.language_ties.proofs.SwitchShape.{is_bare_rest}
 
 -- ---- the names of a node
@@ -59,39 +60,42 @@ name_of_declaration d = d.naming.name
 abbrev name_of_bound : Bound → Name
 name_of_bound b = b.name
 
-same_names : (f : Node → Declaration) (g : Node → Bound) (names : List Node) → ((id : Node) → (f id).naming.name ≡ (g id).name) → map name_of_declaration (map f names) ≡ map name_of_bound (map g names)
+same_names : (f : Node → Declaration) (g : Node → Bound) (names : List Node) → ((id : Node) → named_by_declaration (f id) ≡ named_by_bound (g id)) → map named_by_declaration (map f names) ≡ map named_by_bound (map g names)
 same_names f g [] h = refl
 same_names f g (x ∷ xs) h = λ i. h x i ∷ same_names f g xs h i
 
-same_names_last : (f : Node → Declaration) (g : Node → Bound) (names : List Node) → ((id : Node) → (f id).naming.name ≡ (g id).name) → map name_of_declaration (map f names ++ []) ≡ map name_of_bound (map g names)
-same_names_last f g names h = ap (map name_of_declaration) (append-nil (map f names)) ∙ same_names f g names h
+same_names_last : (f : Node → Declaration) (g : Node → Bound) (names : List Node) → ((id : Node) → named_by_declaration (f id) ≡ named_by_bound (g id)) → map named_by_declaration (map f names ++ []) ≡ map named_by_bound (map g names)
+same_names_last f g names h = ap (map named_by_declaration) (append-nil (map f names)) ∙ same_names f g names h
 
-either_name : (b : Bool) (f g : Node → Bound) (id : Node) → (f id).name ≡ id.text → (g id).name ≡ id.text → id.text ≡ (cond b f g id).name
+abbrev named : Node → Named
+named id = record { identifier = id.node_id; name = id.text }
+
+either_name : (b : Bool) (f g : Node → Bound) (id : Node) → named_by_bound (f id) ≡ named id → named_by_bound (g id) ≡ named id → named id ≡ named_by_bound (cond b f g id)
 either_name true f g id h k = sym h
 either_name false f g id h k = sym k
 
-either_bound : (b : Bool) (x y : Bound) (n : Name) → x.name ≡ n → y.name ≡ n → n ≡ (cond b x y).name
+either_bound : (b : Bool) (x y : Bound) (n : Named) → named_by_bound x ≡ n → named_by_bound y ≡ n → n ≡ named_by_bound (cond b x y)
 either_bound true x y n h k = sym h
 either_bound false x y n h k = sym k
 
 module _ (s : SourceType) (p : Place) (own : OpenScope) where
-  variable_names : (path : List Node) → map name_of_declaration (variables_under path p) ≡ map name_of_bound (bound_by_declarator p.node path)
+  variable_names : (path : List Node) → map named_by_declaration (variables_under path p) ≡ map named_by_bound (bound_by_declarator p.node path)
   variable_names [] = refl
   variable_names (declaration ∷ path) =
       let es : List Environment = environments p.node (declaration ∷ path) in
       let b : Bool = is_with_text kind.VariableDeclaration (codes "var") declaration in
       same_names (declare p.node (variable_row declaration p.chain) (is_pure_declarator p.node)) (cond b (bound_outward es) (bound_here bound.Lexical es)) (bound_names p.node) (λ id. either_name b (bound_outward es) (bound_here bound.Lexical es) id refl refl)
 
-  parameter_names : (path : List Node) → (path ≡ [] → ⊥) → map name_of_declaration (parameters_under path p) ≡ map name_of_bound (map (bound_here bound.Parameter (environments p.node p.path)) (bound_names p.node))
+  parameter_names : (path : List Node) → (path ≡ [] → ⊥) → map named_by_declaration (parameters_under path p) ≡ map named_by_bound (map (bound_here bound.Parameter (environments p.node p.path)) (bound_names p.node))
   parameter_names [] e = absurd (e refl)
   parameter_names (list ∷ path) e = same_names (declare p.node (record { flags = symbol.FunctionScopedVariable.bits; excluded = parameter_excluded list p.chain; how = plain; route = here p.chain }) false) (bound_here bound.Parameter (environments p.node p.path)) (bound_names p.node) (λ id. refl)
 
-  catch_clause_names : (patterns : List Node) → map name_of_declaration (flat_map (catch_names p) patterns) ≡ map name_of_bound (flat_map (bound_by_catch (environments p.node p.path)) patterns)
+  catch_clause_names : (patterns : List Node) → map named_by_declaration (flat_map (catch_names p) patterns) ≡ map named_by_bound (flat_map (bound_by_catch (environments p.node p.path)) patterns)
   catch_clause_names [] = refl
   catch_clause_names (x ∷ xs) =
-      map-append name_of_declaration (catch_names p x) (flat_map (catch_names p) xs)
+      map-append named_by_declaration (catch_names p x) (flat_map (catch_names p) xs)
       ∙ (λ i. go (is kind.BindingIdentifier x) i ++ catch_clause_names xs i)
-      ∙ sym (map-append name_of_bound (bound_by_catch (environments p.node p.path) x) (flat_map (bound_by_catch (environments p.node p.path)) xs))
+      ∙ sym (map-append named_by_bound (bound_by_catch (environments p.node p.path) x) (flat_map (bound_by_catch (environments p.node p.path)) xs))
     where
       row : Row
       row = record { flags = union symbol.FunctionScopedVariable.bits symbol.CatchVariable.bits; excluded = 0; how = caught; route = here p.chain }
@@ -99,35 +103,35 @@ module _ (s : SourceType) (p : Place) (own : OpenScope) where
       lexical : Row
       lexical = record { flags = union symbol.BlockScopedVariable.bits symbol.CatchVariable.bits; excluded = symbol.BlockScopedVariableExcludes.bits; how = plain; route = here p.chain }
 
-      go : (b : Bool) → map name_of_declaration (if b then declare p.node row false x ∷ [] else map (declare p.node lexical false) (cond b (x ∷ []) (bound_below x.kind x.children)))
-          ≡ map name_of_bound (map (bound_here (cond b bound.CatchName bound.Lexical) (environments p.node p.path)) (cond b (x ∷ []) (bound_below x.kind x.children)))
+      go : (b : Bool) → map named_by_declaration (if b then declare p.node row false x ∷ [] else map (declare p.node lexical false) (cond b (x ∷ []) (bound_below x.kind x.children)))
+          ≡ map named_by_bound (map (bound_here (cond b bound.CatchName bound.Lexical) (environments p.node p.path)) (cond b (x ∷ []) (bound_below x.kind x.children)))
       go true = refl
       go false = same_names (declare p.node lexical false) (bound_here bound.Lexical (environments p.node p.path)) (bound_below x.kind x.children) (λ id. refl)
 
-  function_names : map name_of_declaration (declared_inside kind.Function p own ++ declared_by kind.Function p) ≡ map name_of_bound (bound_by kind.Function s p.node p.path)
+  function_names : map named_by_declaration (declared_inside kind.Function p own ++ declared_by kind.Function p) ≡ map named_by_bound (bound_by kind.Function s p.node p.path)
   function_names = go (is_statement p.node)
     where
       es : List Environment
       es = environments p.node p.path
 
-      go : (b : Bool) → map name_of_declaration (cond b [] (map (declare p.node (own_function_row p own) (has mark.Pure p.node)) (ids p.node)) ++ cond b (map (declare p.node (function_row p) (has mark.Pure p.node)) (ids p.node)) [])
-          ≡ map name_of_bound (map (cond b (bound_by_declaration s p.node p.path) (bound_in bound.OwnName (record { kind = environment.OwnName; maker = p.node.node_id }) [] [])) (ids p.node))
+      go : (b : Bool) → map named_by_declaration (cond b [] (map (declare p.node (own_function_row p own) (has mark.Pure p.node)) (ids p.node)) ++ cond b (map (declare p.node (function_row p) (has mark.Pure p.node)) (ids p.node)) [])
+          ≡ map named_by_bound (map (cond b (bound_by_declaration s p.node p.path) (bound_in bound.OwnName (record { kind = environment.OwnName; maker = p.node.node_id }) [] [])) (ids p.node))
       go true = same_names (declare p.node (function_row p) (has mark.Pure p.node)) (bound_by_declaration s p.node p.path) (ids p.node)
-          (λ id. either_bound (language.is_block_function s p.node p.path) (bound_in bound.Function (innermost es) (variable_environment es ∷ []) (passed es) id) (bound_here bound.Function es id) id.text refl refl)
+          (λ id. either_bound (language.is_block_function s p.node p.path) (bound_in bound.Function (innermost es) (variable_environment es ∷ []) (passed es) id) (bound_here bound.Function es id) (named id) refl refl)
       go false = same_names_last (declare p.node (own_function_row p own) (has mark.Pure p.node)) (bound_in bound.OwnName (record { kind = environment.OwnName; maker = p.node.node_id }) [] []) (ids p.node) (λ id. refl)
 
-  class_names : map name_of_declaration (declared_inside kind.Class p own ++ declared_by kind.Class p) ≡ map name_of_bound (bound_by kind.Class s p.node p.path)
+  class_names : map named_by_declaration (declared_inside kind.Class p own ++ declared_by kind.Class p) ≡ map named_by_bound (bound_by kind.Class s p.node p.path)
   class_names = go (is_statement p.node)
     where
-      go : (b : Bool) → map name_of_declaration (cond b [] (map (declare p.node (class_row p (own ∷ [])) false) (ids p.node)) ++ cond b (map (declare p.node (class_row p p.chain) false) (ids p.node)) [])
-          ≡ map name_of_bound (map (cond b (bound_in bound.Lexical (innermost (environments p.node p.path)) (record { kind = environment.Class; maker = p.node.node_id } ∷ []) []) (bound_in bound.OwnName (record { kind = environment.Class; maker = p.node.node_id }) [] [])) (ids p.node))
+      go : (b : Bool) → map named_by_declaration (cond b [] (map (declare p.node (class_row p (own ∷ [])) false) (ids p.node)) ++ cond b (map (declare p.node (class_row p p.chain) false) (ids p.node)) [])
+          ≡ map named_by_bound (map (cond b (bound_in bound.Lexical (innermost (environments p.node p.path)) (record { kind = environment.Class; maker = p.node.node_id } ∷ []) []) (bound_in bound.OwnName (record { kind = environment.Class; maker = p.node.node_id }) [] [])) (ids p.node))
       go true = same_names (declare p.node (class_row p p.chain) false) (bound_in bound.Lexical (innermost (environments p.node p.path)) (record { kind = environment.Class; maker = p.node.node_id } ∷ []) []) (ids p.node) (λ id. refl)
       go false = same_names_last (declare p.node (class_row p (own ∷ [])) false) (bound_in bound.OwnName (record { kind = environment.Class; maker = p.node.node_id }) [] []) (ids p.node) (λ id. refl)
 
-  import_names : map name_of_declaration (declared_by kind.ImportSpecifier p) ≡ map name_of_bound (bound_by kind.ImportSpecifier s p.node p.path)
+  import_names : map named_by_declaration (declared_by kind.ImportSpecifier p) ≡ map named_by_bound (bound_by kind.ImportSpecifier s p.node p.path)
   import_names = same_names (declare p.node (record { flags = import_flags p; excluded = symbol.ImportBindingExcludes.bits; how = plain; route = here p.chain }) false) (bound_here bound.Lexical (environments p.node p.path)) (names_at role.Local p.node) (λ id. refl)
 
-  no_rest : (b : Bool) (ds : List Declaration) → b ≡ false → map name_of_declaration (cond b ds []) ≡ []
+  no_rest : (b : Bool) (ds : List Declaration) → b ≡ false → map named_by_declaration (cond b ds []) ≡ []
   no_rest true ds e = absurd cc
   no_rest false ds e = refl
 
@@ -135,7 +139,7 @@ module _ (s : SourceType) (p : Place) (own : OpenScope) where
   not_root k e n h q = n (sym e ∙ h q)
 
   names_by : (k : AstType) → p.node.kind ≡ k → is_ecmascript_kind k ≡ true → is_bare_rest p.node p.path ≡ false → (p.path ≡ [] → p.node.kind ≡ kind.Program)
-      → map name_of_declaration (declared_inside k p own ++ declared_by k p) ≡ map name_of_bound (bound_by k s p.node p.path)
+      → map named_by_declaration (declared_inside k p own ++ declared_by k p) ≡ map named_by_bound (bound_by k s p.node p.path)
   names_by kind.VariableDeclarator k j r u = variable_names p.path
   names_by kind.Function k j r u = function_names
   names_by kind.Class k j r u = class_names
@@ -157,12 +161,12 @@ module _ (s : SourceType) (p : Place) (own : OpenScope) where
   names_by _ k j r u = refl
 
 -- a declaration of the list has a namesake in the other
-among_names : (ds : List Declaration) (bs : List Bound) → map name_of_declaration ds ≡ map name_of_bound bs → (d : Declaration) → Among d ds → (b : Bound) × Among b bs × (b.name ≡ d.naming.name)
+among_names : (ds : List Declaration) (bs : List Bound) → map named_by_declaration ds ≡ map named_by_bound bs → (d : Declaration) → Among d ds → (b : Bound) × Among b bs × (b.name ≡ d.naming.name)
 among_names [] bs h d a = absurd a
 among_names (x ∷ ds) [] h d a = absurd cc
-among_names (x ∷ ds) (y ∷ bs) h d (inl e) = let q : x.naming.name ≡ y.name = cc in (y, inl refl, sym q ∙ ap name_of_declaration e)
+among_names (x ∷ ds) (y ∷ bs) h d (inl e) = let q : named_by_declaration x ≡ named_by_bound y = cc in (y, inl refl, sym (ap (λ n. n.name) q) ∙ ap name_of_declaration e)
 among_names (x ∷ ds) (y ∷ bs) h d (inr a) =
-    let q : map name_of_declaration ds ≡ map name_of_bound bs = cc in
+    let q : map named_by_declaration ds ≡ map named_by_bound bs = cc in
     let (b, c, e) = among_names ds bs q d a in (b, inr c, e)
 
 -- ---- the steps
@@ -326,3 +330,15 @@ unbound_is_free p x h e b n r t i j q = go t.symbol_id refl
         let named : IsNamed (tables_of p) y r.name = ties_have_names p (has_form p h) n y r t i j k in
         let d : DeclaredAs (node_tables (steps p)).symbols (declarations (events (steps p))) y named.symbol.name = (nothing_invented p (has_form p h)).symbols y named.symbol named.is_there in
         absurd (of_program p.source_type x p undeclared d.declaration d.among (d.named ∙ named.named ∙ q))
+
+-- ---- all names
+
+named_at : (s : SourceType) (st : Step) → KnownAt st → NamesAsBound s st
+named_at s (entering p) k = names_by s p (opened_scope p 0) p.node.kind refl k.ecmascript k.whole k.rooted
+named_at s (opening p o) k = tt
+named_at s (header_ending p o) k = tt
+named_at s (closing p o) k = tt
+named_at s (leaving p) k = tt
+
+pub names_are_bound : (p : Tree) → first_fault p ≡ None → is_ecmascript p ≡ true → NamesAreBound p
+names_are_bound p h e = each_map KnownAt (NamesAsBound p.source_type) (named_at p.source_type) (steps p) (known_program p h e)

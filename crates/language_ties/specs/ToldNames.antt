@@ -48,3 +48,27 @@ Declares s (leaving p) = Unit {0}
 -- at each node of the program
 abbrev pub DeclarationsAreBound : Tree → Type 0
 DeclarationsAreBound p = EachStep (Declares p.source_type) (steps p)
+
+-- a name and its identifier alone
+pub record Named : Type 0 where
+  pub identifier : ℕ
+  pub name : Name
+
+abbrev pub named_by_declaration : Declaration → Named
+named_by_declaration d = record { identifier = d.naming.identifier; name = d.naming.name }
+
+abbrev pub named_by_bound : Bound → Named
+named_by_bound b = record { identifier = b.identifier; name = b.name }
+
+-- at a node that is entered
+abbrev pub NamesAsBound : SourceType → Step → Type 0
+NamesAsBound s (entering p) =
+    map named_by_declaration (declared_on_opening p (opened_scope p 0) ++ declared_on_entering p) ≡ map named_by_bound (bound_by p.node.kind s p.node p.path)
+NamesAsBound s (opening p o) = Unit {0}
+NamesAsBound s (header_ending p o) = Unit {0}
+NamesAsBound s (closing p o) = Unit {0}
+NamesAsBound s (leaving p) = Unit {0}
+
+-- at each node of the program, wherever it stands
+abbrev pub NamesAreBound : Tree → Type 0
+NamesAreBound p = EachStep (NamesAsBound p.source_type) (steps p)

@@ -3,7 +3,7 @@ ghost use Rattle.std.specs.Prelude.{◌≡◌, true, false, None, []};
 ghost use Rattle.semantic_syntax.specs.Tables.{Name};
 ghost use Rattle.semantic_tree.specs.Faults.{first_fault};
 ghost use Rattle.semantic_tree.specs.Tree.{Tree};
-ghost use Rattle.language_ties.specs.ToldNames.{DeclarationsAreBound};
+ghost use Rattle.language_ties.specs.ToldNames.{DeclarationsAreBound, NamesAreBound};
 ghost use Rattle.language_ties.specs.EcmaScript.{is_ecmascript};
 ghost use Rattle.language_ties.specs.Environments.{Environment};
 ghost use Rattle.language_ties.specs.Meaning.{identifiers_in};
@@ -23,6 +23,12 @@ pub fn scopes_are_environments()
 /// blocks, which may go further, are left out.
 pub fn declarations_are_bound()
     ensures { (p : Tree) → first_fault p ≡ None → is_ecmascript p ≡ true → DeclarationsAreBound p }
+{}
+
+/// Everywhere in such a program, in blocks and in `with` too, the names that the tables are told to declare are those that the
+/// language binds, each by its identifier.
+pub fn names_are_bound()
+    ensures { (p : Tree) → first_fault p ≡ None → is_ecmascript p ≡ true → NamesAreBound p }
 {}
 
 /// Tables and language agree on a name that no node of an ECMAScript program binds: no environment binds it by an identifier, and
