@@ -20,6 +20,7 @@ reason_name reason.With = codes "With"
 reason_name reason.Eval = codes "Eval"
 reason_name reason.FreeNamesake = codes "FreeNamesake"
 reason_name reason.MergedMember = codes "MergedMember"
+reason_name reason.NamespaceNamesake = codes "NamespaceNamesake"
 
 abbrev pub reason_text : Reason → List ℕ
 reason_text r = codes " " ++ reason_name r

@@ -26,6 +26,7 @@ fn reason_name(reason: Reason) -> &'static str
         Reason::Eval => "Eval",
         Reason::FreeNamesake => "FreeNamesake",
         Reason::MergedMember => "MergedMember",
+        Reason::NamespaceNamesake => "NamespaceNamesake",
     }
 }
 

@@ -552,3 +552,162 @@ merged_enums =
     ∷ [])
     ∷ [])
     ∷ [])
+
+-- `export {}; b.b; export namespace b.N { namespace a { export namespace b { type v1 = b.N[]; const a = 1; } a; } ({ N }); } export interface b {}`
+abbrev pub inner_namespace : Tree
+inner_namespace =
+    program goal.Module lang.Ts
+    (node role.Body kind.ExportNamedDeclaration [] []
+    ∷ node role.Body kind.ExpressionStatement []
+    (node role.Expression kind.StaticMemberExpression []
+    (node role.Object kind.IdentifierReference (codes "b") []
+    ∷ node role.Property kind.IdentifierName (codes "b") []
+    ∷ [])
+    ∷ [])
+    ∷ node role.Body kind.ExportDeclaration []
+    (node role.Declaration kind.TSNamespaceDeclaration []
+    (node role.Id kind.BindingIdentifier (codes "b") []
+    ∷ node role.Body kind.TSNamespaceDeclaration []
+    (node role.Id kind.BindingIdentifier (codes "N") []
+    ∷ node role.Body kind.TSModuleBlock []
+    (node role.Body kind.TSNamespaceDeclaration []
+    (node role.Id kind.BindingIdentifier (codes "a") []
+    ∷ node role.Body kind.TSModuleBlock []
+    (node role.Body kind.ExportDeclaration []
+    (node role.Declaration kind.TSNamespaceDeclaration []
+    (node role.Id kind.BindingIdentifier (codes "b") []
+    ∷ node role.Body kind.TSModuleBlock []
+    (node role.Body kind.TSTypeAliasDeclaration []
+    (node role.Id kind.BindingIdentifier (codes "v1") []
+    ∷ node role.ValueType kind.TSArrayType []
+    (node role.Element kind.TSTypeReference []
+    (node role.Name kind.TSQualifiedName []
+    (node role.Left kind.IdentifierReference (codes "b") []
+    ∷ node role.Right kind.IdentifierName (codes "N") []
+    ∷ [])
+    ∷ [])
+    ∷ [])
+    ∷ [])
+    ∷ node role.Body kind.VariableDeclaration (codes "const")
+    (node role.Declarators kind.VariableDeclarator []
+    (node role.Id kind.BindingIdentifier (codes "a") []
+    ∷ marked (mark.Decimal ∷ []) role.Init kind.NumericLiteral (codes "1") []
+    ∷ [])
+    ∷ [])
+    ∷ [])
+    ∷ [])
+    ∷ [])
+    ∷ node role.Body kind.ExpressionStatement []
+    (node role.Expression kind.IdentifierReference (codes "a") []
+    ∷ [])
+    ∷ [])
+    ∷ [])
+    ∷ node role.Body kind.ExpressionStatement []
+    (node role.Expression kind.ParenthesizedExpression []
+    (node role.Expression kind.ObjectExpression []
+    (marked (mark.Shorthand ∷ []) role.Properties kind.ObjectProperty (codes "init")
+    (node role.Key kind.IdentifierName (codes "N") []
+    ∷ node role.Value kind.IdentifierReference (codes "N") []
+    ∷ [])
+    ∷ [])
+    ∷ [])
+    ∷ [])
+    ∷ [])
+    ∷ [])
+    ∷ [])
+    ∷ [])
+    ∷ node role.Body kind.ExportDeclaration []
+    (node role.Declaration kind.TSInterfaceDeclaration []
+    (node role.Id kind.BindingIdentifier (codes "b") []
+    ∷ node role.Body kind.TSInterfaceBody [] []
+    ∷ [])
+    ∷ [])
+    ∷ [])
+
+-- `namespace M { namespace N {} } interface N {}`; in the language that is given
+abbrev pub namespace_in_another : Lang → Tree
+namespace_in_another l =
+    program goal.Script l
+    (node role.Body kind.TSNamespaceDeclaration []
+    (node role.Id kind.BindingIdentifier (codes "M") []
+    ∷ node role.Body kind.TSModuleBlock []
+    (node role.Body kind.TSNamespaceDeclaration []
+    (node role.Id kind.BindingIdentifier (codes "N") []
+    ∷ node role.Body kind.TSModuleBlock [] []
+    ∷ [])
+    ∷ [])
+    ∷ [])
+    ∷ node role.Body kind.TSInterfaceDeclaration []
+    (node role.Id kind.BindingIdentifier (codes "N") []
+    ∷ node role.Body kind.TSInterfaceBody [] []
+    ∷ [])
+    ∷ [])
+
+-- `namespace N { export let a = 1; } N.a;`
+abbrev pub lone_namespace : Tree
+lone_namespace =
+    program goal.Script lang.Ts
+    (node role.Body kind.TSNamespaceDeclaration []
+    (node role.Id kind.BindingIdentifier (codes "N") []
+    ∷ node role.Body kind.TSModuleBlock []
+    (node role.Body kind.ExportDeclaration []
+    (node role.Declaration kind.VariableDeclaration (codes "let")
+    (node role.Declarators kind.VariableDeclarator []
+    (node role.Id kind.BindingIdentifier (codes "a") []
+    ∷ marked (mark.Decimal ∷ []) role.Init kind.NumericLiteral (codes "1") []
+    ∷ [])
+    ∷ [])
+    ∷ [])
+    ∷ [])
+    ∷ [])
+    ∷ node role.Body kind.ExpressionStatement []
+    (node role.Expression kind.StaticMemberExpression []
+    (node role.Object kind.IdentifierReference (codes "N") []
+    ∷ node role.Property kind.IdentifierName (codes "a") []
+    ∷ [])
+    ∷ [])
+    ∷ [])
+
+-- `namespace M { import N = A.x; } interface N {}`
+abbrev pub inner_alias : Tree
+inner_alias =
+    program goal.Script lang.Ts
+    (node role.Body kind.TSNamespaceDeclaration []
+    (node role.Id kind.BindingIdentifier (codes "M") []
+    ∷ node role.Body kind.TSModuleBlock []
+    (node role.Body kind.TSImportEqualsDeclaration []
+    (node role.Id kind.BindingIdentifier (codes "N") []
+    ∷ node role.Reference kind.TSQualifiedName []
+    (node role.Left kind.IdentifierReference (codes "A") []
+    ∷ node role.Right kind.IdentifierName (codes "x") []
+    ∷ [])
+    ∷ [])
+    ∷ [])
+    ∷ [])
+    ∷ node role.Body kind.TSInterfaceDeclaration []
+    (node role.Id kind.BindingIdentifier (codes "N") []
+    ∷ node role.Body kind.TSInterfaceBody [] []
+    ∷ [])
+    ∷ [])
+
+-- `import N = A.x; namespace M { interface N {} }`
+abbrev pub outer_alias : Tree
+outer_alias =
+    program goal.Script lang.Ts
+    (node role.Body kind.TSImportEqualsDeclaration []
+    (node role.Id kind.BindingIdentifier (codes "N") []
+    ∷ node role.Reference kind.TSQualifiedName []
+    (node role.Left kind.IdentifierReference (codes "A") []
+    ∷ node role.Right kind.IdentifierName (codes "x") []
+    ∷ [])
+    ∷ [])
+    ∷ node role.Body kind.TSNamespaceDeclaration []
+    (node role.Id kind.BindingIdentifier (codes "M") []
+    ∷ node role.Body kind.TSModuleBlock []
+    (node role.Body kind.TSInterfaceDeclaration []
+    (node role.Id kind.BindingIdentifier (codes "N") []
+    ∷ node role.Body kind.TSInterfaceBody [] []
+    ∷ [])
+    ∷ [])
+    ∷ [])
+    ∷ [])

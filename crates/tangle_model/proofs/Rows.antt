@@ -2,9 +2,10 @@
 use lib.Utf8.{encode}
 use Rattle.std.specs.Str.{chars}
 use Rattle.std.proofs.Common.{◌≡◌, [], ◌∷◌, refl}
+use Rattle.semantic_syntax.specs.declared.source_type.Lang.TheVariants.{Js, Ts}
 use Rattle.tangle_model.specs.Tangled.{tangles}
-use Rattle.tangle_model.specs.declared.reason.Reason.TheVariants.{BlockFunction, CatchVariable, Arguments, With, Eval, FreeNamesake, MergedMember}
-use Rattle.tangle_model.proofs.Programs.{two_blocks, one_block, two_homes, strict_blocks, special_blocks, block_and_var, if_and_parameter, block_and_own_name, case_and_let, block_and_catch, top_functions, var_in_catch, var_beside_catch, var_arguments, reads_arguments, reference_in_with, var_in_with, with_eval, free_type, free_in_javascript, merged_namespaces, merged_enums}
+use Rattle.tangle_model.specs.declared.reason.Reason.TheVariants.{BlockFunction, CatchVariable, Arguments, With, Eval, FreeNamesake, MergedMember, NamespaceNamesake}
+use Rattle.tangle_model.proofs.Programs.{two_blocks, one_block, two_homes, strict_blocks, special_blocks, block_and_var, if_and_parameter, block_and_own_name, case_and_let, block_and_catch, top_functions, var_in_catch, var_beside_catch, var_arguments, reads_arguments, reference_in_with, var_in_with, with_eval, free_type, free_in_javascript, merged_namespaces, merged_enums, inner_namespace, namespace_in_another, lone_namespace, inner_alias, outer_alias}
 
 -- two block functions of one home
 row_two_blocks : tangles two_blocks ≡ record { symbol = 0; reasons = BlockFunction ∷ [] } ∷ []
@@ -115,3 +116,33 @@ row_merged_namespaces = refl
 row_merged_enums : tangles merged_enums ≡ record { symbol = 1; reasons = MergedMember ∷ [] } ∷ record { symbol = 2; reasons = MergedMember ∷ [] } ∷ []
 unfolding encode chars
 row_merged_enums = refl
+
+-- a namespace in others that have a type of the name around
+row_inner_namespace : tangles inner_namespace ≡ record { symbol = 0; reasons = NamespaceNamesake ∷ [] } ∷ record { symbol = 1; reasons = MergedMember ∷ [] } ∷ record { symbol = 2; reasons = MergedMember ∷ NamespaceNamesake ∷ [] } ∷ record { symbol = 4; reasons = MergedMember ∷ [] } ∷ []
+unfolding encode chars
+row_inner_namespace = refl
+
+-- a namespace and an interface
+row_namespace_and_interface : tangles (namespace_in_another Ts) ≡ record { symbol = 1; reasons = NamespaceNamesake ∷ [] } ∷ []
+unfolding encode chars
+row_namespace_and_interface = refl
+
+-- they are no reason in JavaScript
+row_namespace_in_javascript : tangles (namespace_in_another Js) ≡ []
+unfolding encode chars
+row_namespace_in_javascript = refl
+
+-- a namespace that shares its name with nothing
+row_lone_namespace : tangles lone_namespace ≡ []
+unfolding encode chars
+row_lone_namespace = refl
+
+-- an alias in a namespace
+row_inner_alias : tangles inner_alias ≡ record { symbol = 1; reasons = NamespaceNamesake ∷ [] } ∷ []
+unfolding encode chars
+row_inner_alias = refl
+
+-- one that stands in none
+row_outer_alias : tangles outer_alias ≡ []
+unfolding encode chars
+row_outer_alias = refl

@@ -1,5 +1,5 @@
 -- Tangled names: those whose ties in the tables may part from the language's.
-use Rattle.std.specs.Prelude.{ℕ, ◌+◌, List, [], ◌∷◌, Bool, true, false, ◌&&◌, ◌||◌, not, cond, map, filter, codes, bytes_eq}
+use Rattle.std.specs.Prelude.{ℕ, ◌+◌, ◌==◌, List, [], ◌∷◌, Bool, true, false, ◌&&◌, ◌||◌, not, cond, map, filter, codes, bytes_eq}
 use Rattle.std.specs.List.{list_any}
 use Rattle.std.specs.Map.{lookup}
 use Rattle.std.specs.Option.{is_some}
@@ -10,6 +10,7 @@ use Rattle.semantic_syntax.specs.SourceTypes.{is_typescript}
 use Rattle.semantic_syntax.specs.Tables.{Name, Tables, Symbol}
 use Rattle.semantic_syntax.specs.declared.scope_flags.TheConstants.ScopeFlags as scope
 use Rattle.semantic_syntax.specs.declared.source_type.SourceType.{SourceType}
+use Rattle.semantic_syntax.specs.declared.symbol_flags.TheConstants.SymbolFlags as symbol
 use Rattle.semantic_tree.specs.Tree.{Tree}
 use Rattle.semantic_model.specs.TablesOf.{tables_of}
 use Rattle.tangle_model.specs.Mention.{Mention, mentions}
@@ -50,7 +51,27 @@ is_seen_by_eval t y = meets (scope_flags t y.scope) scope.DirectEval.bits
 abbrev pub is_merged_member : List Mention → Tables → Symbol → Bool
 is_merged_member ms t y = contains (merged_openers ms) (scope_of t y.scope).node
 
+-- a namespace that isn't a type as well: the left of a qualified name in a type passes it by in the tables (`Usable`), and means it in TypeScript
+abbrev pub is_bare_namespace : Symbol → Bool
+is_bare_namespace y = (meets y.flags.bits symbol.ValueModule.bits || meets y.flags.bits symbol.NamespaceModule.bits) && not (meets y.flags.bits symbol.TypeFlag.bits)
+
+-- an alias in a namespace, or in another scope that isn't the root: such a name means it in the tables whatever it stands for, and passes it by in TypeScript where that is no namespace
+abbrev pub is_inner_alias : Symbol → Bool
+is_inner_alias y = (meets y.flags.bits symbol.Import.bits || meets y.flags.bits symbol.TypeImport.bits) && not (y.scope == 0)
+
+-- either: a qualified name may pass it by in one of both and mean another symbol outside
+abbrev pub may_be_passed : Symbol → Bool
+may_be_passed y = is_bare_namespace y || is_inner_alias y
+
 -- ---- names
+
+abbrev pub is_name_of : List Symbol → Name → Bool
+is_name_of ys name = list_any (λ y. bytes_eq name y.name) ys
+
+-- two symbols have it
+abbrev pub is_shared : List Symbol → Name → Bool
+is_shared [] name = false
+is_shared (y ∷ ys) name = cond (bytes_eq name y.name) (is_name_of ys name) (is_shared ys name)
 
 abbrev pub any_mention : (Mention → Bool) → List Mention → Name → Bool
 any_mention test ms name = list_any (λ m. test m && bytes_eq name m.name) ms
@@ -67,10 +88,12 @@ holds_in s ms t reason.With name = any_mention is_in_with ms name
 holds_in s ms t reason.Eval name = any_symbol (is_seen_by_eval t) t.symbols name
 holds_in s ms t reason.FreeNamesake name = is_typescript s && is_some (lookup (bytes_eq name) t.free)
 holds_in s ms t reason.MergedMember name = any_symbol (is_merged_member ms t) t.symbols name
+holds_in s ms t reason.NamespaceNamesake name = is_typescript s && any_symbol may_be_passed t.symbols name && is_shared t.symbols name
 
 abbrev pub all_reasons : List Reason
 all_reasons =
-    reason.BlockFunction ∷ reason.CatchVariable ∷ reason.Arguments ∷ reason.With ∷ reason.Eval ∷ reason.FreeNamesake ∷ reason.MergedMember ∷ []
+    reason.BlockFunction ∷ reason.CatchVariable ∷ reason.Arguments ∷ reason.With ∷ reason.Eval ∷ reason.FreeNamesake ∷ reason.MergedMember
+    ∷ reason.NamespaceNamesake ∷ []
 
 abbrev pub reasons_in : SourceType → List Mention → Tables → Name → List Reason
 reasons_in s ms t name = filter (λ r. holds_in s ms t r name) all_reasons
@@ -78,9 +101,6 @@ reasons_in s ms t name = filter (λ r. holds_in s ms t r name) all_reasons
 -- the reasons for which a name of the program is tangled
 abbrev pub tangle_reasons : Tree → Name → List Reason
 tangle_reasons p name = reasons_in p.source_type (mentions p) (tables_of p) name
-
-abbrev pub is_name_of : List Symbol → Name → Bool
-is_name_of ys name = list_any (λ y. bytes_eq name y.name) ys
 
 abbrev pub is_none_of : List Reason → Bool
 is_none_of [] = true

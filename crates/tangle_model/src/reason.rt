@@ -17,4 +17,7 @@ pub enum Reason {
     FreeNamesake,
     /// In TypeScript, a namespace, enum or module that is declared more than once binds it.
     MergedMember,
+    /// In TypeScript, a namespace or an alias within one has the name, and so has another symbol: a qualified name may
+    /// mean either.
+    NamespaceNamesake,
 }

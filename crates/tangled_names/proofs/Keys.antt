@@ -11,7 +11,7 @@ use Rattle.semantic_syntax.specs.Reading.{no_symbol, scope_of, symbol_of}
 use Rattle.semantic_syntax.specs.Tables.{Name, Symbol, Tables}
 use Rattle.tangle_model.specs.Mention.{Mention}
 use Rattle.tangle_model.specs.Repeated.{Key, same_key, is_of, key_of, keys_of, stands, repeats}
-use Rattle.tangle_model.specs.Tangled.{any_mention, any_symbol, is_merged_member, merged_openers}
+use Rattle.tangle_model.specs.Tangled.{any_mention, any_symbol, is_merged_member, merged_openers, is_name_of, is_shared}
 use Rattle.tangle_model.specs.declared.what.What.{What}
 use Rattle.tangle_model.specs.declared.what.What.TheVariants as what
 use Rattle.tangled_names.specs.Gathered.{noted_of}
@@ -224,6 +224,40 @@ module _ (t : Tables) (i : ℕ) (test : Symbol → Bool) (x : Name) where
 
   pub symbols_end : (ks : List Key) (goal : Bool) → length t.symbols ≤ i → (has_name ks x || any_symbol test (drop i t.symbols) x) ≡ goal → has_name ks x ≡ goal
   symbols_end ks goal past h = nothing_left (has_name ks x) (any_symbol test (drop i t.symbols) x) goal (at_drop_all (λ ys. any_symbol test ys x) t.symbols i past) h
+
+-- ---- a loop over symbols that meets their names
+
+module _ (t : Tables) (i : ℕ) (x : Name) where
+  -- what was met again, and what is met again among what is left
+  abbrev pub shared_left : List Key → List Key → Bool
+  shared_left seen again = cond (has_name seen x) (has_name again x || is_name_of (drop i t.symbols) x) (is_shared (drop i t.symbols) x)
+
+  pub shared_kept : (text : Name) (seen seen' again again' : List Key)
+      → seen' ≡ with_key_if true seen (name_key text) → again' ≡ with_key_if (has_name seen text) again (name_key text)
+      → (has_name again x ≡ true → has_name seen x ≡ true) → has_name again' x ≡ true → has_name seen' x ≡ true
+  shared_kept text seen seen' again again' made made' kept h =
+      ap (λ ks. has_name ks x) made ∙ name_more_if true x text seen
+      ∙ met_kept true (has_name seen text) (bytes_eq x text) (has_name again x) (has_name seen x) kept
+      (sym (ap (λ ks. has_name ks x) made' ∙ name_more_if (has_name seen text) x text again) ∙ h)
+
+  pub shared_end : (seen again : List Key) (goal : Bool) → length t.symbols ≤ i → (has_name again x ≡ true → has_name seen x ≡ true) → shared_left seen again ≡ goal → has_name again x ≡ goal
+  shared_end seen again goal past kept h =
+      met_all (has_name seen x) (has_name again x) (is_name_of (drop i t.symbols) x) (is_shared (drop i t.symbols) x) goal
+      (at_drop_all (λ ys. is_name_of ys x) t.symbols i past) (at_drop_all (λ ys. is_shared ys x) t.symbols i past) kept h
+
+module _ (t : Tables) (i : ℕ) (x : Name) where
+  pub shared_turn : (text : Name) (seen seen' again again' : List Key) (goal : Bool) → i < length t.symbols → text ≡ (symbol_of t i).name
+      → seen' ≡ with_key_if true seen (name_key text) → again' ≡ with_key_if (has_name seen text) again (name_key text)
+      → (has_name again x ≡ true → has_name seen x ≡ true) → shared_left t i x seen again ≡ goal → shared_left t (i + 1) x seen' again' ≡ goal
+  shared_turn text seen seen' again again' goal within named made made' kept h =
+      let had : Bool = is_name_of (drop (i + 1) t.symbols) x in
+      let twice : Bool = is_shared (drop (i + 1) t.symbols) x in
+      ap (λ c. cond c (has_name again' x || had) twice) (ap (λ ks. has_name ks x) made ∙ name_more_if true x text seen)
+      ∙ ap (λ c. cond (bytes_eq x text || has_name seen x) (c || had) twice) (ap (λ ks. has_name ks x) made' ∙ name_more_if (has_name seen text) x text again)
+      ∙ met_key (name_key x) (name_key text) seen again had twice goal (bytes_eq x text) (and_true (bytes_eq x text)) kept
+      (ap (λ y. cond (has_name seen x) (has_name again x || (bytes_eq x y || had)) (cond (bytes_eq x y) had twice)) named
+      ∙ sym (at_drop_more (λ ys. cond (has_name seen x) (has_name again x || is_name_of ys x) (is_shared ys x)) t.symbols i no_symbol within)
+      ∙ h)
 
 -- ---- keys that are the same by what they are
 

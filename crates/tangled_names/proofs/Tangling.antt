@@ -1,13 +1,14 @@
 -- The loops that find reasons and tangled names.
-use Rattle.std.proofs.Common.{◌≡◌, ℕ, ◌+◌, ◌<◌, ◌≤◌, List, [], ◌∷◌, ◌++◌, Bool, true, false, cond, ◌||◌, not, filter, length, drop, get_or, refl, sym, ap, ◌∙◌, append_assoc, append-nil}
+use Rattle.std.proofs.Common.{◌≡◌, ℕ, ◌+◌, ◌<◌, ◌≤◌, List, [], ◌∷◌, ◌++◌, Bool, true, false, cond, ◌&&◌, ◌||◌, not, filter, length, drop, get_or, refl, sym, ap, ◌∙◌, append_assoc, append-nil}
 use Rattle.std.specs.Str.{bytes_eq}
 use Rattle.std.proofs.lemmas.List.{at_drop_more, at_drop_all}
 use Rattle.semantic_syntax.specs.Reading.{no_symbol, symbol_of}
+use Rattle.semantic_syntax.specs.SourceTypes.{is_typescript}
 use Rattle.semantic_syntax.specs.Tables.{Name, Tables}
 use Rattle.tangle_model.specs.Repeated.{Key}
 use Rattle.semantic_syntax.specs.declared.source_type.SourceType.{SourceType}
 use Rattle.tangle_model.specs.Mention.{Mention}
-use Rattle.tangle_model.specs.Tangled.{Tangle, told, tangles_from, tangles_in, all_reasons, any_mention, any_symbol, meets_declaration, meets_catch_name, is_in_with, is_seen_by_eval, is_merged_member}
+use Rattle.tangle_model.specs.Tangled.{Tangle, told, tangles_from, tangles_in, all_reasons, any_mention, any_symbol, meets_declaration, meets_catch_name, is_in_with, is_seen_by_eval, is_merged_member, may_be_passed, is_shared}
 use Rattle.tangle_model.specs.declared.reason.Reason.TheVariants as reason
 use Rattle.tangled_names.specs.Facts.{Tells, told as told_by}
 use Rattle.tangled_names.specs.declared.facts.NameFacts.{NameFacts}
@@ -86,14 +87,16 @@ module _ (t : Tables) (i : ℕ) (reasons : Name → List Reason) where
 module _ (f : NameFacts) (s : SourceType) (ms : List Mention) (t : Tables) where
   pub told_same : ((x : Name) → has_name f.block_functions x ≡ any_mention (meets_declaration ms) ms x) → ((x : Name) → has_name f.catch_variables x ≡ any_mention (meets_catch_name ms) ms x)
       → ((x : Name) → has_name f.in_with x ≡ any_mention is_in_with ms x) → ((x : Name) → has_name f.seen_by_eval x ≡ any_symbol (is_seen_by_eval t) t.symbols x)
-      → ((x : Name) → has_name f.merged x ≡ any_symbol (is_merged_member ms t) t.symbols x) → Tells f s ms t
-  told_same a b c d e reason.BlockFunction x = a x
-  told_same a b c d e reason.CatchVariable x = b x
-  told_same a b c d e reason.Arguments x = refl
-  told_same a b c d e reason.With x = c x
-  told_same a b c d e reason.Eval x = d x
-  told_same a b c d e reason.FreeNamesake x = refl
-  told_same a b c d e reason.MergedMember x = e x
+      → ((x : Name) → has_name f.merged x ≡ any_symbol (is_merged_member ms t) t.symbols x)
+      → ((x : Name) → has_name f.passed x ≡ any_symbol may_be_passed t.symbols x) → ((x : Name) → has_name f.shared x ≡ is_shared t.symbols x) → Tells f s ms t
+  told_same a b c d e g h reason.BlockFunction x = a x
+  told_same a b c d e g h reason.CatchVariable x = b x
+  told_same a b c d e g h reason.Arguments x = refl
+  told_same a b c d e g h reason.With x = c x
+  told_same a b c d e g h reason.Eval x = d x
+  told_same a b c d e g h reason.FreeNamesake x = refl
+  told_same a b c d e g h reason.MergedMember x = e x
+  told_same a b c d e g h reason.NamespaceNamesake x = λ i. is_typescript s && g x i && h x i
 
   pub found_same : Tells f s ms t → tangles_from (λ (x : Name). filter (λ (r : Reason). told_by f s t r x) all_reasons) (λ x. false) 0 t.symbols ≡ tangles_in s ms t
   found_same tells = λ i. tangles_from (λ (x : Name). filter (λ (r : Reason). tells r x i) all_reasons) (λ x. false) 0 t.symbols

@@ -21,6 +21,7 @@ told f s t reason.With name = has_name f.in_with name
 told f s t reason.Eval name = has_name f.seen_by_eval name
 told f s t reason.FreeNamesake name = is_typescript s && is_some (lookup (bytes_eq name) t.free)
 told f s t reason.MergedMember name = has_name f.merged name
+told f s t reason.NamespaceNamesake name = is_typescript s && has_name f.passed name && has_name f.shared name
 
 -- they tell what holds
 abbrev pub Tells : NameFacts → SourceType → List Mention → Tables → Type 0

@@ -4,14 +4,14 @@ ghost use Rattle.semantic_syntax.specs.Members.{contains};
 ghost use Rattle.semantic_syntax.specs.Reading.{scope_of};
 ghost use Rattle.semantic_syntax.specs.Tables.{Name, Symbol};
 ghost use Rattle.tangle_model.specs.Repeated.{is_of, key_of, stands};
-ghost use Rattle.tangle_model.specs.Tangled.{any_mention, any_symbol, is_seen_by_eval, is_merged_member, is_in_with, meets_declaration, meets_catch_name};
+ghost use Rattle.tangle_model.specs.Tangled.{any_mention, any_symbol, is_seen_by_eval, is_merged_member, may_be_passed, is_shared, is_in_with, meets_declaration, meets_catch_name};
 ghost use Rattle.tangled_names.specs.Gathered.{noted_of};
 ghost use Rattle.tangled_names.specs.Stored.{has_name, node_key, openers_by};
 
 use crate::key_set::KeySet;
 use crate::mention::{Mention, is_of};
-use crate::repeated::{noted_keys, repeated_keys};
-use crate::scope_questions::{is_bound_by, is_seen_by_eval};
+use crate::repeated::{noted_keys, repeated_keys, shared_names};
+use crate::scope_questions::{is_bound_by, is_seen_by_eval, may_be_passed};
 use scoping::Scoping;
 use semantic_syntax::SymbolId;
 use std::alloc::{AllocError, Global};
@@ -25,6 +25,8 @@ pub struct NameFacts<'a> {
     pub(crate) in_with: KeySet<'a>,
     pub(crate) seen_by_eval: KeySet<'a>,
     pub(crate) merged: KeySet<'a>,
+    pub(crate) passed: KeySet<'a>,
+    pub(crate) shared: KeySet<'a>,
 }
 
 /// Whether that is what is noted, and its name is among the keys at its home.
@@ -97,6 +99,20 @@ fn eval_names(alloc: Global, scoping: &Scoping) -> Result<KeySet<'_>, AllocError
     Ok(names)
 }
 
+/// The names of symbols that a qualified name may pass by.
+fn passed_names(alloc: Global, scoping: &Scoping) -> Result<KeySet<'_>, AllocError>
+    ensures { IfOk result (λ names. (name : Name) → has_name names name ≡ any_symbol may_be_passed scoping.now.symbols name) }
+{
+    let mut names = KeySet::new(alloc);
+    let count = scoping.symbols_len() as u32;
+    for number in 0..count {
+        let symbol = SymbolId::new(number);
+        let is = may_be_passed(scoping, symbol);
+        names.add_name_if(is, scoping.symbol_name(symbol))?;
+    }
+    Ok(names)
+}
+
 /// The names of symbols whose scopes the nodes open.
 fn member_names<'a>(
     alloc: Global,
@@ -158,18 +174,24 @@ impl<'a> NameFacts<'a> {
         ensures in_with { IfOk result (λ f. (name : Name) → has_name f.in_with name ≡ any_mention is_in_with (map noted_of mentions.now) name) }
         ensures seen_by_eval { IfOk result (λ f. (name : Name) → has_name f.seen_by_eval name ≡ any_symbol (is_seen_by_eval scoping.now) scoping.now.symbols name) }
         ensures merged { IfOk result (λ f. (name : Name) → has_name f.merged name ≡ any_symbol (is_merged_member (map noted_of mentions.now) scoping.now) scoping.now.symbols name) }
+        ensures passed { IfOk result (λ f. (name : Name) → has_name f.passed name ≡ any_symbol may_be_passed scoping.now.symbols name) }
+        ensures shared { IfOk result (λ f. (name : Name) → has_name f.shared name ≡ is_shared scoping.now.symbols name) }
     {
         let block_functions = block_functions(alloc, mentions)?;
         let catch_variables = catch_variables(alloc, mentions)?;
         let in_with = noted_names(alloc, mentions, What::InWith)?;
         let seen_by_eval = eval_names(alloc, scoping)?;
         let merged = merged_members(alloc, mentions, scoping)?;
+        let passed = passed_names(alloc, scoping)?;
+        let shared = shared_names(alloc, scoping)?;
         Ok(NameFacts {
             block_functions,
             catch_variables,
             in_with,
             seen_by_eval,
             merged,
+            passed,
+            shared,
         })
     }
 }

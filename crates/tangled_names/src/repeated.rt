@@ -1,11 +1,16 @@
-//! Which names are noted, and which more than once.
-ghost use Rattle.std.specs.Prelude.{◌≡◌, ◌&&◌, [], map, IfOk, OnOk};
+//! Which names are noted, and which more than once; and which names several symbols have.
+ghost use Rattle.std.specs.Prelude.{◌≡◌, ◌&&◌, [], true, map, IfOk, OnOk};
+ghost use Rattle.std.specs.Str.{chars};
+ghost use Rattle.semantic_syntax.specs.Tables.{Name};
 ghost use Rattle.tangle_model.specs.Repeated.{Key, key_of, keys_of, stands, repeats};
+ghost use Rattle.tangle_model.specs.Tangled.{is_shared};
 ghost use Rattle.tangled_names.specs.Gathered.{noted_of};
-ghost use Rattle.tangled_names.specs.Stored.{with_key_if};
+ghost use Rattle.tangled_names.specs.Stored.{with_key_if, name_key, has_name};
 
 use crate::key_set::KeySet;
 use crate::mention::{Mention, is_of};
+use scoping::Scoping;
+use semantic_syntax::SymbolId;
 use std::alloc::{AllocError, Global};
 use tangle_model::What;
 
@@ -57,6 +62,32 @@ pub fn repeated_keys<'a>(
     for mention in mentions {
         let is = is_of(mention, what);
         meet(&mut met, is, mention)?;
+    }
+    Ok(met.again)
+}
+
+/// Adds the name.
+fn meet_name<'a>(met: &mut Met<'a>, name: &'a str) -> Result<(), AllocError>
+    ensures seen { OnOk result (met.new.seen ≡ with_key_if true met.old.seen (name_key (chars name.now))) }
+    ensures again { OnOk result (met.new.again ≡ with_key_if (has_name met.old.seen (chars name.now)) met.old.again (name_key (chars name.now))) }
+{
+    let is_again = met.seen.has_name(name);
+    met.again.add_name_if(is_again, name)?;
+    met.seen.add_name_if(true, name)
+}
+
+/// The names that two symbols have, or more.
+pub fn shared_names(alloc: Global, scoping: &Scoping) -> Result<KeySet<'_>, AllocError>
+    ensures { IfOk result (λ names. (name : Name) → has_name names name ≡ is_shared scoping.now.symbols name) }
+{
+    let mut met = Met {
+        seen: KeySet::new(alloc),
+        again: KeySet::new(alloc),
+    };
+    let count = scoping.symbols_len() as u32;
+    for number in 0..count {
+        let symbol = SymbolId::new(number);
+        meet_name(&mut met, scoping.symbol_name(symbol))?;
     }
     Ok(met.again)
 }

@@ -1,13 +1,13 @@
-//! Questions about the scope of a symbol.
+//! Questions about a symbol and its scope.
 ghost use Rattle.std.specs.Prelude.{◌≡◌, ◌<◌, length};
 ghost use Rattle.semantic_syntax.specs.Reading.{scope_flags, scope_of, symbol_of};
 ghost use Rattle.tangle_model.specs.Repeated.{stands};
-ghost use Rattle.tangle_model.specs.Tangled.{is_seen_by_eval};
+ghost use Rattle.tangle_model.specs.Tangled.{is_seen_by_eval, is_bare_namespace, is_inner_alias, may_be_passed};
 ghost use Rattle.tangled_names.specs.Stored.{node_key};
 
 use crate::key_set::KeySet;
 use scoping::Scoping;
-use semantic_syntax::{NodeId, ScopeFlags, ScopeId, SymbolId};
+use semantic_syntax::{NodeId, ScopeFlags, ScopeId, SymbolFlags, SymbolId};
 
 /// The flags of the scope, in the types of its tables; none where they don't hold it.
 #[tactic(auto, using(crate::proofs::Beyond::scopes))]
@@ -47,4 +47,32 @@ pub fn is_bound_by(scoping: &Scoping, openers: &KeySet<'_>, symbol: SymbolId) ->
     ensures { result ≡ stands (node_key (scope_of scoping.now (symbol_of scoping.now symbol).scope).node) openers.now }
 {
     openers.has_node(opener_of(scoping, scoping.symbol_scope_id(symbol)))
+}
+
+/// Whether the symbol is a namespace and no type besides.
+fn is_bare_namespace(scoping: &Scoping, symbol: SymbolId) -> bool
+    requires { symbol < length scoping.now.symbols }
+    ensures { result ≡ is_bare_namespace (symbol_of scoping.now symbol) }
+{
+    let flags = scoping.symbol_flags(symbol);
+    (flags.intersects(SymbolFlags::ValueModule) || flags.intersects(SymbolFlags::NamespaceModule))
+        && !flags.intersects(SymbolFlags::TypeFlag)
+}
+
+/// Whether the symbol is an alias in a scope that isn't the root.
+fn is_inner_alias(scoping: &Scoping, symbol: SymbolId) -> bool
+    requires { symbol < length scoping.now.symbols }
+    ensures { result ≡ is_inner_alias (symbol_of scoping.now symbol) }
+{
+    let flags = scoping.symbol_flags(symbol);
+    (flags.intersects(SymbolFlags::Import) || flags.intersects(SymbolFlags::TypeImport))
+        && scoping.symbol_scope_id(symbol).index() != 0
+}
+
+/// Whether a qualified name may pass the symbol by, in the tables or in TypeScript.
+pub fn may_be_passed(scoping: &Scoping, symbol: SymbolId) -> bool
+    requires { symbol < length scoping.now.symbols }
+    ensures { result ≡ may_be_passed (symbol_of scoping.now symbol) }
+{
+    is_bare_namespace(scoping, symbol) || is_inner_alias(scoping, symbol)
 }

@@ -95,6 +95,11 @@ fn holds(
                     .is_some()
         }
         Reason::MergedMember => facts.merged.has_name(name),
+        Reason::NamespaceNamesake => {
+            source_type.is_typescript()
+                && facts.passed.has_name(name)
+                && facts.shared.has_name(name)
+        }
     }
 }
 
@@ -110,6 +115,7 @@ fn all_reasons() -> &'static [Reason]
         Reason::Eval,
         Reason::FreeNamesake,
         Reason::MergedMember,
+        Reason::NamespaceNamesake,
     ]
 }
 
