@@ -176,9 +176,12 @@ module _ (o : Options) (p : Tree) (faultless : first_fault p ≡ None) (numbered
 
   -- ---- all together
 
+  pub all_may_be_given : all_pass (passes may a) 0 list ≡ true
+  all_may_be_given = pass_from (passes may a) 0 list each_passes
+
   pub always_accepted : is_accepted o p (one_name_each o p) ≡ true
   always_accepted = go (nat_le (written (renamed_by names p)) (written p)) refl
     where
       go : (b : Bool) → nat_le (written (renamed_by names p)) (written p) ≡ b → is_accepted o p (cond b list []) ≡ true
-      go true e = accepted_by list (one_to_one_alike f names p faultless comes) (pass_from (passes may a) 0 list each_passes) (all_named o p faultless numbered) e
+      go true e = accepted_by list (one_to_one_alike f names p faultless comes) all_may_be_given (all_named o p faultless numbered) e
       go false e = none_accepted

@@ -95,3 +95,7 @@ each_named o p = let a : Analysis = analysis_of p in names_by (name_pairs (may_c
 -- these names, or none where the program would be longer, as `{ name: a }` is than `{ name }`
 abbrev pub one_name_each : Options → Tree → List (Option Name)
 one_name_each o p = let names : List (Option Name) = each_named o p in cond (nat_le (written (renamed_by (listed names) p)) (written p)) names []
+
+-- the program with these names
+abbrev pub simply_mangled : Options → Tree → Tree
+simply_mangled o p = renamed_by (listed (one_name_each o p)) p

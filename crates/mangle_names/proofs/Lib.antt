@@ -1,2 +1,3 @@
 pub mod AsciiNames
 pub mod NameTexts
+pub mod BarredNames

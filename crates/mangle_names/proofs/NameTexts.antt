@@ -1,5 +1,6 @@
 -- Names among texts in a set.
-use Rattle.std.proofs.Common.{◌≡◌, ℕ, List, [], ◌∷◌, ◌++◌, Bool, true, false, ◌||◌, if◌then◌else◌, String, map, refl, sym, ap, ◌∙◌}
+use Rattle.std.proofs.Common.{◌≡◌, ℕ, zero, suc, List, [], ◌∷◌, ◌++◌, Bool, true, false, ◌||◌, cond, if◌then◌else◌, Some, String, map, refl, sym, ap, ◌∙◌}
+use Rattle.std.specs.Prelude.{slice_get, slice_index_or}
 use Rattle.std.specs.List.{list_any}
 use Rattle.std.specs.Str.{bytes_eq, chars, IsUtf8}
 use Rattle.std.specs.String.{string_bytes}
@@ -10,6 +11,7 @@ use Rattle.indexmap.specs.IndexSet.{insert_key}
 use Rattle.semantic_syntax.proofs.SameTexts.{same_texts}
 use Rattle.semantic_syntax.specs.Tables.{Name}
 use Rattle.semantic_syntax.proofs.Truth.{or_false}
+use Rattle.mangle_model.specs.OneNameEach.{joining}
 
 abbrev is_known : List Name → Name → Bool
 is_known names name = list_any (bytes_eq name) names
@@ -69,3 +71,21 @@ module _ {Z : Type 0} where
           ∙ known_append (texts keys) (texts (x ∷ [])) name
           ∙ ap (λ b. is_known (texts keys) name || b) (or_false (bytes_eq name (chars (string_bytes x))))
           ∙ swaps (is_known (texts keys) name) (bytes_eq name (chars (string_bytes x)))
+
+  -- it stands behind the others, unless it is there
+  pub joined_more : (keys new : List (String Z)) (x : String Z) (word : List ℕ) → string_bytes x ≡ word → new ≡ insert_key (λ a b. bytes_eq (string_bytes a) (string_bytes b)) keys x → texts new ≡ joining (texts keys) (chars word)
+  joined_more keys new x word is made =
+      ap texts made
+      ∙ go (list_any (λ k. bytes_eq (string_bytes x) (string_bytes k)) keys)
+      ∙ ap (λ b. cond b (texts keys) (texts keys ++ chars (string_bytes x) ∷ [])) (found_text keys (string_bytes x) (IsUtf8-string_bytes x))
+      ∙ ap (λ bytes. joining (texts keys) (chars bytes)) is
+    where
+      go : (b : Bool) → texts (if b then keys else keys ++ x ∷ []) ≡ cond b (texts keys) (texts keys ++ chars (string_bytes x) ∷ [])
+      go true = refl
+      go false = map-append (λ k. chars (string_bytes k)) keys (x ∷ [])
+
+  -- the text at a place
+  pub named_at : (keys : List (String Z)) (i : ℕ) (k : String Z) → slice_get keys i ≡ Some k → chars (string_bytes k) ≡ slice_index_or (texts keys) i []
+  named_at [] i k e = absurd cc
+  named_at (x ∷ xs) zero k e = let same : x ≡ k = cc in ap (λ t. chars (string_bytes t)) (sym same)
+  named_at (x ∷ xs) (suc i) k e = named_at xs i k e

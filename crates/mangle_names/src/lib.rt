@@ -4,6 +4,7 @@
 #![tactic(auto)]
 
 mod alive;
+mod barred;
 mod good_names;
 mod name_set;
 mod naming;
@@ -15,7 +16,9 @@ mod slots;
 mod staying;
 mod uses;
 
+pub use barred::barred_names;
 pub use good_names::{is_ascii_identifier, is_reserved};
 pub use name_set::NameSet;
 pub use new_names::NewNames;
+pub use numbers::is_marked;
 pub use proposal::proposed;

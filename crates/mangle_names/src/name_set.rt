@@ -1,13 +1,14 @@
 //! Sets of names.
-ghost use Rattle.std.specs.Prelude.{◌≡◌, [], ◌||◌, ℕ, List, bytes_eq, OnOk};
+ghost use Rattle.std.specs.Prelude.{◌≡◌, ◌<◌, [], ◌||◌, ℕ, List, bytes_eq, length, slice_index_or, OnOk};
 ghost use Rattle.std.specs.List.{list_any};
 ghost use Rattle.std.specs.Str.{chars};
+ghost use Rattle.mangle_model.specs.OneNameEach.{joining};
 
 use indexmap::IndexSet;
 use std::alloc::{AllocError, Global};
 use std::marker::Model;
 
-/// A set of names. Contracts see a list of them.
+/// A set of names, in the order in which they came. Contracts see a list of them.
 #[derive(Drop)]
 pub struct NameSet {
     texts: IndexSet<String>,
@@ -32,9 +33,10 @@ impl NameSet {
         }
     }
 
-    /// Adds a name. The only error is want of memory.
+    /// Adds a name behind the others, unless it is among them. The only error is want of memory.
     pub fn add(&mut self, alloc: Global, name: &str) -> Result<(), AllocError>
-        ensures { OnOk result ((q : List ℕ) → list_any (bytes_eq q) self.new ≡ (bytes_eq q (chars name.now) || list_any (bytes_eq q) self.old)) }
+        ensures joined { OnOk result (self.new ≡ joining self.old (chars name.now)) }
+        ensures has { OnOk result ((q : List ℕ) → list_any (bytes_eq q) self.new ≡ (bytes_eq q (chars name.now) || list_any (bytes_eq q) self.old)) }
     {
         let text = String::from_str(alloc, name)?;
         self.texts.insert(text)?;
@@ -46,5 +48,20 @@ impl NameSet {
         ensures { result ≡ list_any (bytes_eq (chars name.now)) self.now }
     {
         self.texts.contains(name)
+    }
+
+    /// How many names there are.
+    pub fn len(&self) -> usize
+        ensures { result ≡ length self.now }
+    {
+        self.texts.len()
+    }
+
+    /// The name of this number.
+    pub fn name_at(&self, number: usize) -> &str
+        requires { number < length self.now }
+        ensures { chars result.now ≡ slice_index_or self.now number [] }
+    {
+        self.texts[number].as_str()
     }
 }

@@ -1,4 +1,7 @@
 //! Lists of numbers and marks, where a place past the end is none.
+ghost use Rattle.std.specs.Prelude.{◌≡◌};
+ghost use Rattle.mangle_names.specs.Marks.{at};
+
 use std::alloc::{AllocError, Global};
 
 /// No number.
@@ -30,11 +33,10 @@ pub fn put(all: &mut Vec<usize>, index: usize, value: usize) {
 }
 
 /// Whether the place is marked.
-pub fn is_set(marks: &[bool], index: usize) -> bool {
-    match marks.get(index) {
-        Some(mark) => *mark,
-        None => false,
-    }
+pub fn is_marked(marks: &[bool], index: usize) -> bool
+    ensures { result ≡ at marks.now index }
+{
+    index < marks.len() && marks[index]
 }
 
 /// Marks the place.

@@ -2,11 +2,12 @@
 ghost use Rattle.std.specs.Prelude.{◌<◌, length};
 
 use crate::alive::alive_symbols;
+use crate::barred::add_free_names;
 use crate::good_names::is_reserved;
 use crate::name_set::NameSet;
 use crate::naming::name_of;
 use crate::new_names::NewNames;
-use crate::numbers::{NONE, at, is_set, lists, push_at, set};
+use crate::numbers::{NONE, at, is_marked, lists, push_at, set};
 use crate::order::{key_of, number_of};
 use crate::slots::{Plan, Slots, slots_of};
 use crate::staying::{hiders, staying_symbols};
@@ -33,19 +34,11 @@ fn own_symbols(alloc: Global, scoping: &Scoping) -> Result<Vec<Vec<usize>>, Allo
 fn keep_together(hiders: &[usize], stays: &mut Vec<bool>) {
     for number in 0..hiders.len() {
         let other = at(hiders, number);
-        if other != NONE && (is_set(stays, number) || is_set(stays, other)) {
+        if other != NONE && (is_marked(stays, number) || is_marked(stays, other)) {
             set(stays, number);
             set(stays, other);
         }
     }
-}
-
-/// Adds the free names.
-fn add_free(alloc: Global, taken: &mut NameSet, scoping: &Scoping) -> Result<(), AllocError> {
-    for (name, _) in scoping.root_unresolved_references().iter() {
-        taken.add(alloc, name.as_str())?;
-    }
-    Ok(())
 }
 
 /// Adds the names of symbols that stay.
@@ -56,7 +49,7 @@ fn add_staying(
     stays: &[bool],
 ) -> Result<(), AllocError> {
     for number in 0..(scoping.symbols_len() as u32) {
-        if is_set(stays, number as usize) {
+        if is_marked(stays, number as usize) {
             taken.add(alloc, scoping.symbol_name(SymbolId::new(number)))?;
         }
     }
@@ -194,7 +187,7 @@ fn choose(alloc: Global, plan: &Plan<'_>, stays: &mut Vec<bool>) -> Result<Round
     keep_together(plan.hiders, stays);
     let slots = slots_of(alloc, plan, stays.as_slice())?;
     let mut taken = NameSet::new(alloc);
-    add_free(alloc, &mut taken, plan.scoping)?;
+    add_free_names(alloc, &mut taken, plan.scoping)?;
     add_staying(alloc, &mut taken, plan.scoping, stays.as_slice())?;
     let names = names_for(alloc, &taken, &slots)?;
     let is_costly = keep_costly(plan, &slots, names.as_slice(), stays);

@@ -1,7 +1,7 @@
 //! Slots for symbols: no two that are alive in one scope share one.
 ghost use Rattle.std.specs.Prelude.{◌<◌, length};
 
-use crate::numbers::{NONE, at, filled, is_set, put};
+use crate::numbers::{NONE, at, filled, is_marked, put};
 use crate::order::{key_of, number_of};
 use crate::uses::{Uses, count_at};
 use scoping::Scoping;
@@ -103,7 +103,7 @@ fn keys_of(
 ) -> Result<Vec<u64>, AllocError> {
     let mut keys = Vec::new(alloc);
     for symbol in symbols {
-        if !is_set(stays, *symbol) && at(plan.hiders, *symbol) == NONE {
+        if !is_marked(stays, *symbol) && at(plan.hiders, *symbol) == NONE {
             keys.push(key_of(count_at(plan.uses, *symbol), *symbol))?;
         }
     }
@@ -145,7 +145,7 @@ fn follow(plan: &Plan<'_>, slots: &mut Slots, symbol: usize) {
 /// Gives the symbols that are hidden their slots.
 fn follow_all(plan: &Plan<'_>, slots: &mut Slots, stays: &[bool]) {
     for symbol in 0..plan.hiders.len() {
-        if !is_set(stays, symbol) {
+        if !is_marked(stays, symbol) {
             follow(plan, slots, symbol);
         }
     }

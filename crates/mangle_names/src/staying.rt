@@ -1,7 +1,7 @@
 //! Which symbols keep their names, and which go with others.
 ghost use Rattle.std.specs.Prelude.{◌<◌, length};
 
-use crate::numbers::{NONE, is_set, set};
+use crate::numbers::{NONE, is_marked, set};
 use crate::uses::{Uses, count_at, extra_of};
 use scoping::Scoping;
 use semantic_syntax::{ScopeFlags, ScopeId, SymbolFlags, SymbolId};
@@ -101,7 +101,7 @@ pub fn staying_symbols(
     let mut stays = Vec::new(alloc);
     for number in 0..(scoping.symbols_len() as u32) {
         let symbol = SymbolId::new(number);
-        let keeps = !is_set(may, symbol.index()) || saves_nothing(scoping, uses, symbol);
+        let keeps = !is_marked(may, symbol.index()) || saves_nothing(scoping, uses, symbol);
         stays.push(keeps)?;
     }
     keep_block_functions(scoping, &mut stays);

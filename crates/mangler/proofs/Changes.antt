@@ -15,7 +15,7 @@ use Rattle.rename_model.specs.Renamed.{bears_name}
 use Rattle.mangle_model.specs.MayMangle.{Options, fixes_symbol, is_global, is_kept_symbol, is_of_wrapper, is_open_scope, may_mangle_symbol}
 use Rattle.mangle_model.specs.Mangling.{may_change}
 use Rattle.mangler.specs.Changing.{must_keep}
-use Rattle.mangler.specs.Passing.{at}
+use Rattle.mangle_names.specs.Marks.{at}
 
 not_or : (a b : Bool) → not (a || b) ≡ (not a && not b)
 not_or true b = refl

@@ -5,9 +5,10 @@ pub mod AnyOf
 pub mod PredicateNames
 pub mod SeenSteps
 pub mod Withs
-pub mod Barred
+pub mod PassingNames
 pub mod NamedChildren
 pub mod SeenSets
 pub mod Changes
 pub mod Identified
 pub mod Mangles
+pub mod ShortManglings

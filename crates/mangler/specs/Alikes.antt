@@ -10,6 +10,7 @@ use Rattle.mangle_model.specs.Alike.{renamed_tables}
 use Rattle.mangle_model.specs.Assignment.{Assignment, listed}
 use Rattle.mangle_model.specs.Mangling.{all_identifiers, all_pass, passes, IsMangled}
 use Rattle.mangle_model.specs.MayMangle.{Options}
+use Rattle.mangle_model.specs.OneNameEach.{one_name_each, simply_mangled}
 use Rattle.mangle_model.specs.Renamed.{given}
 use Rattle.mangle_model.specs.WithNames.{is_given}
 use Rattle.mangle_model.specs.Written.{written}
@@ -32,3 +33,13 @@ pub record AreGivable (may : ℕ → Bool) (p : Tree) (names : List (Option Name
 -- a mangled program with its names
 abbrev pub IsMangling : Options → Tree → Mangled → Type 0
 IsMangling o p m = IsMangled o p m.names m.program
+
+-- whose names are those of the simple mangler
+pub record IsSimple (o : Options) (p : Tree) (m : Mangled) : Type 0 where
+  pub mangled : IsMangling o p m
+  pub names : m.names ≡ one_name_each o p
+
+-- whose names are not longer than those of the simple mangler
+pub record IsShortMangling (o : Options) (p : Tree) (m : Mangled) : Type 0 where
+  pub mangled : IsMangling o p m
+  pub length : written m.program ≤ written (simply_mangled o p)

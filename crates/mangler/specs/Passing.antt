@@ -1,5 +1,5 @@
 -- Whether names pass, by a set of barred ones.
-use Rattle.std.specs.Prelude.{ℕ, List, Bool, true, false, Option, Some, None, not, ◌&&◌, bytes_eq, slice_index_or}
+use Rattle.std.specs.Prelude.{ℕ, List, Bool, true, Option, Some, None, not, ◌&&◌, bytes_eq}
 use Rattle.std.specs.List.{list_any}
 use Rattle.semantic_syntax.specs.Tables.{Name}
 use Rattle.mangle_model.specs.GoodNames.{is_ascii_identifier, is_reserved}
@@ -16,7 +16,3 @@ passes_by may barred s name = may s && good_by barred name
 abbrev pub passes_option : (ℕ → Name → Bool) → ℕ → Option Name → Bool
 passes_option test s None = true
 passes_option test s (Some name) = test s name
-
--- the number is marked in a list of marks
-abbrev pub at : List Bool → ℕ → Bool
-at bits s = slice_index_or bits s false

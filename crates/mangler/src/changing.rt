@@ -10,7 +10,7 @@ ghost use Rattle.renamer.specs.Told.{told_by};
 ghost use Rattle.mangle_model.specs.MayMangle.{is_global, is_kept_kind, is_kept_symbol, is_of_wrapper, is_open_scope, wrapper_names};
 ghost use Rattle.mangle_model.specs.Mangling.{may_change};
 ghost use Rattle.mangler.specs.Changing.{must_keep, options_of, IsSeen};
-ghost use Rattle.mangler.specs.Passing.{at};
+ghost use Rattle.mangle_names.specs.Marks.{at};
 ghost use Rattle.mangler.specs.Withs.{EndsWith};
 
 use crate::options::MangleOptions;

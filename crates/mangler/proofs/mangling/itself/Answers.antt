@@ -10,6 +10,6 @@ renamed_by-requires-clause-some c = no_names_some (told_by c.args.analysed.now) 
 pub renamed_by-requires-clause-identifiers : goal.renamed_by-requires-clause-identifiers
 renamed_by-requires-clause-identifiers c = no_names_identified (told_by c.args.analysed.now) c.new-names.result c.new-names.ensures c.args.program.now.root.children
 
-pub returns : goal.returns
-returns c =
+pub returns-clause-mangled : goal.returns-clause-mangled
+returns-clause-mangled c =
     itself_by (options_of c.args.options) c.args.program.now c.new-names.result (told_by c.args.analysed.now) c.in_ok-copy.copy (IsShaped-no_fault c.args.program.now c.root-root.ensures.shaped) c.root-root.ensures.numbered c.requires c.new-names.ensures c.in_ok-copy.ensures

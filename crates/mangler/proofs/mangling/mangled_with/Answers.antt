@@ -1,7 +1,7 @@
 use Rattle.semantic_tree.proofs.ShapedLaws.{IsShaped-no_fault}
 use Rattle.renamer.specs.Told.{told_by}
 use Rattle.mangler.specs.Changing.{options_of}
-use Rattle.mangler.specs.Passing.{at}
+use Rattle.mangle_names.specs.Marks.{at}
 use Rattle.mangler.proofs.Mangles.{some_by, identifiers_by, mangled_by}
 use Rattle.mangler.proofs.SeenSets.{if_ok, if_some}
 use Rattle.mangler.proofs.mangling.mangled_with.Goals as goal

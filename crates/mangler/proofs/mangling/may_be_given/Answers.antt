@@ -5,7 +5,7 @@ use Rattle.mangle_model.specs.Mangling.{all_identifiers}
 use Rattle.mangle_model.specs.Renamed.{given}
 use Rattle.mangle_model.specs.WithNames.{is_given}
 use Rattle.renamer.specs.Told.{told_by}
-use Rattle.mangler.specs.Passing.{at}
+use Rattle.mangle_names.specs.Marks.{at}
 use Rattle.mangler.proofs.Mangles.{givable_by}
 use Rattle.mangler.proofs.mangling.may_be_given.Goals as goal
 

@@ -1,6 +1,7 @@
 use Rattle.std.proofs.Common.{◌<◌, ◌≤◌, length, ap, sym, ◌∙◌, arith}
-use Rattle.mangler.specs.Passing.{at, passes_by, passes_option}
-use Rattle.mangler.proofs.Barred.{pass_next, pass_fails, pass_end}
+use Rattle.mangle_names.specs.Marks.{at}
+use Rattle.mangler.specs.Passing.{passes_by, passes_option}
+use Rattle.mangler.proofs.PassingNames.{pass_next, pass_fails, pass_end}
 use Rattle.mangler.proofs.passing.all_pass.Goals as goal
 
 pub returns : goal.returns

@@ -1,6 +1,7 @@
 use Rattle.std.proofs.Common.{◌≡◌, drop}
 use Rattle.mangle_model.specs.Mangling.{all_pass}
-use Rattle.mangler.specs.Passing.{at, passes_by}
+use Rattle.mangle_names.specs.Marks.{at}
+use Rattle.mangler.specs.Passing.{passes_by}
 use Rattle.mangler.proofs.passing.all_pass.Given as goal
 
 -- the names so far pass

@@ -1,9 +1,9 @@
 use Rattle.std.proofs.Common.{◌<◌, ◌||◌, ◌&&◌, not, bytes_eq, length, ap, ◌∙◌, arith}
 use Rattle.std.specs.List.{list_any}
 use Rattle.semantic_syntax.specs.Reading.{symbol_of}
-use Rattle.mangler.specs.Passing.{at}
-use Rattle.mangler.proofs.Barred.{kept_turn}
-use Rattle.mangler.proofs.passing.add_kept_names.Goals as goal
+use Rattle.mangle_names.specs.Marks.{at}
+use Rattle.mangle_names.proofs.BarredNames.{kept_turn}
+use Rattle.mangle_names.proofs.barred.add_kept_names.Goals as goal
 
 pub loop-number-preserved : goal.loop-number-preserved
 loop-number-preserved c = λ q.

@@ -1,7 +1,7 @@
 use Rattle.std.proofs.Common.{◌≡◌, ◌||◌, ℕ, List, bytes_eq}
 use Rattle.std.specs.List.{list_any}
-use Rattle.mangler.proofs.Barred.{any_free}
-use Rattle.mangler.proofs.passing.add_free_names.Given as goal
+use Rattle.mangle_names.proofs.BarredNames.{any_free}
+use Rattle.mangle_names.proofs.barred.add_free_names.Given as goal
 
 -- with those that are left, all free names are there
 abbrev pub invariant-loop-name : goal.invariant-loop-name

@@ -1,8 +1,8 @@
 use Rattle.std.proofs.Common.{◌≡◌, ◌||◌, ℕ, List, bytes_eq, drop}
 use Rattle.std.specs.List.{list_any}
 use Rattle.mangle_model.specs.GoodNames.{is_kept_name}
-use Rattle.mangler.specs.Passing.{at}
-use Rattle.mangler.proofs.passing.add_kept_names.Given as goal
+use Rattle.mangle_names.specs.Marks.{at}
+use Rattle.mangle_names.proofs.barred.add_kept_names.Given as goal
 
 -- with those of the symbols that are left, all names are there
 abbrev pub invariant-loop-number : goal.invariant-loop-number

@@ -1,0 +1,9 @@
+pub mod AmongNames
+pub mod StandingTurns
+pub mod TakenSets
+pub mod ChangingTurns
+pub mod ShortTexts
+pub mod NextTurns
+pub mod MapTexts
+pub mod PairTurns
+pub mod Gathered
