@@ -1,5 +1,6 @@
 //! What a look-up asks.
-ghost use Rattle.std.specs.Prelude.{◌≡◌, ◌<◌, length};
+ghost use Rattle.std.specs.Prelude.{◌≡◌, ◌<◌, [], length, slice_index_or};
+ghost use Rattle.scoping.specs.Flat.{bound_under};
 ghost use Rattle.scoping.specs.Names.{name_of};
 ghost use Rattle.scoping.specs.Placed.{IsPlaceOf};
 ghost use Rattle.semantic_syntax.specs.Reading.{bound_in};
@@ -13,6 +14,17 @@ use crate::source::BindingSource;
 use semantic_syntax::{
     Ident, ReferenceFlags, ReferenceId, ScopeFlags, ScopeId, Steps, SymbolFlags, SymbolId,
 };
+
+/// The symbol that the scope binds to the number, if there is one.
+fn symbol_under(table: &BindingTable, number: Option<usize>, scope: ScopeId) -> Option<SymbolId>
+    requires { scope < length table.now }
+    ensures { result ≡ bound_under number (slice_index_or table.now scope []) }
+{
+    match number {
+        Some(number) => table.get(scope, number),
+        None => None,
+    }
+}
 
 impl Scoping {
     /// The parents make no cycle, each parent and each bound symbol exists, and each scope has a list of bindings.
@@ -46,7 +58,7 @@ impl Scoping {
         ensures { result ≡ bound_in self.now scope (name_of name.entry) }
     {
         self.attest();
-        place.table.get(scope, place.number?)
+        symbol_under(place.table, place.number, scope)
     }
 }
 
