@@ -105,5 +105,5 @@ probe='let symbol = source.probe_at(scope, name, place, steps)?;'
 uncounted='steps.tick(); let mut own = Steps::new(()); let _again = source.probe_at(scope, name, place, \&mut own); let symbol = source.probe_at(scope, name, place, \&mut own)?;'
 sed -i "s/^    $probe\$/    $uncounted/" "$room/crates/resolver/src/lookup.rt"
 grep -q 'Steps::new' "$room/crates/resolver/src/lookup.rt"
-has counted_look_ups 'PATTERN' "a look-up that probes on a counter of its own is refused"
+has counted_look_ups 'error.*Steps' "a look-up that probes on a counter of its own is refused"
 exit $failed
