@@ -1,14 +1,13 @@
 -- Scopes one inside the other, each of which binds one name.
-use Rattle.std.specs.Prelude.{ℕ, zero, suc, List, Option, None, Some, length, if◌then◌else◌}
+use Rattle.std.specs.Prelude.{ℕ, ◌==◌, ◌-◌, List, Option, None, Some, length, if◌then◌else◌}
 use Rattle.std.specs.Str.{bytes_eq}
 use Rattle.semantic_syntax.specs.Tables.{Name}
 use Rattle.semantic_syntax.specs.Source.{Source}
 use Rattle.scoping.specs.Names.{name_at}
 
 -- the scope around the scope: the one before it
-pub around : ℕ → Option ℕ
-around zero = None
-around (suc s) = Some s
+abbrev pub around : ℕ → Option ℕ
+around s = if s == 0 then None else Some (s - 1)
 
 -- the symbol of the scope's own number, if the name is that of the scope
 abbrev pub own_symbol : List Name → ℕ → Name → Option ℕ

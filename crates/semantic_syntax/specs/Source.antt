@@ -1,5 +1,5 @@
 -- What a source of scopes, bindings, symbols and references tells.
-use Rattle.std.specs.Prelude.{◌≡◌, ℕ, ◌<◌, zero, suc, Bool, true, false, List, [], ◌∷◌, Option, IfSome}
+use Rattle.std.specs.Prelude.{◌≡◌, ℕ, ◌<◌, zero, suc, Bool, true, false, List, [], ◌∷◌, Option, None, IfSome, length, slice_index_or}
 use Rattle.std.specs.Option.{option_map_or}
 use Rattle.semantic_syntax.specs.Tables.{Name}
 
@@ -27,6 +27,11 @@ ends_within parent (suc count) s = option_map_or (ends_within parent count) (par
 -- the scope, its parent, and so on to one without a parent
 abbrev pub chain : Source → ℕ → List ℕ
 chain source s = chain_within source.parent source.scopes s
+
+-- the list tells for each scope the symbol that it binds to the name, if any
+pub record TellsName (source : Source) (name : Name) (symbols : List (Option ℕ)) : Type 0 where
+  pub count : length symbols ≡ source.scopes
+  pub each : (s : ℕ) → s < source.scopes → slice_index_or symbols s None ≡ source.bound s name
 
 -- the parents make no cycle, and each parent and each bound symbol exists
 pub record IsSource (source : Source) : Type 0 where
