@@ -94,7 +94,7 @@ const CASES: &[Case] = &[
     Case {
         name: "a",
         flags: ScopeFlags::Top,
-        way: ReferenceFlags::Type,
+        way: ReferenceFlags::TypeFlag,
         header: Answer::WaitsIn("a"),
         header_probes: 3,
         end: Answer::Free,
