@@ -4,6 +4,7 @@
 //! once.
 #![tactic(auto)]
 
+pub mod nest;
 #[cfg(test)]
 mod reach;
 #[cfg(test)]

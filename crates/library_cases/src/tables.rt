@@ -7,5 +7,6 @@ mod edits;
 mod long_row;
 mod look_ups;
 mod nodes;
+mod other_source;
 mod table_text;
 mod types_removed;

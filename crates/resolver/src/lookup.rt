@@ -4,7 +4,7 @@ ghost use Rattle.std.specs.Prelude.{◌≡◌, ◌<◌, codes};
 ghost use Rattle.std.specs.Option.{option_map};
 ghost use Rattle.std.specs.Str.{bytes_eq, chars};
 ghost use Rattle.semantic_syntax.specs.Counts.{raised};
-ghost use Rattle.semantic_syntax.specs.Source.{Source, IsSource, TellsName, chain};
+ghost use Rattle.semantic_syntax.specs.Source.{Source, chain};
 ghost use Rattle.semantic_syntax.specs.Members.{contains};
 ghost use Rattle.semantic_syntax.specs.Lookup.{is_arguments, fits, ends_after};
 ghost use Rattle.semantic_syntax.specs.Outcome.{answered, lookup_along, probes_along};
@@ -13,7 +13,7 @@ ghost use Rattle.resolver.specs.Terms.{outcome_of, pending_of, IsTied, ends_at, 
 use crate::outcomes::Outcome;
 use crate::pending::UnresolvedReference;
 use crate::rules::usable;
-use scoping::{BindingSource, BoundName};
+use scoping::{BindingSource, NamePlace};
 use semantic_syntax::{Ident, ReferenceFlags, ScopeFlags, ScopeId, Steps, SymbolFlags, SymbolId};
 
 fn is_named_arguments(name: Ident<'_>) -> bool
@@ -42,18 +42,17 @@ fn fits_symbol(name: Ident<'_>, way: ReferenceFlags, flags: SymbolFlags) -> bool
 fn tied_in<L, B: BindingSource<L>>(
     scope: ScopeId,
     name: Ident<'_>,
-    bound: &BoundName<'_>,
+    place: &NamePlace<'_, B::Table>,
     way: ReferenceFlags,
     source: &B,
     steps: &mut Steps<L>,
 ) -> Option<SymbolId>
     requires scope { scope < (B.meaning source.now).scopes }
-    requires bound { TellsName (B.meaning source.now) (chars name.text.now) bound.now }
-    requires law { IsSource (B.meaning source.now) }
+    requires place { B.is_place source.now (chars name.text.now) place.now.table.now place.now.number }
     ensures tie { IsTied (B.meaning source.now) (chars name.entry.text.now) way.bits scope result }
     ensures step { steps.new ≡ raised steps.old 1 }
 {
-    let symbol = bound.probe(scope, steps)?;
+    let symbol = source.probe_at(scope, name, place, steps)?;
     if fits_symbol(name, way, source.flags_of_symbol(symbol)) {
         Some(symbol)
     } else {
@@ -100,10 +99,10 @@ pub fn look_up<L, B: BindingSource<L>>(
     ensures cost { steps.new ≡ raised steps.old (probes_along (B.meaning source.now) (pending_of pending.now) (scopes_from (B.meaning source.now) last pending.now.lookup_scope_id)) }
 {
     let way = source.way(pending.reference_id);
-    let bound = source.bound_name(pending.name);
+    let place = source.place_of(pending.name);
     let mut scope = pending.lookup_scope_id;
     loop {
-        if let Some(symbol) = tied_in(scope, pending.name, &bound, way, source, steps) {
+        if let Some(symbol) = tied_in(scope, pending.name, &place, way, source, steps) {
             return Some(Outcome::Tied(symbol));
         }
         if is_barrier(scope, pending.name, way, source) {

@@ -8,6 +8,7 @@ pub mod Entries
 pub mod Every
 pub mod Named
 pub mod Shown
+pub mod Places
 pub mod Pushed
 pub mod Parents
 pub mod Outward

@@ -36,6 +36,9 @@ AreBound names symbols bs = AllByRecursion (AllByRecursion (IsBoundWithin names 
 pub known_bound : (names symbols : ℕ) (b : Numbered) → AllByRecursion (IsBoundWithin names symbols) b → AreKnown names b
 known_bound names symbols b h = every-more (IsBoundWithin names symbols) (λ e. e.0 < names) (λ e w. w.0) b h
 
+pub all_known : (names symbols : ℕ) (bs : List Numbered) → AreBound names symbols bs → AllByRecursion (AreKnown names) bs
+all_known names symbols bs h = every-more (AllByRecursion (IsBoundWithin names symbols)) (AreKnown names) (known_bound names symbols) bs h
+
 pub bound_at : (names symbols : ℕ) (bs : List Numbered) (s : ℕ) → AreBound names symbols bs → AllByRecursion (IsBoundWithin names symbols) (get_or bs s [])
 bound_at names symbols bs s h = every-or (AllByRecursion (IsBoundWithin names symbols)) [] bs s h tt
 

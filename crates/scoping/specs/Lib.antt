@@ -1,5 +1,6 @@
 pub mod Names
 pub mod Flat
+pub mod Placed
 pub mod Tabled
 pub mod Row
 pub mod View

@@ -3,9 +3,9 @@
 
 pub mod binding_table;
 pub mod bindings;
-pub mod bound_name;
 pub mod free_table;
 pub mod kept;
+pub mod name_place;
 pub mod name_table;
 pub mod node_map;
 pub mod node_tables;
@@ -20,7 +20,7 @@ pub mod symbol_row;
 pub mod unresolved;
 
 pub use bindings::{AllBindings, Bindings, BindingsIter, BoundSymbols};
-pub use bound_name::BoundName;
+pub use name_place::NamePlace;
 pub use node_tables::NodeTables;
 pub use reference_iterators::{ReferencesIter, UseLists};
 pub use scope_iterators::{ScopeAncestors, ScopeIds};

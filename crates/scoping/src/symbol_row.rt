@@ -75,12 +75,14 @@ impl SymbolRow {
         self.name
     }
 
+    /// Where it is declared.
     pub fn span(&self) -> Span
         ensures { result ≡ self.now.span }
     {
         self.span
     }
 
+    /// What it is.
     pub fn flags(&self) -> SymbolFlags
         ensures { result ≡ self.now.flags }
     {
@@ -111,24 +113,28 @@ impl SymbolRow {
         }
     }
 
+    /// Gives it the name of that number.
     pub fn set_name(&mut self, name: usize)
         ensures { self.new ≡ record self.old { name = name } }
     {
         self.name = name;
     }
 
+    /// Puts it at the place.
     pub fn set_span(&mut self, span: Span)
         ensures { self.new ≡ record self.old { span = span } }
     {
         self.span = span;
     }
 
+    /// Makes it what the flags say.
     pub fn set_flags(&mut self, flags: SymbolFlags)
         ensures { self.new ≡ record self.old { flags = flags } }
     {
         self.flags = flags;
     }
 
+    /// What it is, to be changed.
     pub fn flags_mut(&mut self) -> &mut SymbolFlags
         ensures* writes_back { sem 𝓛 (LendsRowFlags self.entry result) }
         ensures value { result.now ≡ self.old.flags }
@@ -136,6 +142,7 @@ impl SymbolRow {
         &mut self.flags
     }
 
+    /// Gives it to the scope.
     pub fn set_scope(&mut self, scope: ScopeId)
         ensures { self.new ≡ record self.old { scope = scope } }
     {

@@ -1,5 +1,5 @@
 //! Bindings.
-ghost use Rattle.std.specs.Prelude.{◌≡◌, ◌<◌, ◌++◌, [], ◌∷◌, length, map, is_some, None, IfOk, OnOk, OnErr};
+ghost use Rattle.std.specs.Prelude.{◌≡◌, ◌<◌, ◌++◌, [], ◌∷◌, length, is_some, None, IfOk, OnOk, OnErr};
 ghost use Rattle.std.specs.Str.{bytes_eq};
 ghost use Rattle.std.specs.Map.{lookup, values_of};
 ghost use Rattle.scoping.specs.Numbering.{numbered_from};
@@ -10,7 +10,6 @@ ghost use Rattle.semantic_syntax.specs.Writing.{bound, unbound};
 use super::Scoping;
 use super::room::{push_symbol, reserve_symbol};
 use crate::bindings::{AllBindings, Bindings, BoundSymbols};
-use crate::bound_name::BoundName;
 use crate::symbol_row::SymbolRow;
 use semantic_syntax::{Ident, NodeId, ScopeId, Span, SymbolFlags, SymbolId};
 use std::alloc::AllocError;
@@ -51,13 +50,6 @@ impl Scoping {
     {
         let number = self.names.find(name)?;
         self.bindings.get(scope, number)
-    }
-
-    /// What the scopes bind to the name.
-    pub(crate) fn name_in_scopes(&self, name: Ident<'_>) -> BoundName<'_>
-        ensures { result ≡ map (lookup (bytes_eq (name_of name.entry))) self.now.bindings }
-    {
-        BoundName::new(&self.names, &self.bindings, name)
     }
 
     /// Whether the scope binds the name.

@@ -24,7 +24,7 @@ fn set_homes(rows: &mut Vec<SymbolRow>, bound: BoundSymbols<'_>, scope: ScopeId)
 }
 
 impl Scoping {
-    /// Moves the name from one scope to the other, where it is bound.
+    /// Moves the name from one scope to the other, where it is bound. Where both are one scope, the name is bound no more.
     pub fn move_binding(
         &mut self,
         from: ScopeId,
@@ -43,7 +43,7 @@ impl Scoping {
     }
 
     /// Moves the symbol's name from one scope to the other, where it is bound, and gives the symbol to the other
-    /// in every case.
+    /// in every case. Where both are one scope, the name is bound no more.
     pub fn move_binding_by_symbol_id(
         &mut self,
         from: ScopeId,

@@ -22,12 +22,12 @@ returns-then-is_last g c =
     rw (← c.way-way.ensures) (record { answer = ended.answer_is; cost = c.in_default.ensures.step ∙ ended.cost })
 
 pub loop-symbol-smaller : goal.loop-symbol-smaller
-loop-symbol-smaller g c = shorter _ _ c.loop-symbol.invariant.within c.bound_name-bound.ensures.law _ (sym c.in-Some-parent.ensures.outward)
+loop-symbol-smaller g c = shorter _ _ c.loop-symbol.invariant.within c.in-Some-parent.ensures.law _ (sym c.in-Some-parent.ensures.outward)
 
 pub loop-symbol-preserved : goal.loop-symbol-preserved
 loop-symbol-preserved g c =
     rw c.in_default.ensures.step
-    (come_further _ _ _ c.args.last _ _ _ _ c.loop-symbol.invariant c.bound_name-bound.ensures.law c.in-Some-parent.parent
+    (come_further _ _ _ c.args.last _ _ _ _ c.loop-symbol.invariant c.in-Some-parent.ensures.law c.in-Some-parent.parent
     c.in_default.ensures.tie (sym c.if-is_barrier.ensures) (sym c.if-is_last.ensures) (sym c.in-Some-parent.ensures.outward))
 
 pub returns-in-None : goal.returns-in-None
