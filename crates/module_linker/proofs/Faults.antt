@@ -39,16 +39,16 @@ refused_keeps kept e (Ok x) before same = tt
 -- ---- what isn't told yet
 
 refused_due : (source : SourceCall) (out : SinkCall) (e : LinkError) → SourceKept source → SinkKept out → FaultsEnd source out (end_of_stop (stop_of_refusal e))
-refused_due source out e read wrote = (inl read, inl wrote)
+refused_due source out e read wrote = record { reading = inl read; writing = inl wrote }
 
 module _ (source : SourceCall) (out : SinkCall) where
   unfound_due : (failure : LinkFailure) → SinkKept out → FailureKeeps (SourceKept source) failure → FaultsEnd source out (end_of_stop (failure_stop failure))
   unfound_due (Refused e) wrote read = refused_due source out e read wrote
-  unfound_due (Stopped (error.Tree cause)) wrote read = (inl read, inl wrote)
-  unfound_due (Stopped error.TooLong) wrote read = (inl read, inl wrote)
-  unfound_due (Stopped error.Read) wrote read = (inr tt, inl wrote)
-  unfound_due (Stopped error.Write) wrote read = (inl read, inl wrote)
-  unfound_due (Stopped error.Memory) wrote read = (inl read, inl wrote)
+  unfound_due (Stopped (error.Tree cause)) wrote read = record { reading = inl read; writing = inl wrote }
+  unfound_due (Stopped error.TooLong) wrote read = record { reading = inl read; writing = inl wrote }
+  unfound_due (Stopped error.Read) wrote read = record { reading = inr tt; writing = inl wrote }
+  unfound_due (Stopped error.Write) wrote read = record { reading = inl read; writing = inl wrote }
+  unfound_due (Stopped error.Memory) wrote read = record { reading = inl read; writing = inl wrote }
 
   -- no set is found
   pub unfound_failing : (failure : LinkFailure) (result : Result FindingStatus LinkFailure) → SinkKept out → FailureKeeps (SourceKept source) failure → IsErrAnd result (λ told. told ≡ failure) → FaultsEnd source out (end_due result)
@@ -58,6 +58,6 @@ module _ (source : SourceCall) (out : SinkCall) where
 -- what is given of the modules that are found
 pub given_failing : {K : Type 0} (held : K → Option (List ℕ)) (faults : K → ℕ) (source : SourceCall) (old new : K) (ms : List Module) (result : Result FindingStatus LinkFailure) → SourceKept source → GivesLinks held faults old new ms result
     → FaultsEnd source (sink_call held faults old new) (end_due result)
-given_failing held faults source old new ms (Ok status) read given = (inl read, inl given.3.kept)
+given_failing held faults source old new ms (Ok status) read given = record { reading = inl read; writing = inl given.3.kept }
 given_failing held faults source old new ms (Err (Refused e)) read given = refused_due source (sink_call held faults old new) e read given.2
 given_failing held faults source old new ms (Err (Stopped e)) read given = unwritten_due held faults source old new given.2 e read given.4

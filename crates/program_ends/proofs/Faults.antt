@@ -33,11 +33,11 @@ keeps_still kept cause (Ok x) before same = absurd same
 module _ (source : SourceCall) (out : SinkCall) where
   -- the input isn't read whole
   pub unread_due : (cause : ReportError) → SinkKept out → ReadKeeps {T = Unit {0}} (SourceKept source) (Err cause) → FaultsEnd source out (end_of_stop (stop_of cause))
-  unread_due (error.Tree refusal) wrote read = (inl read, inl wrote)
-  unread_due error.TooLong wrote read = (inl read, inl wrote)
-  unread_due error.Read wrote read = (inr tt, inl wrote)
-  unread_due error.Write wrote read = (inl read, inl wrote)
-  unread_due error.Memory wrote read = (inl read, inl wrote)
+  unread_due (error.Tree refusal) wrote read = record { reading = inl read; writing = inl wrote }
+  unread_due error.TooLong wrote read = record { reading = inl read; writing = inl wrote }
+  unread_due error.Read wrote read = record { reading = inr tt; writing = inl wrote }
+  unread_due error.Write wrote read = record { reading = inl read; writing = inl wrote }
+  unread_due error.Memory wrote read = record { reading = inl read; writing = inl wrote }
 
   -- no program is found
   pub unfound_failing : {S : Type 0} (end_of : S → End) (cause : ReportError) (result : Result S ReportError) → SinkKept out → ReadKeeps {T = S} (SourceKept source) (Err cause) → IsErrAnd result (λ told. told ≡ cause) → FaultsEnd source out (end_due end_of result)
@@ -47,17 +47,17 @@ module _ (source : SourceCall) (out : SinkCall) where
 module _ {K : Type 0} (held : K → Option (List ℕ)) (faults : K → ℕ) (source : SourceCall) (old new : K) where
   -- a text isn't written whole
   pub unwritten_due : (text : List ℕ) (cause : ReportError) → SourceKept source → Writes held faults old new text (Err cause) → FaultsEnd source (sink_call held faults old new) (end_of_stop (stop_of cause))
-  unwritten_due text error.Write read writes = (inl read, inr tt)
-  unwritten_due text error.Memory read writes = (inl read, inr tt)
+  unwritten_due text error.Write read writes = record { reading = inl read; writing = inr tt }
+  unwritten_due text error.Memory read writes = record { reading = inl read; writing = inr tt }
   unwritten_due text other read writes = absurd writes.cause
 
   -- memory was wanting
   pub wanting_due : (cause : ReportError) → cause ≡ error.Memory → FaultsEnd source (sink_call held faults old new) (end_of_stop (stop_of cause))
-  wanting_due cause wanting = subst (λ e. FaultsEnd source (sink_call held faults old new) (end_of_stop (stop_of e))) (sym wanting) (inr tt, inr tt)
+  wanting_due cause wanting = subst (λ e. FaultsEnd source (sink_call held faults old new) (end_of_stop (stop_of e))) (sym wanting) (record { reading = inr tt; writing = inr tt })
 
   -- an answer is given, or a prefix of it
   pub given_failing : {S Input : Type 0} (end_of : S → End) (Answers : End → Input → List ℕ → Type 0) (what : Input) (result : Result S ReportError) → SourceKept source → GivesAnswer end_of Answers held faults old new what result → FaultsEnd source (sink_call held faults old new) (end_due end_of result)
-  given_failing end_of Answers what (Ok status) read given = (inl read, inl given.2.kept)
+  given_failing end_of Answers what (Ok status) read given = record { reading = inl read; writing = inl given.2.kept }
   given_failing end_of Answers what (Err cause) read (inl memory) = wanting_due cause memory.0
   given_failing end_of Answers what (Err cause) read (inr part) = unwritten_due part.1 cause read part.3
 
@@ -66,4 +66,4 @@ module _ {K : Type 0} (held : K → Option (List ℕ)) (faults : K → ℕ) (sou
 -- the end that is due is told, or memory was wanting
 pub told_failing : (source : SourceCall) (out errs : SinkCall) (line : List ℕ) (wanted : Stop) (end : End) → FaultsEnd source out (end_of_stop wanted) → TellsEnd errs line wanted end → FaultsEnd source out end
 told_failing source out errs line wanted end due (told, is, inl whole) = subst (FaultsEnd source out) (sym (is ∙ ap end_of_stop whole.0)) due
-told_failing source out errs line wanted end due (told, is, inr part) = subst (FaultsEnd source out) (sym (is ∙ ap end_of_stop part.0)) (inr tt, inr tt)
+told_failing source out errs line wanted end due (told, is, inr part) = subst (FaultsEnd source out) (sym (is ∙ ap end_of_stop part.0)) (record { reading = inr tt; writing = inr tt })

@@ -24,8 +24,9 @@ IsWriteOrMemory memory = Unit {0}
 IsWriteOrMemory other = ⊥
 
 -- where a read failed the end is `read`, and where a write failed it is `write`; want of memory alone may stand in place of either
-abbrev pub FaultsEnd : SourceCall → SinkCall → End → Type 0
-FaultsEnd source out end = (SourceKept source ⊎ IsReadOrMemory end) × (SinkKept out ⊎ IsWriteOrMemory end)
+pub record FaultsEnd (source : SourceCall) (out : SinkCall) (end : End) : Type 0 where
+  pub reading : SourceKept source ⊎ IsReadOrMemory end
+  pub writing : SinkKept out ⊎ IsWriteOrMemory end
 
 -- the end of a result that isn't told yet: its status', or that of what stopped it
 abbrev pub end_due : {S : Type 0} → (S → End) → Result S ReportError → End

@@ -87,8 +87,8 @@ module _ {K : Type 0} (held : K → Option (List ℕ)) (faults : K → ℕ) (ask
 
   -- an end that failed is told, or memory was wanting
   pub gives_failing : (source : SourceCall) (old new : K) (result : Result Unit RequestError) → SourceKept source → GivesAnswer held faults old new asked p result → FaultsEnd source (sink_call held faults old new) (end_due result)
-  gives_failing source old new (Ok done) read given = (inl read, inl given.2.kept)
-  gives_failing source old new (Err (request_error.Refused refusal)) read given = (inl read, inl given.2)
+  gives_failing source old new (Ok done) read given = record { reading = inl read; writing = inl given.2.kept }
+  gives_failing source old new (Err (request_error.Refused refusal)) read given = record { reading = inl read; writing = inl given.2 }
   gives_failing source old new (Err (request_error.Stopped cause)) read (inl memory) = wanting_due held faults source old new cause memory.0
   gives_failing source old new (Err (request_error.Stopped cause)) read (inr part) = unwritten_due held faults source old new part.0 cause read part.2
 

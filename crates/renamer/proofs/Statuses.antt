@@ -100,7 +100,7 @@ module _ (source : SourceCall) (out : SinkCall) where
 -- the end that is due is told, or memory was wanting
 pub error_failing : (source : SourceCall) (out errs : SinkCall) (e : RequestError) (end : End) → FaultsEnd source out (end_due (Err e)) → TellsError errs e end → FaultsEnd source out end
 error_failing source out errs (request_error.Refused refusal) end due (inl told) = subst (FaultsEnd source out) (sym told.0) due
-error_failing source out errs (request_error.Refused refusal) end due (inr part) = subst (FaultsEnd source out) (sym part.0) (inr tt, inr tt)
+error_failing source out errs (request_error.Refused refusal) end due (inr part) = subst (FaultsEnd source out) (sym part.0) (record { reading = inr tt; writing = inr tt })
 error_failing source out errs (request_error.Stopped cause) end due tells = told_failing source out errs (line_of cause) (stop_of cause) end due tells
 
 -- ---- what is asked

@@ -36,7 +36,7 @@ pub returns-in-Err-clause-usage : goal.returns-in-Err-clause-usage
 returns-in-Err-clause-usage g c = λ none. absurd (some_not_none _ (options_of c.in-Some.options) (sym c.read_words.ensures ∙ ap (option_map options_of) c.in-Some.is) none)
 
 pub returns-in_default-clause-failing : goal.returns-in_default-clause-failing
-returns-in_default-clause-failing g c = told_failing _ _ _ _ _ _ (inl refl, inl refl) c.refuse_words.ensures
+returns-in_default-clause-failing g c = told_failing _ _ _ _ _ _ (record { reading = inl refl; writing = inl refl }) c.refuse_words.ensures
 
 pub returns-in-Err-clause-failing : goal.returns-in-Err-clause-failing
 returns-in-Err-clause-failing g c = told_failing _ _ _ _ _ _ c.in-Err.ensures.failing c.tell.ensures

@@ -20,7 +20,7 @@ returns-in-Err-clause-complete g c = λ asked clear.
     clear_failed _ _ _ c.in-Err.failure c.tell_failure.result clear (c.in-Err.ensures.complete clear.input clear.modules clear.told clear.stands) c.in-Err.ensures.ends c.tell_failure.ensures
 
 pub returns-then-not-is_empty-clause-failing : goal.returns-then-not-is_empty-clause-failing
-returns-then-not-is_empty-clause-failing g c = told_failing _ _ _ _ _ _ (inl refl, inl refl) c.refuse_words.ensures
+returns-then-not-is_empty-clause-failing g c = told_failing _ _ _ _ _ _ (record { reading = inl refl; writing = inl refl }) c.refuse_words.ensures
 
 pub returns-in-Err-clause-failing : goal.returns-in-Err-clause-failing
 returns-in-Err-clause-failing g c = told_failing _ _ _ _ _ _ c.in-Err.ensures.failing c.tell_failure.ensures

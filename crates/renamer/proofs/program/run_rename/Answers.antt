@@ -37,7 +37,7 @@ pub returns-in-Err-clause-usage : goal.returns-in-Err-clause-usage
 returns-in-Err-clause-usage g c = λ none. absurd (asked_not_none _ (asked_by c.in-Some.request) (sym c.read_words.ensures ∙ ap (option_map asked_by) c.in-Some.is) none)
 
 pub returns-in_default-clause-failing : goal.returns-in_default-clause-failing
-returns-in_default-clause-failing g c = told_failing _ _ _ _ _ _ (inl refl, inl refl) c.refuse_words.ensures
+returns-in_default-clause-failing g c = told_failing _ _ _ _ _ _ (record { reading = inl refl; writing = inl refl }) c.refuse_words.ensures
 
 pub returns-in-Err-clause-failing : goal.returns-in-Err-clause-failing
 returns-in-Err-clause-failing g c = error_failing _ _ _ c.in-Err.error _ c.in-Err.ensures.failing c.tell_error.ensures

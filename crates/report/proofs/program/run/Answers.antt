@@ -33,7 +33,7 @@ pub returns-in_default-clause-complete : goal.returns-in_default-clause-complete
 returns-in_default-clause-complete g c = λ clear. absurd (none_clear _ _ _ (sym c.read_words.ensures.request ∙ c.in_default.is) clear)
 
 pub returns-in_default-clause-failing : goal.returns-in_default-clause-failing
-returns-in_default-clause-failing g c = told_failing _ _ _ _ _ _ (inl refl, inl refl) c.refuse_words.ensures
+returns-in_default-clause-failing g c = told_failing _ _ _ _ _ _ (record { reading = inl refl; writing = inl refl }) c.refuse_words.ensures
 
 pub returns-in-Err-clause-failing : goal.returns-in-Err-clause-failing
 returns-in-Err-clause-failing g c = told_failing _ _ _ _ _ _ c.in-Err.ensures.failing c.tell.ensures

@@ -37,7 +37,7 @@ pub returns-in-Err-clause-usage : goal.returns-in-Err-clause-usage
 returns-in-Err-clause-usage g c = λ not_none. absurd (not_none (c.are_none.ensures.0 c.if-not-are_none.false))
 
 pub returns-then-not-are_none-clause-failing : goal.returns-then-not-are_none-clause-failing
-returns-then-not-are_none-clause-failing g c = told_failing _ _ _ _ _ _ (inl refl, inl refl) c.refuse_words.ensures
+returns-then-not-are_none-clause-failing g c = told_failing _ _ _ _ _ _ (record { reading = inl refl; writing = inl refl }) c.refuse_words.ensures
 
 pub returns-in-Err-clause-failing : goal.returns-in-Err-clause-failing
 returns-in-Err-clause-failing g c = told_failing _ _ _ _ _ _ c.in-Err.ensures.failing c.tell.ensures
