@@ -40,6 +40,7 @@ try() {
 
 try tools/test-sources.sh --list tools/test-sources.list
 try tools/test-programs.sh
+try tools/test-runs.sh
 try bin/bolgwyr check samples/source/prices.js
 try tools/test-check.sh
 try node tools/test-serve.js

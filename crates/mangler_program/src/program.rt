@@ -5,6 +5,7 @@ ghost use Rattle.program_ends.specs.Answering.{GivesAnswer, WritesAll};
 ghost use Rattle.program_ends.specs.Calls.{source_call, sink_call};
 ghost use Rattle.program_ends.specs.Completeness.{IsClear, IsDoneOrMemory, IsNotRefused, IsUsageOrMemory};
 ghost use Rattle.program_ends.specs.Ending.{TellsEnd};
+ghost use Rattle.program_ends.specs.Faults.{FaultsEnd, end_due};
 ghost use Rattle.program_ends.specs.Reads.{Stands};
 ghost use Rattle.mangler.specs.Changing.{options_of};
 ghost use Rattle.mangler_program.specs.Codes.{end_of};
@@ -73,6 +74,7 @@ fn answer_input<S: Source, K: Sink>(
     out: &mut K,
 ) -> Result<MangleStatus, ReportError>
     ensures ends { Ends (options_of options) (source_call S.left S.faults source.old source.new) (sink_call K.held K.faults out.old out.new) result }
+    ensures failing { FaultsEnd (source_call S.left S.faults source.old source.new) (sink_call K.held K.faults out.old out.new) (end_due end_of result) }
     ensures complete { (input : List ℕ) (program : Tree) → S.left source.old ≡ Some input → Stands input program → IfErr result IsNotRefused }
 {
     let program = read_program_from(alloc, source)?;
@@ -100,6 +102,7 @@ pub fn run_mangle<S: Source, K: Sink, E: Sink>(
 ) -> MangleStatus
     ensures means { Means (source_call S.left S.faults source.old source.new) (sink_call K.held K.faults out.old out.new)
         (sink_call E.held E.faults errs.old errs.new) words.now result }
+    ensures failing { FaultsEnd (source_call S.left S.faults source.old source.new) (sink_call K.held K.faults out.old out.new) (end_of result) }
     // Where no end fails and the input stands for a program, it is mangled, but for want of memory.
     ensures complete { IsAsked (asked_by words.now) → IsClear (source_call S.left S.faults source.old source.new)
         (sink_call K.held K.faults out.old out.new) → IsDoneOrMemory (end_of result) }

@@ -33,7 +33,7 @@ text_of ms links = link_lines (all_imports (all_analysed ms)) links
 module _ {K : Type 0} (held : K → Option (List ℕ)) (faults : K → ℕ) (ms : List Module) where
   -- the modules aren't linked
   pub gives_refusal : (old : K) (e : LinkError) (result : Result FindingStatus LinkFailure) → (¬ IsWantOfMemory e → refusal_of ms ≡ Some e) → IsErrAnd result (λ told. told ≡ Refused e) → GivesLinks held faults old old ms result
-  gives_refusal old e (Err told) why same = subst (λ f. GivesLinks held faults old old ms (Err f)) (sym same) (refl, why)
+  gives_refusal old e (Err told) why same = subst (λ f. GivesLinks held faults old old ms (Err f)) (sym same) (refl, why, refl)
   gives_refusal old e (Ok status) why same = absurd same
 
   answers_of : (links : List Link) → AreLinks ms links → Answers (end_of (status_for links)) ms (text_of ms links)

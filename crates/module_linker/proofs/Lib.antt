@@ -8,3 +8,4 @@ pub mod ExportSteps
 pub mod AnalysisTold
 pub mod SetSteps
 pub mod Ending
+pub mod Faults

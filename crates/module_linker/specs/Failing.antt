@@ -18,6 +18,11 @@ NotFound source (Stopped error.Read) = Rose source.faults source.faults_then
 NotFound source (Stopped error.Write) = ⊥
 NotFound source (Stopped error.Memory) = Unit {0}
 
+-- the count of the source's faults is as it was, unless a read failed
+abbrev pub FailureKeeps : Type 0 → LinkFailure → Type 0
+FailureKeeps kept (Stopped error.Read) = Unit {0}
+FailureKeeps kept failure = kept
+
 -- the input isn't refused
 abbrev pub IsNotRefused : LinkFailure → Type 0
 IsNotRefused (Refused e) = IsWantOfMemory e

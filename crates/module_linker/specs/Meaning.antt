@@ -19,6 +19,7 @@ use Rattle.module_entries.specs.LinkLines.{link_lines}
 use Rattle.program_ends.specs.FindingEnds.{end_of}
 use Rattle.module_linker.specs.Codes.{status_for}
 use Rattle.module_linker.specs.Lines.{cause_line, usage_line}
+use Rattle.module_linker.specs.Telling.{failure_stop}
 use Rattle.module_linker.specs.declared.failure.LinkFailure.{LinkFailure}
 use Rattle.module_linker.specs.declared.failure.LinkFailure.TheVariants.{Refused, Stopped}
 use Rattle.program_ends.specs.declared.finding.FindingStatus.{FindingStatus}
@@ -53,7 +54,7 @@ pub record Answers (end : End) (ms : List Module) (text : List ℕ) : Type 0 whe
 -- the sink has taken the links of the modules, or a prefix of them; or they aren't linked
 abbrev pub GivesLinks : {K : Type 0} → (K → Option (List ℕ)) → (K → ℕ) → K → K → List Module → Result FindingStatus LinkFailure → Type 0
 GivesLinks held faults old new ms (Ok status) = (refusal_of ms ≡ None) × (text : List ℕ) × Answers (end_of status) ms text × Writes held faults old new text (Ok tt)
-GivesLinks held faults old new ms (Err (Refused e)) = (held new ≡ held old) × (¬ IsWantOfMemory e → refusal_of ms ≡ Some e)
+GivesLinks held faults old new ms (Err (Refused e)) = (held new ≡ held old) × (¬ IsWantOfMemory e → refusal_of ms ≡ Some e) × (faults new ≡ faults old)
 GivesLinks held faults old new ms (Err (Stopped e)) = (refusal_of ms ≡ None) × (end : End) × (text : List ℕ) × Answers end ms text × Writes held faults old new text (Err e)
 
 -- why no links are written, or not to their end, before it is told
@@ -69,6 +70,11 @@ Fails source out (Stopped error.Memory) = Untouched out ⊎ AnsweredPart (Finds 
 abbrev pub Ends : SourceCall → SinkCall → Result FindingStatus LinkFailure → Type 0
 Ends source out (Ok status) = Answered (Finds StandsLinked) Answers source out (end_of status)
 Ends source out (Err failure) = Fails source out failure
+
+-- the end of a result that isn't told yet
+abbrev pub end_due : Result FindingStatus LinkFailure → End
+end_due (Ok status) = end_of status
+end_due (Err failure) = ends.end_of_stop (failure_stop failure)
 
 -- ---- the whole program
 

@@ -1,14 +1,15 @@
 //! The program, over any source and any sinks.
-ghost use Rattle.std.specs.Prelude.{◌≡◌, ℕ, List, [], Some, IfOk, IfErr};
+ghost use Rattle.std.specs.Prelude.{◌≡◌, ℕ, List, [], Some, IfOk, OnOk, IfErr};
 ghost use Rattle.program_ends.specs.Calls.{source_call, sink_call};
 ghost use Rattle.program_ends.specs.Completeness.{IsDoneOrMemory, IsUsageOrMemory};
+ghost use Rattle.program_ends.specs.Faults.{FaultsEnd};
 ghost use Rattle.program_ends.specs.Meaning.{Finds};
 ghost use Rattle.module_set.specs.Reading.{StandsForSet};
 ghost use Rattle.module_set.specs.declared.modules.Module.{Module};
 ghost use Rattle.program_ends.specs.FindingEnds.{end_of};
 ghost use Rattle.module_linker.specs.Codes.{status_for, is_loose};
-ghost use Rattle.module_linker.specs.Failing.{NotFound, IsNotRefused};
-ghost use Rattle.module_linker.specs.Meaning.{StandsLinked, GivesLinks, Ends, Means, IsClear};
+ghost use Rattle.module_linker.specs.Failing.{NotFound, FailureKeeps, IsNotRefused};
+ghost use Rattle.module_linker.specs.Meaning.{StandsLinked, GivesLinks, Ends, Means, IsClear, end_due};
 
 use crate::LinkStatus;
 use crate::failure::LinkFailure;
@@ -47,6 +48,8 @@ fn status_for(links: &[Link]) -> LinkStatus
 fn read_modules_from<S: Source>(alloc: Global, source: &mut S) -> Result<Modules, LinkFailure>
     ensures found { IfOk result (Finds StandsForSet (source_call S.left S.faults source.old source.new)) }
     ensures stopped { IfErr result (NotFound (source_call S.left S.faults source.old source.new)) }
+    ensures kept { OnOk result (S.faults source.new ≡ S.faults source.old) }
+    ensures failing { IfErr result (FailureKeeps (S.faults source.new ≡ S.faults source.old)) }
     ensures same { (input : List ℕ) (ms : List Module) → S.left source.old ≡ Some input → StandsForSet input ms → IfOk result (λ modules. modules ≡ ms) }
     ensures complete { (input : List ℕ) (ms : List Module) → S.left source.old ≡ Some input → StandsForSet input ms → IfErr result IsNotRefused }
 {
@@ -71,6 +74,7 @@ fn link_input<S: Source, K: Sink>(
     out: &mut K,
 ) -> Result<LinkStatus, LinkFailure>
     ensures ends { Ends (source_call S.left S.faults source.old source.new) (sink_call K.held K.faults out.old out.new) result }
+    ensures failing { FaultsEnd (source_call S.left S.faults source.old source.new) (sink_call K.held K.faults out.old out.new) (end_due result) }
     ensures complete { (input : List ℕ) (ms : List Module) → S.left source.old ≡ Some input → StandsLinked input ms → IfErr result IsNotRefused }
 {
     let modules = read_modules_from(alloc, source)?;
@@ -89,6 +93,7 @@ pub fn run_link<S: Source, K: Sink, E: Sink>(
 ) -> LinkStatus
     ensures means { Means (source_call S.left S.faults source.old source.new) (sink_call K.held K.faults out.old out.new)
         (sink_call E.held E.faults errs.old errs.new) words.now result }
+    ensures failing { FaultsEnd (source_call S.left S.faults source.old source.new) (sink_call K.held K.faults out.old out.new) (end_of result) }
     ensures complete { words.now ≡ [] → IsClear (source_call S.left S.faults source.old source.new)
         (sink_call K.held K.faults out.old out.new) → IsDoneOrMemory (end_of result) }
     ensures usage { ¬ (words.now ≡ []) → IsUsageOrMemory (end_of result) }

@@ -2,3 +2,4 @@ pub mod Inputs
 pub mod Meanings
 pub mod Endings
 pub mod Answering
+pub mod Faults

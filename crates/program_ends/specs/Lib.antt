@@ -7,5 +7,6 @@ pub mod Codes
 pub mod Ending
 pub mod Answering
 pub mod Completeness
+pub mod Faults
 pub mod Running
 pub mod FindingEnds

@@ -1,6 +1,7 @@
 //! The program that an input stands for.
 ghost use Rattle.std.specs.Prelude.{◌≡◌, ℕ, List, Some, IfOk, IfErr};
 ghost use Rattle.semantic_tree.specs.Tree.{Tree};
+ghost use Rattle.report_ends.specs.Streams.{ReadKeeps};
 ghost use Rattle.program_ends.specs.Calls.{source_call};
 ghost use Rattle.program_ends.specs.Completeness.{IsNotRefused};
 ghost use Rattle.program_ends.specs.Meaning.{Finds, NotFound};
@@ -27,6 +28,7 @@ fn program_in(alloc: Global, input: &[u8]) -> Result<Program, ReportError>
 pub fn read_program_from<S: Source>(alloc: Global, source: &mut S) -> Result<Program, ReportError>
     ensures found { IfOk result (Finds Stands (source_call S.left S.faults source.old source.new)) }
     ensures stopped { IfErr result (NotFound (source_call S.left S.faults source.old source.new)) }
+    ensures kept { ReadKeeps (S.faults source.new ≡ S.faults source.old) result }
     ensures complete { (input : List ℕ) (program : Tree) → S.left source.old ≡ Some input → Stands input program → IfErr result IsNotRefused }
 {
     let input = read_input(alloc, source)?;

@@ -6,18 +6,20 @@ use Rattle.semantic_tree.proofs.ShapedLaws.{IsShaped-no_fault}
 use Rattle.tree_json.specs.Reading.{listed, reading}
 use Rattle.tree_json.proofs.Completes.{reading-form}
 use Rattle.tree_json.proofs.Ends.{read-as}
-use Rattle.report_ends.specs.Streams.{WriteCause, Writes}
+use Rattle.report_ends.specs.Streams.{WriteCause, ReadKeeps, Writes}
 use Rattle.report_ends.specs.declared.error.ReportError.{ReportError}
 use Rattle.report_ends.specs.declared.error.ReportError.TheVariants as error
 use Rattle.program_ends.specs.Calls.{SourceCall, SinkCall, sink_call, Untouched}
 use Rattle.program_ends.specs.Completeness.{IsClear, IsNotRefused}
 use Rattle.program_ends.specs.Meaning.{Finds, NotFound, Stopped}
+use Rattle.program_ends.specs.Faults.{SourceKept, SinkKept, FaultsEnd}
 use Rattle.program_ends.specs.Meaning as ends
 use Rattle.program_ends.specs.Reads.{Stands}
+use Rattle.program_ends.proofs.Faults.{unread_due, unwritten_due, wanting_due}
 use Rattle.program_ends.proofs.Inputs.{input_is}
 use Rattle.program_ends.proofs.Meanings.{stopped_reading, stopped_writing}
 use Rattle.renamer.specs.Answers.{IsAnswer, answer_to, program_text}
-use Rattle.renamer.specs.Meaning.{Answers, WritesText, GivesAnswer, Ends, IsGoodInput}
+use Rattle.renamer.specs.Meaning.{Answers, WritesText, GivesAnswer, Ends, IsGoodInput, end_due}
 use Rattle.renamer.specs.Requests.{Asked}
 use Rattle.renamer.specs.declared.refusal.RequestError.{RequestError}
 use Rattle.renamer.specs.declared.refusal.RequestError.TheVariants as request_error
@@ -54,7 +56,7 @@ module _ {K : Type 0} (held : K → Option (List ℕ)) (faults : K → ℕ) (ask
   gives_none old e (Err told) is same = subst (λ x. GivesAnswer held faults old old asked p (Err x)) (sym same) (go e is)
     where
       go : (x : RequestError) → IsAnswer asked p (Err x) → GivesAnswer held faults old old asked p (Err x)
-      go (request_error.Refused refusal) due = (due, refl)
+      go (request_error.Refused refusal) due = (due, refl, refl)
       go (request_error.Stopped cause) memory = inl (memory, refl)
 
   -- there is one, and it is written, or a prefix of it
@@ -83,7 +85,18 @@ module _ {K : Type 0} (held : K → Option (List ℕ)) (faults : K → ℕ) (ask
   gives_ends source old new (Err (request_error.Stopped cause)) finds (inr part) =
       stopped_writing (Unit {0}) (Finds Stands) (Answers asked) source held faults old new p ends.done part.0 cause (inl tt) finds part.1 part.2
 
+  -- an end that failed is told, or memory was wanting
+  pub gives_failing : (source : SourceCall) (old new : K) (result : Result Unit RequestError) → SourceKept source → GivesAnswer held faults old new asked p result → FaultsEnd source (sink_call held faults old new) (end_due result)
+  gives_failing source old new (Ok done) read given = record { reading = inl read; writing = inl given.2.kept }
+  gives_failing source old new (Err (request_error.Refused refusal)) read given = record { reading = inl read; writing = inl given.2 }
+  gives_failing source old new (Err (request_error.Stopped cause)) read (inl memory) = wanting_due held faults source old new cause memory.0
+  gives_failing source old new (Err (request_error.Stopped cause)) read (inr part) = unwritten_due held faults source old new part.0 cause read part.2
+
 -- ---- no program
+
+pub unfound_failing : (source : SourceCall) (out : SinkCall) (cause : ReportError) (result : Result Unit RequestError) → SinkKept out → ReadKeeps {T = Unit {0}} (SourceKept source) (Err cause) → IsErrAnd result (λ told. told ≡ request_error.Stopped cause) → FaultsEnd source out (end_due result)
+unfound_failing source out cause (Ok done) wrote read same = absurd same
+unfound_failing source out cause (Err told) wrote read same = subst (λ e. FaultsEnd source out (end_due (Err e))) (sym same) (unread_due source out cause wrote read)
 
 -- no program is found
 pub ends_unfound : (asked : Asked) (source : SourceCall) (out : SinkCall) (cause : ReportError) (result : Result Unit RequestError) → Untouched out → NotFound source cause → IsErrAnd result (λ told. told ≡ request_error.Stopped cause) → Ends asked source out result

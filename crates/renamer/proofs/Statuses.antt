@@ -5,16 +5,19 @@ use Rattle.report_ends.specs.declared.error.ReportError.TheVariants as error
 use Rattle.program_ends.specs.Calls.{SourceCall, SinkCall, Unread, Untouched}
 use Rattle.program_ends.specs.Completeness.{IsClear}
 use Rattle.program_ends.specs.Ending.{TellsEnd}
-use Rattle.program_ends.specs.Lines.{tree_line}
+use Rattle.program_ends.specs.Faults.{FaultsEnd}
+use Rattle.program_ends.specs.Lines.{tree_line, line_of}
 use Rattle.program_ends.specs.Meaning.{End, Finds, of_refusal}
 use Rattle.program_ends.specs.Meaning as ends
 use Rattle.program_ends.specs.Reads.{Stands, RefusedFor}
+use Rattle.program_ends.specs.Telling.{stop_of}
 use Rattle.program_ends.specs.declared.stops.Stop.TheVariants as stop
 use Rattle.program_ends.proofs.Endings.{ends_usage, ends_told, memory_ends}
+use Rattle.program_ends.proofs.Faults.{told_failing}
 use Rattle.program_ends.proofs.Meanings.{Meant, clear_reading}
 use Rattle.renamer.specs.Answers.{answer_to, refusal_line}
 use Rattle.renamer.specs.Codes.{end_of}
-use Rattle.renamer.specs.Meaning.{Answers, Refuses, Ends, IsAsked, AnswersTo, RefusesTo, MeansBy, IsGoodInput, IsOrMemory, end_for}
+use Rattle.renamer.specs.Meaning.{Answers, Refuses, Ends, IsAsked, AnswersTo, RefusesTo, MeansBy, IsGoodInput, IsOrMemory, end_due, end_for}
 use Rattle.renamer.specs.Requests.{Asked}
 use Rattle.renamer.specs.Telling.{TellsRefusal, TellsError, usage_line}
 use Rattle.renamer.specs.declared.refusal.Refusal.{Refusal}
@@ -91,6 +94,14 @@ module _ (source : SourceCall) (out : SinkCall) where
   pub error_due : (errs : SinkCall) (words : Option Asked) (mine asked : Asked) (clear : IsClear source out) (e : RequestError) (result : RenameStatus) → words ≡ Some mine → words ≡ Some asked
       → IsGoodInput e → Ends mine source out (Err e) → TellsError errs e (end_of result) → IsOrMemory (end_for (answer_to asked clear.program)) (end_of result)
   error_due errs words mine asked clear e result is there good why tells = about words mine asked clear (end_of result) is there (stopped errs mine clear e result good why tells)
+
+-- ---- ends that fail
+
+-- the end that is due is told, or memory was wanting
+pub error_failing : (source : SourceCall) (out errs : SinkCall) (e : RequestError) (end : End) → FaultsEnd source out (end_due (Err e)) → TellsError errs e end → FaultsEnd source out end
+error_failing source out errs (request_error.Refused refusal) end due (inl told) = subst (FaultsEnd source out) (sym told.0) due
+error_failing source out errs (request_error.Refused refusal) end due (inr part) = subst (FaultsEnd source out) (sym part.0) (record { reading = inr tt; writing = inr tt })
+error_failing source out errs (request_error.Stopped cause) end due tells = told_failing source out errs (line_of cause) (stop_of cause) end due tells
 
 -- ---- what is asked
 

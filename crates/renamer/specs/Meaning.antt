@@ -11,6 +11,7 @@ use Rattle.program_ends.specs.Lines.{tree_line}
 use Rattle.program_ends.specs.Meaning.{End, Finds, Answered, Stopped}
 use Rattle.program_ends.specs.Meaning as ends
 use Rattle.program_ends.specs.Reads.{Stands, RefusedFor}
+use Rattle.program_ends.specs.Telling.{stop_of}
 use Rattle.renamer.specs.Answers.{answer_to, IsRenamed, IsRefusedAs, program_text, refusal_line}
 use Rattle.renamer.specs.Codes.{end_of}
 use Rattle.renamer.specs.Requests.{Asked, request_of}
@@ -45,7 +46,7 @@ WritesText held faults old new text (Err cause) = ((cause ≡ error.Memory) × (
 -- the sink has taken the answer about the program, or a prefix of it; or there is none, since it is refused or memory was wanting
 abbrev pub GivesAnswer : {K : Type 0} → (K → Option (List ℕ)) → (K → ℕ) → K → K → Asked → Tree → Result Unit RequestError → Type 0
 GivesAnswer held faults old new asked p (Ok done) = (text : List ℕ) × Answers asked ends.done p text × Writes held faults old new text (Ok done)
-GivesAnswer held faults old new asked p (Err (request_error.Refused refusal)) = (answer_to asked p ≡ Err refusal) × (held new ≡ held old)
+GivesAnswer held faults old new asked p (Err (request_error.Refused refusal)) = (answer_to asked p ≡ Err refusal) × (held new ≡ held old) × (faults new ≡ faults old)
 GivesAnswer held faults old new asked p (Err (request_error.Stopped cause)) =
     ((cause ≡ error.Memory) × (held new ≡ held old)) ⊎ ((text : List ℕ) × Answers asked ends.done p text × Writes held faults old new text (Err cause))
 
@@ -54,6 +55,12 @@ abbrev pub Ends : Asked → SourceCall → SinkCall → Result Unit RequestError
 Ends asked source out (Ok done) = Answered (Finds Stands) (Answers asked) source out ends.done
 Ends asked source out (Err (request_error.Refused refusal)) = Untouched out × ((p : Tree) × Finds Stands source p × (answer_to asked p ≡ Err refusal))
 Ends asked source out (Err (request_error.Stopped cause)) = Stopped (Unit {0}) (Finds Stands) (Answers asked) source out cause
+
+-- the end of a result that isn't told yet
+abbrev pub end_due : Result Unit RequestError → End
+end_due (Ok done) = ends.done
+end_due (Err (request_error.Refused refusal)) = ends.refused
+end_due (Err (request_error.Stopped cause)) = ends.end_of_stop (stop_of cause)
 
 -- ---- the whole program
 

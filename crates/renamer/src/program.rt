@@ -3,10 +3,11 @@ ghost use Rattle.std.specs.Prelude.{◌≡◌, ℕ, List, Some, None, IfErr};
 ghost use Rattle.semantic_tree.specs.Tree.{Tree};
 ghost use Rattle.program_ends.specs.Calls.{source_call, sink_call};
 ghost use Rattle.program_ends.specs.Completeness.{IsClear, IsUsageOrMemory};
+ghost use Rattle.program_ends.specs.Faults.{FaultsEnd};
 ghost use Rattle.program_ends.specs.Reads.{Stands};
 ghost use Rattle.renamer.specs.Answers.{answer_to, program_text};
 ghost use Rattle.renamer.specs.Codes.{end_of};
-ghost use Rattle.renamer.specs.Meaning.{WritesText, GivesAnswer, Ends, Means, IsGoodInput, IsOrMemory, end_for};
+ghost use Rattle.renamer.specs.Meaning.{WritesText, GivesAnswer, Ends, Means, IsGoodInput, IsOrMemory, end_due, end_for};
 ghost use Rattle.renamer.specs.Requests.{Asked, asked_by, request_of};
 
 use crate::refusal::RequestError;
@@ -52,6 +53,7 @@ fn answer_request<S: Source, K: Sink>(
     out: &mut K,
 ) -> Result<(), RequestError>
     ensures ends { Ends (asked_by request.now) (source_call S.left S.faults source.old source.new) (sink_call K.held K.faults out.old out.new) result }
+    ensures failing { FaultsEnd (source_call S.left S.faults source.old source.new) (sink_call K.held K.faults out.old out.new) (end_due result) }
     ensures complete { (input : List ℕ) (program : Tree) → S.left source.old ≡ Some input → Stands input program → IfErr result IsGoodInput }
 {
     let program = read_program_from(alloc, source)?;
@@ -72,6 +74,7 @@ pub fn run_rename<S: Source, K: Sink, E: Sink>(
 ) -> RenameStatus
     ensures means { Means (source_call S.left S.faults source.old source.new) (sink_call K.held K.faults out.old out.new)
         (sink_call E.held E.faults errs.old errs.new) words.now result }
+    ensures failing { FaultsEnd (source_call S.left S.faults source.old source.new) (sink_call K.held K.faults out.old out.new) (end_of result) }
     // Where no end fails and the input stands for a program, it is renamed where that is not refused, but for want of memory.
     ensures complete { (asked : Asked) → request_of words.now ≡ Some asked
         → (clear : IsClear (source_call S.left S.faults source.old source.new) (sink_call K.held K.faults out.old out.new))

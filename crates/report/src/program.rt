@@ -5,6 +5,7 @@ ghost use Rattle.generated_tree.specs.Generated.{generated, most_functions};
 ghost use Rattle.program_ends.specs.Calls.{source_call, sink_call};
 ghost use Rattle.program_ends.specs.Completeness.{IsNotRefused, IsDoneOrMemory, IsUsageOrMemory};
 ghost use Rattle.program_ends.specs.Ending.{TellsEnd};
+ghost use Rattle.program_ends.specs.Faults.{FaultsEnd, end_due};
 ghost use Rattle.program_ends.specs.Reads.{Stands};
 ghost use Rattle.report_answers.specs.Codes.{end_of};
 ghost use Rattle.report.specs.Meaning.{GivesAnswer, Ends, Means, IsClearFor};
@@ -55,6 +56,7 @@ fn answer_read<S: Source, K: Sink>(
 ) -> Result<ReportStatus, ReportError>
     requires { request.make ≡ None }
     ensures ends { Ends request (source_call S.left S.faults source.old source.new) (sink_call K.held K.faults out.old out.new) result }
+    ensures failing { FaultsEnd (source_call S.left S.faults source.old source.new) (sink_call K.held K.faults out.old out.new) (end_due end_of result) }
     ensures complete { (input : List ℕ) (program : Tree) → S.left source.old ≡ Some input → Stands input program → IfErr result IsNotRefused }
 {
     let program = read_program_from(alloc, source)?;
@@ -84,6 +86,7 @@ fn answer_request<S: Source, K: Sink>(
 ) -> Result<ReportStatus, ReportError>
     requires { IfSome request.make (λ functions. functions ≤ most_functions) }
     ensures ends { Ends request (source_call S.left S.faults source.old source.new) (sink_call K.held K.faults out.old out.new) result }
+    ensures failing { FaultsEnd (source_call S.left S.faults source.old source.new) (sink_call K.held K.faults out.old out.new) (end_due end_of result) }
     ensures complete { request.make ≡ None → (input : List ℕ) (program : Tree) → S.left source.old ≡ Some input → Stands input program → IfErr result IsNotRefused }
 {
     match request.make {
@@ -115,6 +118,7 @@ pub fn run<S: Source, K: Sink, E: Sink>(
 ) -> ReportStatus
     ensures means { Means (source_call S.left S.faults source.old source.new) (sink_call K.held K.faults out.old out.new)
         (sink_call E.held E.faults errs.old errs.new) words.now result }
+    ensures failing { FaultsEnd (source_call S.left S.faults source.old source.new) (sink_call K.held K.faults out.old out.new) (end_of result) }
     ensures complete { IsClearFor (request_of words.now) (source_call S.left S.faults source.old source.new)
         (sink_call K.held K.faults out.old out.new) → IsDoneOrMemory (end_of result) }
     ensures usage { request_of words.now ≡ None → IsUsageOrMemory (end_of result) }

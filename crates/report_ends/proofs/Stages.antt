@@ -3,27 +3,27 @@ use Rattle.std.proofs.Common.{◌≡◌, ℕ, ◌+◌, ◌<◌, ◌≤◌, List,
 use Rattle.std.specs.Result.{IsErrAnd}
 use Rattle.report_ends.specs.Causes.{Rose}
 use Rattle.report_ends.specs.declared.error.ReportError.{ReportError}
-use Rattle.report_ends.specs.declared.error.ReportError.TheVariants.{Read, Write, TooLong, Memory, Tree}
-use Rattle.report_ends.specs.Streams.{WriteCause, Writes, PartWritten, numbered_text}
+use Rattle.report_ends.specs.declared.error.ReportError.TheVariants.{Memory}
+use Rattle.report_ends.specs.Streams.{WriteCause, WriteKeeps, Writes, PartWritten, numbered_text}
 use Rattle.report_ends.proofs.Growth.{wrote_nothing, wrote_then, wrote_prefix, wrote_whole}
 
-later_cause : (before mid now : ℕ) (error : ReportError) → before ≤ mid → WriteCause (Rose mid now) error → WriteCause (Rose before now) error
-later_cause before mid now Read le cause = cause
-later_cause before mid now Write le cause = omega arith
-later_cause before mid now TooLong le cause = cause
-later_cause before mid now Memory le cause = cause
-later_cause before mid now (Tree e) le cause = cause
+kept_cause : (before mid now : ℕ) (error : ReportError) → mid ≡ before → WriteCause (Rose mid now) error → WriteCause (Rose before now) error
+kept_cause before mid now error kept cause = subst (λ n. WriteCause (Rose n now) error) kept cause
+
+-- two steps of which neither was a fault, or only the last one
+kept_then : (before mid now : ℕ) (result : Result Unit ReportError) → mid ≡ before → WriteKeeps (now ≡ mid) result → WriteKeeps (now ≡ before) result
+kept_then before mid now result kept last = subst (λ n. WriteKeeps (now ≡ n) result) kept last
 
 module _ {K : Type 0} (held : K → Option (List ℕ)) (faults : K → ℕ) where
   -- nothing yet
   pub writing_begins : (a : K) (text : List ℕ) → PartWritten held faults a a text text
-  writing_begins a text = record { written = wrote_nothing (held a) text; later = omega arith }
+  writing_begins a text = record { written = wrote_nothing (held a) text; kept = refl }
 
   -- a call wrote the next line
   pub writing_goes_on : (a b c : K) (line rest old_rest text : List ℕ) (u : Unit) → PartWritten held faults a b old_rest text → Writes held faults b c line (Ok u) → line ++ rest ≡ old_rest → PartWritten held faults a c rest text
   writing_goes_on a b c line rest old_rest text u before call split = record {
     written = wrote_then (held a) (held b) (held c) line rest old_rest text before.written call.whole split;
-    later = omega (arith, before.later, call.later);
+    kept = call.kept ∙ before.kept;
   }
 
   -- a call failed at the next line
@@ -32,8 +32,8 @@ module _ {K : Type 0} (held : K → Option (List ℕ)) (faults : K → ℕ) wher
   writing_fails a b c line rest old_rest text error (Err told) before call split same = record {
     whole = tt;
     part = wrote_prefix (held a) (held b) (held c) line rest old_rest text before.written call.part split;
-    cause = subst (WriteCause (Rose (faults a) (faults c))) (sym same) (later_cause (faults a) (faults b) (faults c) error before.later call.cause);
-    later = omega (arith, before.later, call.later);
+    cause = subst (WriteCause (Rose (faults a) (faults c))) (sym same) (kept_cause (faults a) (faults b) (faults c) error before.kept call.cause);
+    kept = subst (λ e. WriteKeeps (faults c ≡ faults a) (Err e)) (sym same) (kept_then (faults a) (faults b) (faults c) (Err error) before.kept call.kept);
   }
   writing_fails a b c line rest old_rest text error (Ok u) before call split same = absurd same
 
@@ -43,13 +43,13 @@ module _ {K : Type 0} (held : K → Option (List ℕ)) (faults : K → ℕ) wher
     whole = tt;
     part = (rest, before.written);
     cause = subst (WriteCause (Rose (faults a) (faults b))) (sym same) tt;
-    later = before.later;
+    kept = subst (λ e. WriteKeeps (faults b ≡ faults a) (Err e)) (sym same) before.kept;
   }
   writing_lacks_memory a b rest text (Ok u) before same = absurd same
 
   -- the rest is empty
   pub writing_ends : (a b : K) (text : List ℕ) (u : Unit) → PartWritten held faults a b [] text → Writes held faults a b text (Ok u)
-  writing_ends a b text u before = record { whole = wrote_whole (held a) (held b) text before.written; part = tt; cause = tt; later = before.later }
+  writing_ends a b text u before = record { whole = wrote_whole (held a) (held b) text before.written; part = tt; cause = tt; kept = before.kept }
 
   -- the last of several texts
   pub writes_last : (a b c : K) (line text : List ℕ) (result : Result Unit ReportError) → PartWritten held faults a b line text → Writes held faults b c line result → Writes held faults a c text result

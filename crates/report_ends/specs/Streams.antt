@@ -1,5 +1,5 @@
 -- What whole inputs and texts do to the bytes that a source has left and a sink holds, where these tell them.
-use Rattle.std.specs.Prelude.{◌+◌, ◌∷◌, ◌++◌, ◌≡◌, ℕ, ◌<◌, ◌≤◌, List, [], length, ⊤, None, Some, Option, Result, OnOk, OnErr, IfErr}
+use Rattle.std.specs.Prelude.{◌+◌, ◌∷◌, ◌++◌, ◌≡◌, ℕ, ◌<◌, ◌≤◌, List, [], length, ⊤, None, Some, Option, Result, Err, OnOk, OnErr, IfErr}
 use Rattle.report_ends.specs.Causes.{Rose}
 use Rattle.report_ends.specs.declared.error.ReportError.{ReportError}
 use Rattle.report_ends.specs.declared.error.ReportError.TheVariants.{Read, Write, TooLong, Memory}
@@ -43,19 +43,29 @@ WriteCause rose Write = rose
 WriteCause rose Memory = ⊤
 WriteCause rose error = ⊥
 
--- At `Ok` the sink has taken the text, at `Err` a prefix of it, and an error has its cause.
+-- the count of faults is as it was, unless a read failed
+abbrev pub ReadKeeps : {T : Type 0} → Type 0 → Result T ReportError → Type 0
+ReadKeeps kept (Err Read) = ⊤
+ReadKeeps kept other = kept
+
+-- the count of faults is as it was, unless a write failed
+abbrev pub WriteKeeps : Type 0 → Result Unit ReportError → Type 0
+WriteKeeps kept (Err Write) = ⊤
+WriteKeeps kept other = kept
+
+-- At `Ok` the sink has taken the text, at `Err` a prefix of it, an error has its cause, and a fault is told as one.
 pub record Writes {K : Type 0} (held : K → Option (List ℕ)) (faults : K → ℕ) (old new : K) (text : List ℕ) (result : Result Unit ReportError) : Type 0 where
   pub whole : OnOk result (Appends (held old) (held new) text)
   pub part : OnErr result (AppendsPrefix (held old) (held new) text)
   pub cause : IfErr result (WriteCause (Rose (faults old) (faults new)))
-  pub later : faults old ≤ faults new
+  pub kept : WriteKeeps (faults new ≡ faults old) result
 
 -- the texts of the items, one after the other, each with the item's number
 abbrev pub numbered_text : {X : Type 0} → (ℕ → X → List ℕ) → ℕ → List X → List ℕ
 numbered_text line number [] = []
 numbered_text line number (x ∷ xs) = line number x ++ numbered_text line (number + 1) xs
 
--- The sink has taken a part of the text, and this is the rest of it.
+-- The sink has taken a part of the text, this is the rest of it, and no write failed.
 pub record PartWritten {K : Type 0} (held : K → Option (List ℕ)) (faults : K → ℕ) (old new : K) (rest text : List ℕ) : Type 0 where
   pub written : HasWritten (held old) (held new) rest text
-  pub later : faults old ≤ faults new
+  pub kept : faults new ≡ faults old

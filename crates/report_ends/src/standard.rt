@@ -1,5 +1,5 @@
 // Ends over std's readers and writers, as standard input, output and error, which count their faults.
-ghost use Rattle.std.specs.Prelude.{◌≡◌, ◌≤◌, OnErr};
+ghost use Rattle.std.specs.Prelude.{◌≡◌, ◌≤◌, OnOk, OnErr};
 ghost use Rattle.std.specs.Io.KnownBytes.{Keeps};
 ghost use Rattle.report_ends.specs.Causes.{Rose};
 
@@ -61,6 +61,7 @@ impl<W: Write> Writing<W> {
     pub fn flush(&mut self) -> Result<(), WriteFault>
         ensures bytes { Keeps (W.contents self.old.writer) (W.contents self.new.writer) }
         ensures cause { OnErr result (Rose self.old.faults self.new.faults) }
+        ensures kept { OnOk result (self.new.faults ≡ self.old.faults) }
         ensures later { self.old.faults ≤ self.new.faults }
     {
         match self.writer.flush() {

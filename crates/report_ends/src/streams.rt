@@ -1,7 +1,7 @@
 // Whole inputs and whole texts, over any source and any sink.
-ghost use Rattle.std.specs.Prelude.{IfOk, OnOk, IfErr, ◌≡◌, ◌≤◌};
+ghost use Rattle.std.specs.Prelude.{IfOk, OnOk, IfErr, ◌≡◌};
 ghost use Rattle.report_ends.specs.Causes.{Rose};
-ghost use Rattle.report_ends.specs.Streams.{ReadCause, IsReadWhole, HadMoreThan, HadAtMost, Writes};
+ghost use Rattle.report_ends.specs.Streams.{ReadCause, ReadKeeps, IsReadWhole, HadMoreThan, HadAtMost, Writes};
 
 use crate::{ReportError, Sink, Source};
 use std::alloc::Global;
@@ -18,7 +18,7 @@ pub fn read_input<S: Source>(alloc: Global, source: &mut S) -> Result<Vec<u8>, R
     ensures whole { IfOk result (λ bytes. IsReadWhole (S.left source.old) (S.left source.new) bytes.items) }
     ensures fits { OnOk result (HadAtMost INPUT_LIMIT (S.left source.old)) }
     ensures cause { IfErr result (ReadCause (Rose (S.faults source.old) (S.faults source.new)) (HadMoreThan INPUT_LIMIT (S.left source.old))) }
-    ensures later { S.faults source.old ≤ S.faults source.new }
+    ensures kept { ReadKeeps (S.faults source.new ≡ S.faults source.old) result }
 {
     let mut bytes = Vec::new(alloc);
     let mut piece = [0u8; PIECE];

@@ -1,5 +1,5 @@
 -- Requests and answers as bytes.
-use Rattle.std.specs.Prelude.{◌≡◌, ◌⊎◌, ℕ, List, [], ◌++◌, length, map, String, string_bytes}
+use Rattle.std.specs.Prelude.{◌≡◌, ◌⊎◌, ◌+◌, ◌<◌, ◌≤◌, ℕ, zero, suc, List, [], ◌++◌, length, map, String, string_bytes}
 use Rattle.std.specs.Int.{w64, from_le_bytes, to_le_bytes}
 use Rattle.std.specs.Str.{IsUtf8}
 use Rattle.std.specs.Str.Lines.{lines}
@@ -17,6 +17,25 @@ pub record IsRequest (bytes text input : List ℕ) : Type 0 where
   pub input_size : List ℕ
   pub input_length : IsNumber input_size (length input)
   pub whole : text_size ++ (input_size ++ (text ++ input)) ≡ bytes
+
+-- these bytes are a part of a request: not none, and where they begin with two numbers, fewer stand behind these than both say
+pub record IsPart (bytes : List ℕ) : Type 0 where
+  pub some : 0 < length bytes
+  pub short : (text_size input_size more : List ℕ) (text_length input_length : ℕ) → IsNumber text_size text_length → IsNumber input_size input_length → bytes ≡ text_size ++ (input_size ++ more) → length more < text_length + input_length
+
+-- a request that may be answered: its words are UTF-8, and neither these nor its input is too long
+pub record IsWhole (bytes : List ℕ) : Type 0 where
+  pub text : List ℕ
+  pub input : List ℕ
+  pub request : IsRequest bytes text input
+  pub utf8 : IsUtf8 text
+  pub text_fits : length text ≤ 67108864
+  pub input_fits : length input ≤ 67108864
+
+-- so many requests that may be answered, one behind the other
+abbrev pub AreWhole : ℕ → List ℕ → Type 0
+AreWhole zero bytes = bytes ≡ []
+AreWhole (suc n) bytes = (first : List ℕ) × (rest : List ℕ) × IsWhole first × AreWhole n rest × (bytes ≡ first ++ rest)
 
 -- what is answered to a request
 pub record Answer : Type 0 where

@@ -1,10 +1,11 @@
 -- What it is to answer requests one behind the other.
-use Rattle.std.specs.Prelude.{◌≡◌, ℕ, zero, suc, List, [], ◌++◌, Option, Some, None, String}
+use Rattle.std.specs.Prelude.{◌≡◌, ◌-◌, ◌^◌, ℕ, zero, suc, List, [], ◌++◌, Option, Some, None, String}
 use Rattle.std.specs.Io.KnownBytes.{Appends, Consumes}
 use Rattle.std.specs.declared.alloc.Global.{Global}
 use Rattle.report_ends.specs.Streams.{AppendsPrefix}
-use Rattle.serving.specs.Requests.{Answer, IsAnswered, MayBeAnswer}
-use Rattle.serving.specs.Reads.{IsDone}
+use Rattle.std.specs.Str.{IsUtf8}
+use Rattle.serving.specs.Requests.{Answer, IsRequest, IsAnswered, MayBeAnswer}
+use Rattle.serving.specs.Reads.{IsDone, IsCut, IsTooLong}
 use Rattle.serving.specs.declared.fault.ServeFault.{ServeFault}
 use Rattle.serving.specs.declared.fault.ServeFault.TheVariants as fault
 
@@ -54,16 +55,42 @@ pub record ServedAll (Answers : List (String Global) → List ℕ → Answer →
   pub served : HasServed Answers left between held held_then
   pub done : IsDone between left_then
 
--- the first requests of the input are answered, and of the next answer the sink has got a prefix at most
-pub record ServedSome (Answers : List (String Global) → List ℕ → Answer → Type 0) (left held held_then : Option (List ℕ)) : Type 0 where
+-- why a request that was read isn't answered: its words aren't UTF-8, or memory is wanting
+abbrev pub AnswerCause : (text : List ℕ) → ServeFault → Type 0
+AnswerCause text fault.Words = ¬ IsUtf8 text
+AnswerCause text fault.Memory = Unit {0}
+AnswerCause text other = ⊥
+
+-- why an answer isn't written: the sink failed, or memory is wanting
+abbrev pub OfferCause : (failed : Type 0) → ServeFault → Type 0
+OfferCause failed fault.Write = failed
+OfferCause failed fault.Memory = Unit {0}
+OfferCause failed other = ⊥
+
+-- the source has lost a request whose words aren't UTF-8
+pub record HasNoWords (left left_then : Option (List ℕ)) : Type 0 where
+  pub asked : List ℕ
+  pub text : List ℕ
+  pub input : List ℕ
+  pub request : IsRequest asked text input
+  pub read : Consumes left left_then asked
+  pub other : ¬ IsUtf8 text
+
+-- why the next request isn't answered: the source or the sink failed, the input ends within the request, it is too long, its words aren't
+-- UTF-8, it is one too many, or memory is wanting
+abbrev pub FaultCause : (read_failed write_failed many : Type 0) (left left_then : Option (List ℕ)) → ServeFault → Type 0
+FaultCause read_failed write_failed many left left_then fault.Read = read_failed
+FaultCause read_failed write_failed many left left_then fault.Write = write_failed
+FaultCause read_failed write_failed many left left_then fault.Cut = IsCut left left_then
+FaultCause read_failed write_failed many left left_then fault.TooLong = IsTooLong left left_then
+FaultCause read_failed write_failed many left left_then fault.Words = HasNoWords left left_then
+FaultCause read_failed write_failed many left left_then fault.TooMany = many
+FaultCause read_failed write_failed many left left_then fault.Memory = Unit {0}
+
+-- the first requests of the input are answered, of the next answer the sink has got a prefix at most, and this is why
+pub record ServedSome (Answers : List (String Global) → List ℕ → Answer → Type 0) (read_failed write_failed : Type 0) (left left_then held held_then : Option (List ℕ)) (why : ServeFault) : Type 0 where
   pub between : Option (List ℕ)
   pub held_between : Option (List ℕ)
   pub served : HasServed Answers left between held held_between
   pub part : TookPart Answers held_between held_then
-
--- what may be told of an end: the source failed, the sink failed, the input ends within a request; the rest is free
-abbrev pub FaultCause : Type 0 → Type 0 → Type 0 → ServeFault → Type 0
-FaultCause read_failed write_failed cut fault.Read = read_failed
-FaultCause read_failed write_failed cut fault.Write = write_failed
-FaultCause read_failed write_failed cut fault.Cut = cut
-FaultCause read_failed write_failed cut other = Unit {0}
+  pub cause : FaultCause read_failed write_failed (served.answered.count ≡ 2 ^ 32 - 1) between left_then why

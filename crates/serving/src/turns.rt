@@ -1,12 +1,11 @@
 //! Answers requests, one behind the other.
-ghost use Rattle.std.specs.Prelude.{◌≡◌, ◌≤◌, [], IfOk, IfErr, OnOk, OnErr};
+ghost use Rattle.std.specs.Prelude.{◌≡◌, ◌<◌, ◌-◌, ◌^◌, ℕ, List, [], Some, IfOk, IfErr, OnOk, OnErr};
 ghost use Rattle.report_ends.specs.Causes.{Rose};
 ghost use Rattle.report_ends.specs.Memory.{sure_held};
 ghost use Rattle.report_ends.specs.Streams.{AppendsPrefix};
 ghost use Rattle.std.specs.Io.KnownBytes.{Appends};
-ghost use Rattle.serving.specs.Requests.{Answer, IsAnswerTo, answer_bytes};
-ghost use Rattle.serving.specs.Reads.{IsCut};
-ghost use Rattle.serving.specs.Serving.{Turn, TookPart, ServedAll, ServedSome, FaultCause};
+ghost use Rattle.serving.specs.Requests.{Answer, IsAnswerTo, AreWhole, answer_bytes};
+ghost use Rattle.serving.specs.Serving.{Turn, TookPart, ServedAll, ServedSome, AnswerCause, OfferCause, FaultCause};
 
 use crate::answering::Answering;
 use crate::fault::ServeFault;
@@ -29,7 +28,7 @@ fn answer_on<A: Answering>(
     requires out_empty { sure_held out.old ≡ [] }
     requires errs_empty { sure_held errs.old ≡ [] }
     ensures answer { IfOk result (λ status. IsAnswerTo (A.Answers answering.now) request.text.items request.input.items record { status = status; out = sure_held out.new; errs = sure_held errs.new }) }
-    ensures fault { IfErr result (FaultCause ⊥ ⊥ ⊥) }
+    ensures fault { IfErr result (AnswerCause request.text.items) }
 {
     let Request { text, input } = request;
     let Ok(told) = str::from_utf8(&text) else {
@@ -59,7 +58,7 @@ fn answer_of<A: Answering>(
     request: Request,
 ) -> Result<Vec<u8>, ServeFault>
     ensures answer { IfOk result (λ bytes. (answer : Answer) × IsAnswerTo (A.Answers answering.now) request.text.items request.input.items answer × (answer_bytes answer ≡ bytes.items)) }
-    ensures fault { IfErr result (FaultCause ⊥ ⊥ ⊥) }
+    ensures fault { IfErr result (AnswerCause request.text.items) }
 {
     let mut out = SureSink::new(alloc);
     let mut errs = SureSink::new(alloc);
@@ -72,8 +71,8 @@ fn answer_of<A: Answering>(
 fn offer<K: Sink>(bytes: &[u8], out: &mut K) -> Result<(), ServeFault>
     ensures whole { OnOk result (Appends (K.held out.old) (K.held out.new) bytes.now) }
     ensures part { OnErr result (AppendsPrefix (K.held out.old) (K.held out.new) bytes.now) }
-    ensures fault { IfErr result (FaultCause ⊥ (Rose (K.faults out.old) (K.faults out.new)) ⊥) }
-    ensures later { K.faults out.old ≤ K.faults out.new }
+    ensures fault { IfErr result (OfferCause (Rose (K.faults out.old) (K.faults out.new))) }
+    ensures kept { OnOk result (K.faults out.new ≡ K.faults out.old) }
 {
     match write_whole(bytes, out) {
         Ok(()) => Ok(()),
@@ -91,9 +90,9 @@ fn serve_one<S: Source, K: Sink, A: Answering>(
 ) -> Result<Option<()>, ServeFault>
     ensures turn { IfOk result (Turn (A.Answers answering.now) (S.left source.old) (S.left source.new) (K.held out.old) (K.held out.new)) }
     ensures part { OnErr result (TookPart (A.Answers answering.now) (K.held out.old) (K.held out.new)) }
-    ensures fault { IfErr result (FaultCause (Rose (S.faults source.old) (S.faults source.new)) (Rose (K.faults out.old) (K.faults out.new)) (IsCut (S.left source.old) (S.left source.new))) }
-    ensures read_later { S.faults source.old ≤ S.faults source.new }
-    ensures write_later { K.faults out.old ≤ K.faults out.new }
+    ensures fault { IfErr result (FaultCause (Rose (S.faults source.old) (S.faults source.new)) (Rose (K.faults out.old) (K.faults out.new)) ⊥ (S.left source.old) (S.left source.new)) }
+    ensures read_kept { OnOk result (S.faults source.new ≡ S.faults source.old) }
+    ensures write_kept { OnOk result (K.faults out.new ≡ K.faults out.old) }
 {
     let Some(request) = read_request(alloc, source)? else {
         return Ok(None);
@@ -118,8 +117,11 @@ pub fn serve<S: Source, K: Sink, A: Answering>(
     out: &mut K,
 ) -> Result<(), ServeFault>
     ensures served { OnOk result (ServedAll (A.Answers answering.now) (S.left source.old) (S.left source.new) (K.held out.old) (K.held out.new)) }
-    ensures begun { OnErr result (ServedSome (A.Answers answering.now) (S.left source.old) (K.held out.old) (K.held out.new)) }
-    ensures fault { IfErr result (FaultCause (Rose (S.faults source.old) (S.faults source.new)) (Rose (K.faults out.old) (K.faults out.new)) (IsCut (S.left source.old) (S.left source.new))) }
+    ensures stopped { IfErr result (ServedSome (A.Answers answering.now) (Rose (S.faults source.old) (S.faults source.new)) (Rose (K.faults out.old) (K.faults out.new))
+        (S.left source.old) (S.left source.new) (K.held out.old) (K.held out.new)) }
+    // Where the input is fewer whole requests than `MOST_REQUESTS`, and no end fails, all are answered, but for want of memory.
+    ensures complete { (count : ℕ) (input : List ℕ) → count < 2 ^ 32 - 1 → S.left source.old ≡ Some input → AreWhole count input
+        → ¬ (Rose (S.faults source.old) (S.faults source.new)) → ¬ (Rose (K.faults out.old) (K.faults out.new)) → IfErr result (λ fault. fault ≡ ServeFault.Memory) }
 {
     for _ in 0..MOST_REQUESTS {
         let Some(()) = serve_one(alloc, answering, source, out)? else {

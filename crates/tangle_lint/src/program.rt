@@ -6,6 +6,7 @@ ghost use Rattle.program_ends.specs.Answering.{WritesAll};
 ghost use Rattle.program_ends.specs.Calls.{source_call, sink_call};
 ghost use Rattle.program_ends.specs.Completeness.{IsClear, IsNotRefused, IsDoneOrMemory, IsUsageOrMemory};
 ghost use Rattle.program_ends.specs.Ending.{TellsEnd};
+ghost use Rattle.program_ends.specs.Faults.{FaultsEnd, end_due};
 ghost use Rattle.program_ends.specs.Reads.{Stands};
 ghost use Rattle.program_ends.specs.FindingEnds.{end_of};
 ghost use Rattle.tangle_lint.specs.Codes.{status_for};
@@ -92,6 +93,7 @@ fn answer_input<S: Source, K: Sink>(
 ) -> Result<TangledStatus, ReportError>
     requires { AreNone words.now }
     ensures ends { Ends words.now (source_call S.left S.faults source.old source.new) (sink_call K.held K.faults out.old out.new) result }
+    ensures failing { FaultsEnd (source_call S.left S.faults source.old source.new) (sink_call K.held K.faults out.old out.new) (end_due end_of result) }
     ensures complete { (input : List ℕ) (program : Tree) → S.left source.old ≡ Some input → Stands input program → IfErr result IsNotRefused }
 {
     let program = read_program_from(alloc, source)?;
@@ -120,6 +122,7 @@ pub fn run_tangled<S: Source, K: Sink, E: Sink>(
 ) -> TangledStatus
     ensures means { Means (source_call S.left S.faults source.old source.new) (sink_call K.held K.faults out.old out.new)
         (sink_call E.held E.faults errs.old errs.new) words.now result }
+    ensures failing { FaultsEnd (source_call S.left S.faults source.old source.new) (sink_call K.held K.faults out.old out.new) (end_of result) }
     ensures complete { AreNone words.now → IsClear (source_call S.left S.faults source.old source.new)
         (sink_call K.held K.faults out.old out.new) → IsDoneOrMemory (end_of result) }
     ensures usage { (AreNone words.now → ⊥) → IsUsageOrMemory (end_of result) }

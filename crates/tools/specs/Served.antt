@@ -4,12 +4,14 @@ use Rattle.std.specs.declared.alloc.Global.{Global}
 use Rattle.program_ends.specs.Calls.{SourceCall, SinkCall}
 use Rattle.program_ends.specs.Codes.{code_of}
 use Rattle.program_ends.specs.Ending.{TellsEnd}
-use Rattle.program_ends.specs.FindingEnds.{end_of}
+use Rattle.program_ends.specs.FindingEnds as finding
 use Rattle.program_ends.specs.declared.finding.FindingStatus.{FindingStatus}
 use Rattle.program_ends.specs.declared.stops.Stop.TheVariants as stop
 use Rattle.serving.specs.Requests.{Answer}
+use Rattle.tools.specs.Ends.{end_of}
 use Rattle.tools.specs.Named.{tool_named}
 use Rattle.tools.specs.Runs.{IsRunOf}
+use Rattle.tools.specs.declared.status.ToolStatus.{ToolStatus}
 use Rattle.tools.specs.declared.tool.Tool.{Tool}
 
 -- the line on a first word that names no tool
@@ -26,12 +28,12 @@ sink_of text = record { held = Some []; held_then = Some text; faults = 0; fault
 
 -- words that name no tool are refused, or memory is wanting for the line on that
 abbrev pub IsRefused : Answer → Type 0
-IsRefused answer = (status : FindingStatus) × TellsEnd (sink_of answer.errs) usage_line stop.Usage (end_of status) × (answer.status ≡ code_of (end_of status)) × (answer.out ≡ [])
+IsRefused answer = (status : FindingStatus) × TellsEnd (sink_of answer.errs) usage_line stop.Usage (finding.end_of status) × (answer.status ≡ code_of (finding.end_of status)) × (answer.out ≡ [])
 
 -- the tool of the name answers, or there is none
 abbrev pub AnswersAs : Option Tool → List (String Global) → List ℕ → Answer → Type 0
 AnswersAs None words input answer = IsRefused answer
-AnswersAs (Some tool) words input answer = (left : List ℕ) × IsRunOf tool (source_of input left) (sink_of answer.out) (sink_of answer.errs) words answer.status
+AnswersAs (Some tool) words input answer = (left : List ℕ) × (status : ToolStatus) × IsRunOf tool (source_of input left) (sink_of answer.out) (sink_of answer.errs) words status × (answer.status ≡ code_of (end_of status))
 
 -- the answer to words and an input
 abbrev pub ToolAnswers : List (String Global) → List ℕ → Answer → Type 0

@@ -29,7 +29,9 @@ impl Answering for Tools {
             return status.code();
         };
         match Tool::named(name) {
-            Some(tool) => tool.run(alloc, rest, &mut SureSource::new(input), out, errs),
+            Some(tool) => tool
+                .run(alloc, rest, &mut SureSource::new(input), out, errs)
+                .code(),
             None => {
                 let status: FindingStatus = refuse(USAGE, errs);
                 status.code()

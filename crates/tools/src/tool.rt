@@ -1,12 +1,17 @@
 //! The tools by their names.
 ghost use Rattle.std.specs.Prelude.{◌≡◌};
 ghost use Rattle.program_ends.specs.Calls.{source_call, sink_call};
+ghost use Rattle.program_ends.specs.Running.{EndsRun};
+ghost use Rattle.tools.specs.Ends.{end_of};
 ghost use Rattle.tools.specs.Named.{tool_named};
-ghost use Rattle.tools.specs.Runs.{IsRunOf};
+ghost use Rattle.tools.specs.Runs.{IsRunOf, IsGivenBy};
+ghost use Rattle.tools.specs.Usages.{usage_of};
 
+use crate::status::ToolStatus;
 use mangler_program::run_mangle;
 use module_linker::run_link;
 use name_lint::run_names;
+use program_ends::run_over_standard_ends;
 use renamer::run_rename;
 use report::run;
 use report_ends::{Sink, Source};
@@ -56,7 +61,21 @@ impl Tool {
         }
     }
 
-    /// Does all that the tool does with the words behind its name, and gives its exit status.
+    /// The line on words that the tool refuses.
+    pub fn usage(self) -> &'static str
+        ensures { result.now ≡ usage_of self }
+    {
+        match self {
+            Tool::Report => report::USAGE,
+            Tool::Renamer => renamer::USAGE,
+            Tool::Mangler => mangler_program::USAGE,
+            Tool::NameLint => name_lint::USAGE,
+            Tool::TangledNames => tangle_lint::USAGE,
+            Tool::ModuleLinker => module_linker::USAGE,
+        }
+    }
+
+    /// Does all that the tool does with the words behind its name, and gives its status.
     pub fn run<S: Source, K: Sink, E: Sink>(
         self,
         alloc: Global,
@@ -64,17 +83,26 @@ impl Tool {
         source: &mut S,
         out: &mut K,
         errs: &mut E,
-    ) -> u8
+    ) -> ToolStatus
         ensures { IsRunOf self (source_call S.left S.faults source.old source.new) (sink_call K.held K.faults out.old out.new)
             (sink_call E.held E.faults errs.old errs.new) words.now result }
     {
         match self {
-            Tool::Report => run(alloc, words, source, out, errs).code(),
-            Tool::Renamer => run_rename(alloc, words, source, out, errs).code(),
-            Tool::Mangler => run_mangle(alloc, words, source, out, errs).code(),
-            Tool::NameLint => run_names(alloc, words, source, out, errs).code(),
-            Tool::TangledNames => run_tangled(alloc, words, source, out, errs).code(),
-            Tool::ModuleLinker => run_link(alloc, words, source, out, errs).code(),
+            Tool::Report => ToolStatus::Report(run(alloc, words, source, out, errs)),
+            Tool::Renamer => ToolStatus::Rename(run_rename(alloc, words, source, out, errs)),
+            Tool::Mangler => ToolStatus::Mangle(run_mangle(alloc, words, source, out, errs)),
+            Tool::NameLint => ToolStatus::Finding(run_names(alloc, words, source, out, errs)),
+            Tool::TangledNames => ToolStatus::Finding(run_tangled(alloc, words, source, out, errs)),
+            Tool::ModuleLinker => ToolStatus::Finding(run_link(alloc, words, source, out, errs)),
         }
+    }
+
+    /// Runs the tool over standard input, output and error, on the words behind the first `names`, which name the program and it.
+    pub fn run_over_standard_ends(self, rt: &HostRuntime, names: usize) -> ToolStatus
+        ensures { EndsRun end_of (IsGivenBy self) result }
+    {
+        run_over_standard_ends(rt, names, self.usage(), |alloc, words, source, out, errs| {
+            self.run(alloc, words, source, out, errs)
+        })
     }
 }

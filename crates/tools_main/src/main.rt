@@ -2,18 +2,12 @@
 //! behind the other. They are one program since two compilers make each program whole, whatever stands in it.
 #![tactic(auto)]
 
-use mangler_program::run_mangle;
-use module_linker::run_link;
-use name_lint::run_names;
-use program_ends::{FindingStatus, Status, Stop, refuse, run_over_standard_ends, tell_stop};
-use renamer::run_rename;
-use report::run;
+use program_ends::{FindingStatus, Status, Stop, refuse, tell_stop};
 use report_ends::{Reading, Writing};
 use serving::{ServeFault, serve};
 use std::env::Env;
 use std::process::ExitCode;
 use std::str;
-use tangle_lint::run_tangled;
 use tools::{Tool, Tools};
 
 /// The line on a first word that names no tool.
@@ -42,84 +36,6 @@ fn first_word(rt: &HostRuntime) -> Option<Asked> {
         return Some(Asked::Serve);
     }
     Some(Asked::Run(Tool::named(name)?))
-}
-
-/// Runs the report, and gives its exit status.
-fn tell_report(rt: &HostRuntime) -> u8 {
-    run_over_standard_ends(
-        rt,
-        NAMES,
-        report::USAGE,
-        |alloc, words, source, out, errs| { run(alloc, words, source, out, errs) },
-    )
-    .code()
-}
-
-/// Runs the renamer, and gives its exit status.
-fn rename(rt: &HostRuntime) -> u8 {
-    run_over_standard_ends(
-        rt,
-        NAMES,
-        renamer::USAGE,
-        |alloc, words, source, out, errs| { run_rename(alloc, words, source, out, errs) },
-    )
-    .code()
-}
-
-/// Runs the mangler, and gives its exit status.
-fn mangle(rt: &HostRuntime) -> u8 {
-    run_over_standard_ends(
-        rt,
-        NAMES,
-        mangler_program::USAGE,
-        |alloc, words, source, out, errs| { run_mangle(alloc, words, source, out, errs) },
-    )
-    .code()
-}
-
-/// Runs the lint of names, and gives its exit status.
-fn lint(rt: &HostRuntime) -> u8 {
-    run_over_standard_ends(
-        rt,
-        NAMES,
-        name_lint::USAGE,
-        |alloc, words, source, out, errs| { run_names(alloc, words, source, out, errs) },
-    )
-    .code()
-}
-
-/// Runs the lint of tangled names, and gives its exit status.
-fn find_tangled(rt: &HostRuntime) -> u8 {
-    run_over_standard_ends(
-        rt,
-        NAMES,
-        tangle_lint::USAGE,
-        |alloc, words, source, out, errs| { run_tangled(alloc, words, source, out, errs) },
-    )
-    .code()
-}
-
-/// Runs the linker, and gives its exit status.
-fn link(rt: &HostRuntime) -> u8 {
-    run_over_standard_ends(
-        rt,
-        NAMES,
-        module_linker::USAGE,
-        |alloc, words, source, out, errs| { run_link(alloc, words, source, out, errs) },
-    )
-    .code()
-}
-
-/// Runs a tool, and gives its exit status.
-fn run_tool(rt: &HostRuntime, tool: Tool) -> u8 {
-    match tool {
-        Tool::Report => tell_report(rt),
-        Tool::Renamer => rename(rt),
-        Tool::Mangler => mangle(rt),
-        Tool::NameLint => lint(rt),
-        Tool::TangledNames => find_tangled(rt),
-        Tool::ModuleLinker => link(rt),
-    }
 }
 
 /// The line on what stopped the answers to requests.
@@ -171,7 +87,7 @@ fn refuse_words(rt: &HostRuntime) -> u8 {
 
 fn main(rt: HostRuntime) -> ExitCode {
     let code = match first_word(&rt) {
-        Some(Asked::Run(tool)) => run_tool(&rt, tool),
+        Some(Asked::Run(tool)) => tool.run_over_standard_ends(&rt, NAMES).code(),
         Some(Asked::Serve) => answer_requests(&rt),
         None => refuse_words(&rt),
     };

@@ -1,5 +1,6 @@
-use Rattle.std.proofs.Common.{option_map, refl, sym, ap, ◌∙◌}
+use Rattle.std.proofs.Common.{option_map, refl, sym, ap, ◌∙◌, inl}
 use Rattle.program_ends.proofs.Endings.{usage_ends}
+use Rattle.program_ends.proofs.Faults.{told_failing}
 use Rattle.mangler.specs.Changing.{options_of}
 use Rattle.mangler_program.proofs.Meanings.{means_words, means_answered, means_stopped, answered_done, clear_stopped, asked_not_none, some_not_none}
 use Rattle.mangler_program.proofs.program.run_mangle.Goals as goal
@@ -33,3 +34,9 @@ returns-in-Err-clause-complete g c = λ asked clear. clear_stopped (options_of c
 
 pub returns-in-Err-clause-usage : goal.returns-in-Err-clause-usage
 returns-in-Err-clause-usage g c = λ none. absurd (some_not_none _ (options_of c.in-Some.options) (sym c.read_words.ensures ∙ ap (option_map options_of) c.in-Some.is) none)
+
+pub returns-in_default-clause-failing : goal.returns-in_default-clause-failing
+returns-in_default-clause-failing g c = told_failing _ _ _ _ _ _ (record { reading = inl refl; writing = inl refl }) c.refuse_words.ensures
+
+pub returns-in-Err-clause-failing : goal.returns-in-Err-clause-failing
+returns-in-Err-clause-failing g c = told_failing _ _ _ _ _ _ c.in-Err.ensures.failing c.tell.ensures

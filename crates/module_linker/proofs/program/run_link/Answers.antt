@@ -1,5 +1,6 @@
-use Rattle.std.proofs.Common.{refl}
+use Rattle.std.proofs.Common.{refl, inl}
 use Rattle.program_ends.proofs.Endings.{usage_ends}
+use Rattle.program_ends.proofs.Faults.{told_failing}
 use Rattle.module_linker.proofs.Meanings.{words_there, no_words, means_words, means_failed, clear_failed}
 use Rattle.module_linker.proofs.program.run_link.Goals as goal
 
@@ -17,3 +18,9 @@ returns-in-Err-clause-means g c =
 pub returns-in-Err-clause-complete : goal.returns-in-Err-clause-complete
 returns-in-Err-clause-complete g c = λ asked clear.
     clear_failed _ _ _ c.in-Err.failure c.tell_failure.result clear (c.in-Err.ensures.complete clear.input clear.modules clear.told clear.stands) c.in-Err.ensures.ends c.tell_failure.ensures
+
+pub returns-then-not-is_empty-clause-failing : goal.returns-then-not-is_empty-clause-failing
+returns-then-not-is_empty-clause-failing g c = told_failing _ _ _ _ _ _ (record { reading = inl refl; writing = inl refl }) c.refuse_words.ensures
+
+pub returns-in-Err-clause-failing : goal.returns-in-Err-clause-failing
+returns-in-Err-clause-failing g c = told_failing _ _ _ _ _ _ c.in-Err.ensures.failing c.tell_failure.ensures

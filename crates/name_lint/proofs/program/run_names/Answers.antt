@@ -1,5 +1,6 @@
-use Rattle.std.proofs.Common.{refl}
+use Rattle.std.proofs.Common.{refl, inl}
 use Rattle.program_ends.proofs.Endings.{usage_ends}
+use Rattle.program_ends.proofs.Faults.{told_failing}
 use Rattle.name_lint.proofs.Meanings.{refused_by, means_refused, means_answered, means_stopped, answered_done, clear_stopped}
 use Rattle.name_lint.proofs.program.run_names.Goals as goal
 
@@ -34,3 +35,9 @@ returns-in-Err-clause-complete g c = λ names clear. clear_stopped c.args.words.
 
 pub returns-in-Err-clause-usage : goal.returns-in-Err-clause-usage
 returns-in-Err-clause-usage g c = λ not_names. absurd (not_names (c.are_names.ensures.0 c.if-not-are_names.false))
+
+pub returns-then-not-are_names-clause-failing : goal.returns-then-not-are_names-clause-failing
+returns-then-not-are_names-clause-failing g c = told_failing _ _ _ _ _ _ (record { reading = inl refl; writing = inl refl }) c.refuse_words.ensures
+
+pub returns-in-Err-clause-failing : goal.returns-in-Err-clause-failing
+returns-in-Err-clause-failing g c = told_failing _ _ _ _ _ _ c.in-Err.ensures.failing c.tell.ensures

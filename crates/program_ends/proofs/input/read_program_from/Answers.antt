@@ -1,6 +1,7 @@
 use Rattle.std.proofs.Common.{sym, subst, ◌∙◌}
 use Rattle.program_ends.specs.Reads.{Stands}
 use Rattle.program_ends.proofs.Inputs.{not_read, not_read_no_refusal, found_of, not_found_of, memory_is_no_refusal, input_is}
+use Rattle.program_ends.proofs.Faults.{keeps, keeps_still}
 use Rattle.program_ends.proofs.input.read_program_from.Goals as goal
 
 pub returns-in_err-input-clause-stopped : goal.returns-in_err-input-clause-stopped
@@ -19,3 +20,9 @@ pub returns-clause-complete : goal.returns-clause-complete
 returns-clause-complete g c = λ input program told stands.
     memory_is_no_refusal c.program_in.result
     (c.program_in.ensures.complete program (subst (λ bytes. Stands bytes program) (sym (c.deref.ensures.value ∙ input_is _ _ _ input told c.in_ok-input.ensures.whole)) stands))
+
+pub returns-in_err-input-clause-kept : goal.returns-in_err-input-clause-kept
+returns-in_err-input-clause-kept g c = keeps_still _ c.in_err-input.field-0.0 c.from_residual.result c.in_err-input.ensures.kept c.from_residual.ensures.1
+
+pub returns-clause-kept : goal.returns-clause-kept
+returns-clause-kept g c = keeps _ c.program_in.result c.in_ok-input.ensures.kept

@@ -1,6 +1,6 @@
 use Rattle.std.proofs.Common.{refl}
 use Rattle.renamer.specs.Requests.{asked_by}
-use Rattle.renamer.proofs.Answering.{ends_unfound, unfound_good, gives_ends, gives_good}
+use Rattle.renamer.proofs.Answering.{ends_unfound, unfound_good, unfound_failing, gives_ends, gives_good, gives_failing}
 use Rattle.renamer.proofs.program.answer_request.Goals as goal
 
 pub returns-in_err-program-clause-ends : goal.returns-in_err-program-clause-ends
@@ -14,3 +14,9 @@ returns-clause-ends g c = gives_ends g.K.Sink.held g.K.Sink.faults (asked_by c.a
 
 pub returns-clause-complete : goal.returns-clause-complete
 returns-clause-complete g c = λ input program told stands. gives_good g.K.Sink.held g.K.Sink.faults (asked_by c.args.request.now) c.in_ok-program.program _ _ c.answer-answered.result c.answer-answered.ensures
+
+pub returns-in_err-program-clause-failing : goal.returns-in_err-program-clause-failing
+returns-in_err-program-clause-failing g c = unfound_failing _ _ c.in_err-program.field-0.0 c.from_residual.result refl c.in_err-program.ensures.kept c.from_residual.ensures.1
+
+pub returns-clause-failing : goal.returns-clause-failing
+returns-clause-failing g c = gives_failing g.K.Sink.held g.K.Sink.faults (asked_by c.args.request.now) c.in_ok-program.program _ _ _ c.answer-answered.result c.in_ok-program.ensures.kept c.answer-answered.ensures

@@ -1,8 +1,9 @@
-use Rattle.std.proofs.Common.{option_map, refl, sym, ap, ◌∙◌}
+use Rattle.std.proofs.Common.{option_map, refl, sym, ap, ◌∙◌, inl}
 use Rattle.program_ends.specs.Calls.{sink_call}
 use Rattle.renamer.specs.Requests.{asked_by}
 use Rattle.program_ends.proofs.Endings.{usage_ends}
-use Rattle.renamer.proofs.Statuses.{means_words, means_done, means_error, done_due, error_due, asked_not_none}
+use Rattle.program_ends.proofs.Faults.{told_failing}
+use Rattle.renamer.proofs.Statuses.{means_words, means_done, means_error, done_due, error_due, error_failing, asked_not_none}
 use Rattle.renamer.proofs.program.run_rename.Goals as goal
 
 pub returns-in_default-clause-means : goal.returns-in_default-clause-means
@@ -34,3 +35,9 @@ returns-in-Err-clause-complete g c = λ asked is clear.
 
 pub returns-in-Err-clause-usage : goal.returns-in-Err-clause-usage
 returns-in-Err-clause-usage g c = λ none. absurd (asked_not_none _ (asked_by c.in-Some.request) (sym c.read_words.ensures ∙ ap (option_map asked_by) c.in-Some.is) none)
+
+pub returns-in_default-clause-failing : goal.returns-in_default-clause-failing
+returns-in_default-clause-failing g c = told_failing _ _ _ _ _ _ (record { reading = inl refl; writing = inl refl }) c.refuse_words.ensures
+
+pub returns-in-Err-clause-failing : goal.returns-in-Err-clause-failing
+returns-in-Err-clause-failing g c = error_failing _ _ _ c.in-Err.error _ c.in-Err.ensures.failing c.tell_error.ensures

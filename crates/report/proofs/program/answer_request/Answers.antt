@@ -1,6 +1,7 @@
 use Rattle.std.proofs.Common.{refl, inr, ◌≡◌, None}
 use Rattle.generated_tree.specs.Generated.{generated}
 use Rattle.program_ends.proofs.Answering.{gives_ends, gives_no_refusal}
+use Rattle.program_ends.proofs.Faults.{given_failing}
 use Rattle.report_answers.specs.Codes.{end_of}
 use Rattle.report.proofs.Meanings.{made_about}
 use Rattle.report.specs.Meaning.{IsAbout, Answers}
@@ -16,3 +17,6 @@ returns-in-Some-clause-complete g c = λ read input program told stands. gives_n
 
 pub returns-in-None-clause-complete : goal.returns-in-None-clause-complete
 returns-in-None-clause-complete g c = λ read. c.answer_read.ensures.complete
+
+pub returns-in-Some-clause-failing : goal.returns-in-Some-clause-failing
+returns-in-Some-clause-failing g c = given_failing g.K.Sink.held g.K.Sink.faults _ _ _ end_of (Answers c.args.request) (generated c.in-Some.functions) c.answer_made.result refl c.answer_made.ensures

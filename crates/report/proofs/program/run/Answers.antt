@@ -1,5 +1,6 @@
-use Rattle.std.proofs.Common.{refl, sym, ◌∙◌}
+use Rattle.std.proofs.Common.{refl, sym, ◌∙◌, inl}
 use Rattle.program_ends.proofs.Endings.{usage_ends}
+use Rattle.program_ends.proofs.Faults.{told_failing}
 use Rattle.report.proofs.Meanings.{means_refused, means_answered, means_stopped, answered_done, clear_stopped, none_clear, asked_not_none}
 use Rattle.report.proofs.program.run.Goals as goal
 
@@ -30,3 +31,9 @@ returns-in_default-clause-usage g c = λ none. usage_ends _ _ _ c.refuse_words.e
 
 pub returns-in_default-clause-complete : goal.returns-in_default-clause-complete
 returns-in_default-clause-complete g c = λ clear. absurd (none_clear _ _ _ (sym c.read_words.ensures.request ∙ c.in_default.is) clear)
+
+pub returns-in_default-clause-failing : goal.returns-in_default-clause-failing
+returns-in_default-clause-failing g c = told_failing _ _ _ _ _ _ (record { reading = inl refl; writing = inl refl }) c.refuse_words.ensures
+
+pub returns-in-Err-clause-failing : goal.returns-in-Err-clause-failing
+returns-in-Err-clause-failing g c = told_failing _ _ _ _ _ _ c.in-Err.ensures.failing c.tell.ensures

@@ -1,4 +1,4 @@
-use Rattle.std.proofs.Common.{length, drop, ◌-◌, ◌≤◌}
+use Rattle.std.proofs.Common.{◌≡◌, length, drop, ◌-◌, ◌≤◌}
 use Rattle.report_ends.specs.Streams.{HasWritten}
 use Rattle.report_ends.proofs.streams.write_whole.Given as goal
 
@@ -6,7 +6,7 @@ abbrev pub invariant-loop-taken : goal.invariant-loop-taken
 invariant-loop-taken g l = let held = g.K.Sink.held in let faults = g.K.Sink.faults in record {
   fits : l.taken ≤ length l.piece;
   written : HasWritten (held l.fn.out) (held l.out) (drop l.taken l.piece) l.piece;
-  faults : faults l.fn.out ≤ faults l.out;
+  faults : faults l.out ≡ faults l.fn.out;
 }
 
 abbrev pub decreases-loop-taken : goal.decreases-loop-taken

@@ -1,21 +1,36 @@
-use Rattle.std.proofs.Common.{◌≤◌, subst, arith}
+use Rattle.std.proofs.Common.{subst, ◌∙◌, refl, arith}
 use Rattle.serving.specs.Serving.{Turn}
-use Rattle.serving.proofs.Exchanges.{served_none, served_more, nothing_on_fault, fault_behind, took_nothing}
+use Rattle.serving.proofs.Steps.{stopped_by}
+use Rattle.serving.proofs.Exchanges.{served_none, served_more, served_some, served_most}
+use Rattle.serving.proofs.Wholes.{only_memory}
 use Rattle.serving.proofs.turns.serve.Goals as goal
 
 pub loop-init : goal.loop-init
-loop-init g c = record { served = served_none _ _ _; read_later = omega arith; write_later = omega arith }
-
-pub returns-in_err-serve_one-clause-fault : goal.returns-in_err-serve_one-clause-fault
-returns-in_err-serve_one-clause-fault g c =
-    fault_behind _ _ _ c.loop.invariant.served.asked _ _ _ _ _ _ c.in_err-serve_one.field-0.0 c.from_residual.result c.loop.invariant.served.read c.loop.invariant.read_later c.loop.invariant.write_later c.in_err-serve_one.ensures.fault c.from_residual.ensures.1
+loop-init g c = (served_none _ _ _, refl, refl, refl)
 
 pub loop-preserved : goal.loop-preserved
-loop-preserved g c = record {
-  served = served_more _ _ _ _ _ _ _ c.loop.invariant.served (subst (Turn _ _ _ _ _) c.in-Some.is c.in_ok-serve_one.ensures.turn);
-  read_later = omega (arith, c.loop.invariant.read_later, c.serve_one.ensures.read_later);
-  write_later = omega (arith, c.loop.invariant.write_later, c.serve_one.ensures.write_later);
-}
+loop-preserved g c = (
+  served_more _ _ _ _ _ _ _ c.loop.invariant.0 (subst (Turn _ _ _ _ _) c.in-Some.is c.in_ok-serve_one.ensures.turn),
+  omega (arith, c.loop.invariant.1),
+  c.in_ok-serve_one.ensures.read_kept ∙ c.loop.invariant.2,
+  c.in_ok-serve_one.ensures.write_kept ∙ c.loop.invariant.3,
+)
 
-pub returns-clause-begun : goal.returns-clause-begun
-returns-clause-begun g c = record { between = _; held_between = _; served = c.loop.invariant.served; part = took_nothing _ _ }
+pub returns-in_err-serve_one-clause-stopped : goal.returns-in_err-serve_one-clause-stopped
+returns-in_err-serve_one-clause-stopped g c =
+    stopped_by _ c.in_err-serve_one.field-0.0 c.from_residual.result
+    (served_some _ _ _ _ _ _ _ _ _ _ _ _ _ c.in_err-serve_one.field-0.0 c.loop.invariant.0 c.loop.invariant.2 c.loop.invariant.3 c.in_err-serve_one.ensures.part c.in_err-serve_one.ensures.fault) c.from_residual.ensures.1
+
+pub returns-in_err-serve_one-clause-complete : goal.returns-in_err-serve_one-clause-complete
+returns-in_err-serve_one-clause-complete g c = λ count input few told whole read_holds write_holds.
+    stopped_by _ c.in_err-serve_one.field-0.0 c.from_residual.result
+    (only_memory _ _ _ _ _ _ _ c.in_err-serve_one.field-0.0
+    (served_some _ _ _ _ _ _ _ _ _ _ _ _ _ c.in_err-serve_one.field-0.0 c.loop.invariant.0 c.loop.invariant.2 c.loop.invariant.3 c.in_err-serve_one.ensures.part c.in_err-serve_one.ensures.fault)
+    count input few told whole read_holds write_holds) c.from_residual.ensures.1
+
+pub returns-clause-stopped : goal.returns-clause-stopped
+returns-clause-stopped g c = served_most _ _ _ _ _ _ _ c.loop.invariant.0 (omega (arith, c.loop.invariant.1))
+
+pub returns-clause-complete : goal.returns-clause-complete
+returns-clause-complete g c = λ count input few told whole read_holds write_holds.
+    only_memory _ _ _ _ _ _ _ _ (served_most _ _ _ _ _ _ _ c.loop.invariant.0 (omega (arith, c.loop.invariant.1))) count input few told whole read_holds write_holds

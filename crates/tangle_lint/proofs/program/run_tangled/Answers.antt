@@ -1,5 +1,6 @@
-use Rattle.std.proofs.Common.{refl}
+use Rattle.std.proofs.Common.{refl, inl}
 use Rattle.program_ends.proofs.Endings.{usage_ends}
+use Rattle.program_ends.proofs.Faults.{told_failing}
 use Rattle.tangle_lint.proofs.Meanings.{refused_by, means_refused, means_answered, means_stopped, answered_done, clear_stopped}
 use Rattle.tangle_lint.proofs.program.run_tangled.Goals as goal
 
@@ -34,3 +35,9 @@ returns-in-Err-clause-complete g c = λ none clear. clear_stopped c.args.words.n
 
 pub returns-in-Err-clause-usage : goal.returns-in-Err-clause-usage
 returns-in-Err-clause-usage g c = λ not_none. absurd (not_none (c.are_none.ensures.0 c.if-not-are_none.false))
+
+pub returns-then-not-are_none-clause-failing : goal.returns-then-not-are_none-clause-failing
+returns-then-not-are_none-clause-failing g c = told_failing _ _ _ _ _ _ (record { reading = inl refl; writing = inl refl }) c.refuse_words.ensures
+
+pub returns-in-Err-clause-failing : goal.returns-in-Err-clause-failing
+returns-in-Err-clause-failing g c = told_failing _ _ _ _ _ _ c.in-Err.ensures.failing c.tell.ensures
