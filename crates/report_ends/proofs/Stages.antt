@@ -1,5 +1,5 @@
 -- A text that is written in several calls.
-use Rattle.std.proofs.Common.{◌≡◌, ℕ, ◌+◌, ◌<◌, ◌≤◌, List, [], ◌++◌, length, get_or, drop, Option, Result, Ok, Err, subst, sym, refl, ap, ◌∙◌, arith, drop-cons, add-one, append-nil, flat_map}
+use Rattle.std.proofs.Common.{◌≡◌, ℕ, ◌+◌, ◌<◌, List, [], ◌++◌, length, get_or, drop, Option, Result, Ok, Err, subst, sym, refl, ap, ◌∙◌, drop-cons, add-one, append-nil, flat_map}
 use Rattle.std.specs.Result.{IsErrAnd}
 use Rattle.report_ends.specs.Causes.{Rose}
 use Rattle.report_ends.specs.declared.error.ReportError.{ReportError}
