@@ -48,7 +48,7 @@ expect "the manual has each command" "$(bin/bolgwyr --help | sed -n '/^Commands:
     "$(sed -n 's/^\.SS bolgwyr \([^ ]*\).*/\1/p' <<<"$manual" | tr -d '\\')"
 # Each module is loaded, so that none that another one needs is left out of the copy. Those that run when they
 # are loaded, or in a page, aren't.
-(cd "$prefix/lib/bolgwyr" && grep -rL 'require.main\|process.argv\|workerData\|document\.' --include='*.js' tools index.js) >"$room/modules"
+(cd "$prefix/lib/bolgwyr" && grep -rL 'require.main\|process.argv\|workerData\|document\.' --include='*.js' tools index.js | grep -v '^tools/analyse/page/client/') >"$room/modules"
 installed node -e '
   for (const module of require("fs").readFileSync(process.argv[1], "utf8").trim().split("\n")) require(`${process.argv[2]}/${module}`);
 ' "$room/modules" "$prefix/lib/bolgwyr" >"$room/said" 2>&1
