@@ -1,5 +1,5 @@
 -- Mangled programs whose names are not longer than those of the simple mangler.
-use Rattle.std.proofs.Common.{◌≡◌, ◌≤◌, ℕ, List, [], Option, None, Some, Bool, true, false, cond, nat_le, Result, Ok, Err, IfOk, IfSome, refl, sym, ap, subst, ◌∙◌, arith}
+use Rattle.std.proofs.Common.{◌≡◌, ◌≤◌, ℕ, List, [], Option, None, Some, Bool, true, false, cond, nat_le, Result, Ok, Err, IfOk, refl, sym, ap, subst, ◌∙◌, arith}
 use Rattle.std.proofs.lemmas.Bool.{leb-true}
 use Rattle.semantic_syntax.specs.Tables.{Name}
 use Rattle.semantic_tree.specs.Faults.{first_fault}
@@ -49,22 +49,13 @@ module _ (o : Options) (p : Tree) (faultless : first_fault p ≡ None) (numbered
     names = named;
   }
 
-  -- the names for all, where the program isn't longer
+  -- where it isn't longer by the names for all
   pub simple_names : (m : Mangled) (shorter : Bool) → m.names ≡ each_named o p → m.program ≡ renamed_by (listed m.names) p → shorter ≡ nat_le (written m.program) (written p) → shorter ≡ true → IsSimple o p m
   simple_names m shorter named made is passed =
       let program : m.program ≡ renamed_by (listed (each_named o p)) p = made ∙ ap (λ n. renamed_by (listed n) p) named in
       let short : nat_le (written (renamed_by (listed (each_named o p)) p)) (written p) ≡ true = sym (ap (λ (q : Tree). nat_le (written q) (written p)) program) ∙ sym is ∙ passed in
       let all : one_name_each o p ≡ each_named o p = ap (λ b. cond b (each_named o p) []) short in
       simple_by m (named ∙ sym all) (program ∙ ap (λ n. renamed_by (listed n) p) (sym all))
-
-  -- else none
-  pub simple_itself : (m : Mangled) (made : Tree) (names : List (Option Name)) (shorter : Bool) → names ≡ each_named o p → made ≡ renamed_by (listed names) p → shorter ≡ nat_le (written made) (written p) → shorter ≡ false
-      → IsMangling o p m → m.names ≡ [] → IsSimple o p m
-  simple_itself m made names shorter named is told failed mangled none =
-      let program : made ≡ renamed_by (listed (each_named o p)) p = is ∙ ap (λ n. renamed_by (listed n) p) named in
-      let long : nat_le (written (renamed_by (listed (each_named o p)) p)) (written p) ≡ false = sym (ap (λ (q : Tree). nat_le (written q) (written p)) program) ∙ sym told ∙ failed in
-      let all : one_name_each o p ≡ [] = ap (λ b. cond b (each_named o p) []) long in
-      record { mangled = mangled; names = none ∙ sym all }
 
 -- the program that is made, by an analysis that tables tell
 pub made_by : (p : Tree) (names : List (Option Name)) (made : Tree) (a : Analysis) → a ≡ analysis_of p → made ≡ with_names_in (given (listed names) a) p → made ≡ renamed_by (listed names) p

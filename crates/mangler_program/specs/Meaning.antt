@@ -1,5 +1,5 @@
 -- What each status of the program means.
-use Rattle.std.specs.Prelude.{◌≡◌, ℕ, List, Option, Some, None, Result, String, codes}
+use Rattle.std.specs.Prelude.{◌≡◌, ◌≤◌, ℕ, List, Option, Some, None, Result, String, codes}
 use Rattle.std.specs.declared.alloc.Global.{Global}
 use Rattle.serde_json.specs.Written.{compact_text}
 use Rattle.semantic_syntax.specs.Tables.{Name}
@@ -15,6 +15,8 @@ use Rattle.program_ends.specs.Meaning as ends
 use Rattle.program_ends.specs.Reads.{Stands, RefusedFor}
 use Rattle.mangle_model.specs.Mangling.{IsMangled}
 use Rattle.mangle_model.specs.MayMangle.{Options}
+use Rattle.mangle_model.specs.OneNameEach.{simply_mangled}
+use Rattle.mangle_model.specs.Written.{written}
 use Rattle.mangler_program.specs.Codes.{end_of}
 use Rattle.mangler_program.specs.Words.{asked_by}
 use Rattle.mangler_program.specs.declared.status.MangleStatus.{MangleStatus}
@@ -28,11 +30,12 @@ program_text q = compact_text (program_data in_rows q)
 
 -- ---- what is answered
 
--- the text is that of the program, mangled
+-- the text is that of the program, mangled, with names that are not longer than those of the simple mangler
 pub record IsMangledText (o : Options) (p : Tree) (text : List ℕ) : Type 0 where
   pub program : Tree
   pub names : List (Option Name)
   pub is_mangled : IsMangled o p names program
+  pub length : written program ≤ written (simply_mangled o p)
   pub told : text ≡ program_text program
 
 pub record Answers (o : Options) (end : End) (p : Tree) (text : List ℕ) : Type 0 where

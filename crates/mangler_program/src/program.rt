@@ -90,7 +90,8 @@ fn refuse_words<E: Sink>(errs: &mut E) -> MangleStatus
 
 /// Does all that the program does. There are no words, or the one word `--toplevel`, which lets the variables of a script
 /// change too. It reads the whole input, which is a program's tree as JSON, and writes on `out` the tree of the mangled
-/// program. Where it can't it tells why on `errs`, in one line. Where the words are refused nothing is read.
+/// program, whose names are not longer than those of the simple mangler. Where it can't it tells why on `errs`, in one line.
+/// Where the words are refused nothing is read.
 pub fn run_mangle<S: Source, K: Sink, E: Sink>(
     alloc: Global,
     words: &[String],
