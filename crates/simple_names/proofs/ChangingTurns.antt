@@ -1,5 +1,5 @@
 -- The names that change, symbol by symbol.
-use Rattle.std.proofs.Common.{◌≡◌, ◌+◌, ◌<◌, ◌≤◌, ℕ, List, [], ◌∷◌, Bool, true, false, cond, filter, fold, length, drop, map, get_or, refl, sym, ap, ◌∙◌}
+use Rattle.std.proofs.Common.{◌≡◌, ◌+◌, ◌<◌, ◌≤◌, ℕ, List, ◌∷◌, Bool, true, false, cond, filter, fold, length, drop, map, get_or, refl, sym, ap, ◌∙◌}
 use Rattle.std.proofs.lemmas.List.{drop_more, drop_all}
 use Rattle.semantic_syntax.specs.Reading.{no_symbol}
 use Rattle.semantic_syntax.specs.Tables.{Name, Symbol}

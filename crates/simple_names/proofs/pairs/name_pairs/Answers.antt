@@ -1,6 +1,5 @@
-use Rattle.std.proofs.Common.{◌≡◌, ◌<◌, ◌≤◌, List, length, sym, ap, subst, ◌∙◌, arith}
+use Rattle.std.proofs.Common.{◌≡◌, ◌<◌, ◌≤◌, length, sym, ap, subst, ◌∙◌, arith}
 use Rattle.std.specs.Str.{chars}
-use Rattle.semantic_syntax.specs.Tables.{Name}
 use Rattle.mangle_model.specs.ShortNames.{short_name}
 use Rattle.simple_names.specs.TakenNames.{unused_by}
 use Rattle.simple_names.proofs.PairTurns.{SoFar, at_first, at_last, found, one_pair, with_pair}

@@ -1,4 +1,4 @@
-use Rattle.std.proofs.Common.{List, ℕ, Some, string_bytes, ap, ◌∙◌}
+use Rattle.std.proofs.Common.{List, ℕ, Some, ap, ◌∙◌}
 use Rattle.std.specs.Option.{option_map}
 use Rattle.std.specs.Str.{chars}
 use Rattle.simple_names.proofs.MapTexts.{found_new, text_of}
