@@ -1,4 +1,6 @@
+pub mod ProgramTrees
 pub mod Programs
+pub mod PartingPrograms
 pub mod Rows
 pub mod SwitchShape
 pub mod EnvironmentsRound
