@@ -60,3 +60,21 @@ fn a_namespace_of_nothing_is_no_value(rt: HostRuntime) -> Result<(), Fail> {
     assert!(rt; matches!(state, ModuleInstanceState::NonInstantiated));
     Ok(())
 }
+
+/// Sizes, the thousandths by which they grow, and what they are then.
+const GROWN: &[([u32; 3], u32, [u32; 3])] = &[
+    ([10, 999, 0], 0, [10, 999, 0]),
+    ([10, 999, 0], 1, [10, 999, 0]),
+    ([10, 1_000, 0], 100, [11, 1_100, 0]),
+    ([1, 3, 4_000_000_000], 500, [1, 4, u32::MAX]),
+    ([1, 2, 3], u32::MAX, [4_294_968, 8_589_936, 12_884_904]),
+];
+
+#[test]
+fn sizes_grow_by_thousandths(rt: HostRuntime) {
+    for ([scopes, symbols, references], thousandths, grown) in GROWN {
+        let sizes = Stats::new(7, *scopes, *symbols, *references).increase_by(*thousandths);
+        assert_eq!(rt; sizes.nodes, 7);
+        assert_eq!(rt; [sizes.scopes, sizes.symbols, sizes.references], *grown);
+    }
+}

@@ -6,6 +6,12 @@
 #[cfg(test)]
 mod analyses;
 #[cfg(test)]
+mod class_elements;
+#[cfg(test)]
+mod counting;
+#[cfg(test)]
+mod free_references;
+#[cfg(test)]
 mod reports;
 #[cfg(test)]
 mod swapping;

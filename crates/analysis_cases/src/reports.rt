@@ -2,7 +2,7 @@
 
 mod bad_input;
 mod bad_runs;
-mod cases;
-mod inputs;
+pub mod cases;
+pub mod inputs;
 mod runs;
 mod tests;

@@ -2,6 +2,8 @@
 
 mod comments;
 mod flags;
+mod ids;
+mod kinds;
 mod reading;
 mod script;
 mod texts;

@@ -20,6 +20,7 @@ mod stops;
 mod told_links;
 
 pub use analysed_module::AnalysedModule;
+pub use link_model::{Link, LinkOutcome};
 pub use linking::link;
 pub use links::links_of;
 pub use module_entries::check::check_modules;
