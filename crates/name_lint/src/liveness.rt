@@ -14,8 +14,8 @@ use scoping::{NodeTables, Scoping};
 use semantic_syntax::{NodeId, SymbolFlags, SymbolId};
 use std::alloc::{AllocError, Global};
 
-/// Whether the symbol is in use for what it is: a member of an enum, the name of a function expression, one that is
-/// only declared, or one that a direct call of `eval` may name.
+/// Whether the symbol counts as used, whatever refers to it: a member of an enum, the name of a function expression, one
+/// that is only declared, or one that a direct call of `eval` may name.
 fn is_sure(scoping: &Scoping, symbol: SymbolId) -> bool
     requires { symbol < length scoping.now.symbols }
     ensures { result ≡ is_sure scoping.now (symbol_of scoping.now symbol) }
