@@ -21,7 +21,7 @@ BARE = re.compile(r"^(?:[A-Z][A-Za-z]+|[a-z_]+\.rt)$")
 
 
 def documents():
-    return sorted(glob.glob(f"{TOP}/*.md") + glob.glob(f"{TOP}/docs/*.md"))
+    return sorted(path for place in ("", "docs/", "crates/*/") for path in glob.glob(f"{TOP}/{place}*.md"))
 
 
 def files_of_proofs():
