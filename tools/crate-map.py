@@ -1,6 +1,6 @@
 #!/usr/bin/env python3
-"""Writes the map of the crates and the diagrams of what stands on what into docs/architecture.md, from crates.txt and the
-first line of each crate.
+"""Writes the map of the crates, the diagrams of what stands on what and the list of source files into docs/architecture.md,
+from crates.txt and the first sentence of each file.
 usage: tools/crate-map.py [--check]
 
 The map stands between the lines `<!-- crates -->` and `<!-- end of crates -->`. A crate's layer is one above the highest
@@ -11,8 +11,12 @@ of all below them. Each crate has one line in all diagrams together, in the firs
 stands on it; what a crate stands on besides what is drawn under it is named behind it. `<!-- diagram of the others -->`
 has the crates that no other diagram has.
 
-With --check nothing is written, and the status is 1 where map and diagrams aren't those of crates.txt."""
+The list of source files stands between the lines `<!-- files -->` and `<!-- end of files -->`. A file that doesn't begin with
+what it is, is told, and the status is 1.
 
+With --check nothing is written, and the status is 1 where map, diagrams and list aren't those of crates.txt and the files."""
+
+import glob
 import os
 import re
 import sys
@@ -20,6 +24,7 @@ import sys
 TOP = os.path.dirname(os.path.dirname(os.path.abspath(__file__)))
 DOC = f"{TOP}/docs/architecture.md"
 MAP = re.compile(r"(?s)(<!-- crates -->\n).*(<!-- end of crates -->)")
+FILES = re.compile(r"(?s)(<!-- files -->\n).*(<!-- end of files -->)")
 DIAGRAM = re.compile(r"(?s)<!-- diagram of ([a-z_ ]+) -->\n.*?<!-- end of diagram -->")
 OTHERS = "the others"
 
@@ -69,17 +74,17 @@ def directly_below(named):
     return {name: [it for it in words if not any(it in below[other] for other in words)] for name, words in named.items()}
 
 
-def purpose(name):
-    """The first sentence of the crate's root file."""
-    for root in ("lib", "main"):
-        path = f"{TOP}/crates/{name}/src/{root}.rt"
-        if os.path.isfile(path):
-            with open(path, encoding="utf-8") as file:
-                text = file.read()
-            said = re.match(r"(?:\s*//!? ?(.*)\n)+", text)
-            lines = [re.sub(r"^\s*//!? ?", "", it) for it in (said[0] if said else "").splitlines()]
-            return re.split(r"(?<=[.:])\s", " ".join(lines).strip())[0].rstrip(":.")
-    return ""
+def first_sentence(path):
+    """What a source file says of itself first."""
+    with open(path, encoding="utf-8") as file:
+        said = re.match(r"(?:\s*//!? ?(.*)\n)+", file.read())
+    lines = [re.sub(r"^\s*//!? ?", "", it) for it in (said[0] if said else "").splitlines()]
+    return re.split(r"(?<=[.:])\s", " ".join(lines).strip())[0].rstrip(":.")
+
+
+def root_of(name):
+    """The crate's root file."""
+    return next(path for path in (f"{TOP}/crates/{name}/src/{root}.rt" for root in ("lib", "main")) if os.path.isfile(path))
 
 
 def rows(named):
@@ -87,7 +92,23 @@ def rows(named):
     yield "| Layer | Crate | What it is | Stands on |"
     yield "|---|---|---|---|"
     for name in sorted(named, key=lambda it: (layer[it], it)):
-        yield f"| {layer[name]} | `{name}` | {purpose(name)} | {', '.join(direct[name])} |"
+        yield f"| {layer[name]} | `{name}` | {first_sentence(root_of(name))} | {', '.join(direct[name])} |"
+
+
+def sources(name):
+    """The crate's source files but its root, by their paths below the crates."""
+    found = glob.glob(f"{TOP}/crates/{name}/src/**/*.rt", recursive=True)
+    return sorted(os.path.relpath(it, f"{TOP}/crates") for it in found if it != root_of(name))
+
+
+def file_rows(named, silent):
+    """The rows on source files; those that don't say what they are go to the list."""
+    yield "| File | What it is |"
+    yield "|---|---|"
+    for path in (path for name in sorted(named) for path in sources(name)):
+        said = first_sentence(f"{TOP}/crates/{path}").replace("|", "\\|")
+        silent.extend([] if said else [path])
+        yield f"| `{path}` | {said} |"
 
 
 def homes(named, tops):
@@ -141,26 +162,33 @@ def with_diagrams(named, text):
     return DIAGRAM.sub(draw, text)
 
 
-def main(words):
-    with open(DOC, encoding="utf-8") as file:
-        text = file.read()
-    named = crates_listed()
-    table = "\n".join(rows(named))
-    made, count = MAP.subn(lambda it: f"{it[1]}\n{table}\n\n{it[2]}", text)
+def with_table(text, place, rows):
+    """The text with a table in its place, which has to be there once."""
+    table = "\n".join(rows)
+    made, count = place.subn(lambda it: f"{it[1]}\n{table}\n\n{it[2]}", text)
     if count != 1:
-        print("crate-map: docs/architecture.md has no place for the map", file=sys.stderr)
-        return 2
-    made = with_diagrams(named, made)
-    if words == ["--check"]:
-        if made != text:
-            print("crate-map: docs/architecture.md isn't of crates.txt: run tools/crate-map.py", file=sys.stderr)
-        return made != text
-    if words:
+        sys.exit(f"crate-map: docs/architecture.md has no single place {place.pattern}")
+    return made
+
+
+def main(words):
+    if words not in ([], ["--check"]):
         print("usage: tools/crate-map.py [--check]", file=sys.stderr)
         return 2
+    with open(DOC, encoding="utf-8") as file:
+        text = file.read()
+    named, silent = crates_listed(), []
+    made = with_diagrams(named, with_table(text, MAP, rows(named)))
+    made = with_table(made, FILES, file_rows(named, silent))
+    for path in silent:
+        print(f"crate-map: {path} doesn't say what it is in its first line", file=sys.stderr)
+    if words:
+        if made != text:
+            print("crate-map: docs/architecture.md isn't of crates.txt and the files: run tools/crate-map.py", file=sys.stderr)
+        return 1 if silent or made != text else 0
     with open(DOC, "w", encoding="utf-8") as file:
         file.write(made)
-    return 0
+    return 1 if silent else 0
 
 
 if __name__ == "__main__":

@@ -4,7 +4,7 @@ usage: tools/doc-paths.py
 
 A path stands in backticks and begins with a crate and one of its folders (`semantic_model/specs/Inside`), or with a folder
 of the repository (`tools/setup.sh`). In a row of a table a bare name behind such a path (`Step`, `walk.rt`) stands in the
-same folder. A file of code is told with its ending, one of definitions or proofs without. In docs/proofs.md a bare name
+same folder, but for names with a capital behind a file of code. A file of code is told with its ending, one of definitions or proofs without. In docs/proved.md a bare name
 with a capital is a file of proofs or definitions of some crate. Names in parentheses directly behind a path are words of
 that file. What isn't there is told, and the status is 1 then."""
 
@@ -21,7 +21,7 @@ BARE = re.compile(r"^(?:[A-Z][A-Za-z]+|[a-z_]+\.rt)$")
 
 
 def documents():
-    return sorted(glob.glob(f"{TOP}/*.md") + glob.glob(f"{TOP}/docs/*.md"))
+    return sorted(path for place in ("", "docs/", "crates/*/") for path in glob.glob(f"{TOP}/{place}*.md"))
 
 
 def files_of_proofs():
@@ -57,7 +57,7 @@ def faults(line, proofs):
             files = [at(word.split()[0].rstrip("/"))]
         elif BARE.match(word) and word in proofs:
             files = proofs[word]
-        elif BARE.match(word) and folder and line.startswith("|"):
+        elif BARE.match(word) and folder and line.startswith("|") and not (word[0].isupper() and "/src" in folder):
             files = [at(f"{folder}/{word}")]
         else:
             continue
@@ -74,7 +74,7 @@ def main():
         name = os.path.relpath(path, TOP)
         with open(path, encoding="utf-8") as file:
             for number, line in enumerate(file, 1):
-                for word in faults(line, proofs if name == "docs/proofs.md" else {}):
+                for word in faults(line, proofs if name == "docs/proved.md" else {}):
                     print(f"{name}:{number}: {word}", file=sys.stderr)
                     status = 1
     return status

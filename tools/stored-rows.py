@@ -1,5 +1,5 @@
 #!/usr/bin/env python3
-"""Writes the sources of the stored programs into docs/rows.md, beside what each of them shows.
+"""Writes the sources of the stored programs into crates/program_cases/rows.md, beside what each of them shows.
 usage: tools/stored-rows.py [--check]
 
 A table stands between the lines `<!-- programs of FOLDER -->` and `<!-- end of programs -->`, one row for each tree of the
@@ -13,7 +13,7 @@ import re
 import sys
 
 TOP = os.path.dirname(os.path.dirname(os.path.abspath(__file__)))
-DOC = f"{TOP}/docs/rows.md"
+DOC = f"{TOP}/crates/program_cases/rows.md"
 TABLE = re.compile(r"(?s)<!-- programs of (\S+) -->\n.*?<!-- end of programs -->")
 ROW = re.compile(r"^\| `([^`|]+)` \|.*\| ((?:[^|]|\\\|)*) \|$", re.M)
 LIMIT = 110
@@ -98,10 +98,10 @@ def main(words):
     silent = []
     made = with_tables(text, silent)
     for name in silent:
-        print(f"stored-rows: docs/rows.md says nothing of {name}", file=sys.stderr)
+        print(f"stored-rows: crates/program_cases/rows.md says nothing of {name}", file=sys.stderr)
     if words:
         if made != text:
-            print("stored-rows: docs/rows.md isn't of the stored programs: run tools/stored-rows.py", file=sys.stderr)
+            print("stored-rows: crates/program_cases/rows.md isn't of the stored programs: run tools/stored-rows.py", file=sys.stderr)
         return 1 if silent or made != text else 0
     with open(DOC, "w", encoding="utf-8") as file:
         file.write(made)

@@ -1,5 +1,5 @@
 'use strict';
-// The report as one object for other programs. docs/analyse.md describes it.
+// The report as one object for other programs. docs/tables.md describes it.
 
 const { labelSpan } = require('./text.js');
 

@@ -14,7 +14,7 @@ abbrev pub Tells : {A E : Type 0} → Result A E → List Diagnostic → List Di
 Tells (Ok done) rows before now = now ≡ before ++ rows
 Tells (Err want) rows before now = IsBegun rows before now
 
--- the row that was made is told; for want of memory of none any number, which are none
+-- the row that was made is told; where memory was wanting to make it nothing is told, which is a beginning of any rows
 abbrev pub TellsMade : {A E : Type 0} → Result Diagnostic E → Result A E → List Diagnostic → List Diagnostic → Type 0
 TellsMade (Ok made) result before now = Tells result (made ∷ []) before now
 TellsMade (Err want) result before now = (rows : List Diagnostic) → Tells result rows before now

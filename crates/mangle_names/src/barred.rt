@@ -17,7 +17,9 @@ pub fn add_free_names(
     names: &mut NameSet,
     scoping: &Scoping,
 ) -> Result<(), AllocError>
-    ensures { OnOk result ((q : List ℕ) → list_any (bytes_eq q) names.new ≡ (list_any (bytes_eq q) names.old || is_free_name scoping.now q)) }
+    ensures { OnOk result ((q : List ℕ)
+        → list_any (bytes_eq q) names.new
+        ≡ (list_any (bytes_eq q) names.old || is_free_name scoping.now q)) }
 {
     for (name, _) in scoping.root_unresolved_references().iter() {
         names.add(alloc, name.as_str())?;
@@ -34,7 +36,10 @@ fn add_kept_name(
     symbol: SymbolId,
 ) -> Result<(), AllocError>
     requires { symbol < length scoping.now.symbols }
-    ensures { OnOk result ((q : List ℕ) → list_any (bytes_eq q) names.new ≡ (list_any (bytes_eq q) names.old || (not (at may.now symbol) && bytes_eq q (symbol_of scoping.now symbol).name))) }
+    ensures { OnOk result ((q : List ℕ)
+        → list_any (bytes_eq q) names.new
+        ≡ (list_any (bytes_eq q) names.old
+        || (not (at may.now symbol) && bytes_eq q (symbol_of scoping.now symbol).name))) }
 {
     if is_marked(may, symbol.index()) {
         return Ok(());
@@ -49,7 +54,9 @@ fn add_kept_names(
     scoping: &Scoping,
     may: &[bool],
 ) -> Result<(), AllocError>
-    ensures { OnOk result ((q : List ℕ) → list_any (bytes_eq q) names.new ≡ (list_any (bytes_eq q) names.old || is_kept_name (at may.now) q 0 scoping.now.symbols)) }
+    ensures { OnOk result ((q : List ℕ)
+        → list_any (bytes_eq q) names.new
+        ≡ (list_any (bytes_eq q) names.old || is_kept_name (at may.now) q 0 scoping.now.symbols)) }
 {
     for number in 0..(scoping.symbols_len() as u32) {
         add_kept_name(alloc, names, scoping, may, SymbolId::new(number))?;
@@ -59,7 +66,9 @@ fn add_kept_names(
 
 /// The free names, and those of symbols that must keep theirs.
 pub fn barred_names(alloc: Global, scoping: &Scoping, may: &[bool]) -> Result<NameSet, AllocError>
-    ensures { IfOk result (λ names. (q : List ℕ) → list_any (bytes_eq q) names ≡ (is_free_name scoping.now q || is_kept_name (at may.now) q 0 scoping.now.symbols)) }
+    ensures { IfOk result (λ names. (q : List ℕ)
+        → list_any (bytes_eq q) names
+        ≡ (is_free_name scoping.now q || is_kept_name (at may.now) q 0 scoping.now.symbols)) }
 {
     let mut names = NameSet::new(alloc);
     add_free_names(alloc, &mut names, scoping)?;

@@ -36,7 +36,9 @@ impl NameSet {
     /// Adds a name behind the others, unless it is among them. The only error is want of memory.
     pub fn add(&mut self, alloc: Global, name: &str) -> Result<(), AllocError>
         ensures joined { OnOk result (self.new ≡ joining self.old (chars name.now)) }
-        ensures has { OnOk result ((q : List ℕ) → list_any (bytes_eq q) self.new ≡ (bytes_eq q (chars name.now) || list_any (bytes_eq q) self.old)) }
+        ensures has { OnOk result ((q : List ℕ)
+            → list_any (bytes_eq q) self.new
+            ≡ (bytes_eq q (chars name.now) || list_any (bytes_eq q) self.old)) }
     {
         let text = String::from_str(alloc, name)?;
         self.texts.insert(text)?;

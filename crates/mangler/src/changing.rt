@@ -104,7 +104,8 @@ fn must_keep(
     requires seen { IsSeen program.now seen.now }
     requires scopes { EndsWith scoping.now.scopes seen.now.with_end }
     requires symbol { symbol < length scoping.now.symbols }
-    ensures { result ≡ must_keep (options_of options) program.now scoping.now (has_key nat_eq seen.now.fixed symbol) (symbol_of scoping.now symbol) }
+    ensures { result ≡ must_keep (options_of options) program.now scoping.now
+        (has_key nat_eq seen.now.fixed symbol) (symbol_of scoping.now symbol) }
 {
     let scope = scoping.symbol_scope_id(symbol);
     let source_type = program.source_type();
@@ -142,7 +143,8 @@ pub fn changing_symbols(
 ) -> Result<Vec<bool>, AllocError>
     requires analysis { told_by analysed.now ≡ analysis_of program.now }
     requires seen { IsSeen program.now seen.now }
-    ensures { IfOk result (λ may. (s : ℕ) → at may.items s ≡ may_change (options_of options) program.now s) }
+    ensures { IfOk result (λ may. (s : ℕ)
+        → at may.items s ≡ may_change (options_of options) program.now s) }
 {
     let mut may = Vec::new(alloc);
     for number in 0..(analysed.scoping.symbols_len() as u32) {

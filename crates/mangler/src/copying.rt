@@ -24,7 +24,8 @@ use std::alloc::{AllocError, Global};
 
 /// Whether a value is given a name, or its left is.
 fn is_named_value(analysed: &Analysed<'_>, names: &NewNames, value: AstKind<'_>) -> bool
-    ensures { result ≡ is_named_value (is_given (given (listed names.now) (told_by analysed.now))) value.entry.node.now }
+    ensures { result ≡ is_named_value
+        (is_given (given (listed names.now) (told_by analysed.now))) value.entry.node.now }
 {
     if is_given(analysed, names, value.node_id()) {
         return true;
@@ -37,7 +38,8 @@ fn is_named_value(analysed: &Analysed<'_>, names: &NewNames, value: AstKind<'_>)
 
 /// Whether the node is a property that can't be written in short any more.
 fn sheds(analysed: &Analysed<'_>, names: &NewNames, node: AstKind<'_>) -> bool
-    ensures { result ≡ sheds (is_given (given (listed names.now) (told_by analysed.now))) node.entry.node.now }
+    ensures { result ≡ sheds (is_given (given (listed names.now) (told_by analysed.now)))
+        node.entry.node.now }
 {
     if !matches!(
         node.ty(),
@@ -80,7 +82,9 @@ fn without_shorthand(marks: Marks) -> Marks
 /// The marks that the node has then.
 fn marks_of(analysed: &Analysed<'_>, names: &NewNames, node: AstKind<'_>) -> Marks
     requires { IsKnown node.node.now.kind node.node.now.marks }
-    ensures { result ≡ without_where (sheds (is_given (given (listed names.now) (told_by analysed.now)))) shorthand node.entry.node.now }
+    ensures { result ≡ without_where
+        (sheds (is_given (given (listed names.now) (told_by analysed.now)))) shorthand
+        node.entry.node.now }
 {
     if sheds(analysed, names, node) {
         without_shorthand(node.node().marks)
@@ -91,7 +95,8 @@ fn marks_of(analysed: &Analysed<'_>, names: &NewNames, node: AstKind<'_>) -> Mar
 
 /// The text that the node has then.
 fn text_of<'a>(analysed: &Analysed<'_>, names: &'a NewNames, node: &'a Node) -> &'a str
-    ensures { chars result.now ≡ name_or (given (listed names.now) (told_by analysed.now) node.now.node_id) node.now.text }
+    ensures { chars result.now ≡ name_or
+        (given (listed names.now) (told_by analysed.now) node.now.node_id) node.now.text }
 {
     match given(analysed, names, node.node_id) {
         Some(name) => name,
@@ -107,7 +112,8 @@ fn renamed_alone(
     node: &Node,
 ) -> Result<Node, AllocError>
     requires { IsKnown node.now.kind node.now.marks }
-    ensures { IfOk result (λ made. made ≡ alone (given (listed names.now) (told_by analysed.now)) node.now) }
+    ensures { IfOk result (λ made. made
+        ≡ alone (given (listed names.now) (told_by analysed.now)) node.now) }
 {
     let text = text_of(analysed, names, node);
     let marks = marks_of(analysed, names, AstKind::new(node));
@@ -126,7 +132,11 @@ fn push_renamed(
     into: &mut Node,
 ) -> Result<(), AllocError>
     requires { AreKnown from.now.children }
-    ensures { OnOk result (into.new ≡ record into.old { children = join into.old.children (with_names (given (listed names.now) (told_by analysed.now)) from.now.children) }) }
+    ensures { OnOk result (into.new
+        ≡ record into.old {
+          children = join into.old.children
+              (with_names (given (listed names.now) (told_by analysed.now)) from.now.children);
+        }) }
 {
     for (role, child) in from.children.as_slice() {
         let mut copy = renamed_alone(alloc, analysed, names, child)?;
@@ -147,7 +157,11 @@ fn renamed_root(
     root: &Node,
 ) -> Result<Node, AllocError>
     requires { AreKnown root.now.children }
-    ensures { IfOk result (λ made. made ≡ record root.now { children = with_names (given (listed names.now) (told_by analysed.now)) root.now.children; node_id = 0 }) }
+    ensures { IfOk result (λ made. made
+        ≡ record root.now {
+          children = with_names (given (listed names.now) (told_by analysed.now)) root.now.children;
+          node_id = 0;
+        }) }
 {
     let mut made = Node::new(alloc, root.kind, root.span, root.text.as_str(), root.marks)?;
     push_renamed(alloc, analysed, names, root, &mut made)?;
@@ -162,8 +176,10 @@ fn program_of(
     comments: Vec<Comment>,
     root: Node,
 ) -> Program
-    requires { first_fault (numbered_tree (record { source = source; source_type = source_type; comments = comments.items; root = root })) ≡ None }
-    ensures { result ≡ numbered_tree (record { source = source; source_type = source_type; comments = comments.items; root = root }) }
+    requires { first_fault (numbered_tree
+        (record { source = source; source_type = source_type; comments = comments.items; root = root })) ≡ None }
+    ensures { result ≡ numbered_tree
+        (record { source = source; source_type = source_type; comments = comments.items; root = root }) }
 {
     match Program::new(alloc, source, source_type, comments, root) {
         Ok(program) => program,
@@ -180,8 +196,10 @@ pub fn renamed_by(
     names: &NewNames,
 ) -> Result<Program, AllocError>
     requires some { AreSomeNames (given (listed names.now) (told_by analysed.now)) }
-    requires identifiers { AreIdentifiers (is_given (given (listed names.now) (told_by analysed.now))) program.now.root.children }
-    ensures { IfOk result (λ made. made ≡ with_names_in (given (listed names.now) (told_by analysed.now)) program.now) }
+    requires identifiers { AreIdentifiers
+        (is_given (given (listed names.now) (told_by analysed.now))) program.now.root.children }
+    ensures { IfOk result (λ made. made
+        ≡ with_names_in (given (listed names.now) (told_by analysed.now)) program.now) }
 {
     let root = renamed_root(alloc, analysed, names, program.root().node())?;
     let source = Text::new(alloc, program.source_text())?;

@@ -26,7 +26,8 @@ fn new_name(names: &NewNames, symbol: Option<SymbolId>) -> Option<&str>
 
 /// The new name of the symbol that the node declares, else of the one to which it is tied.
 pub fn given<'a>(analysed: &Analysed<'_>, names: &'a NewNames, node: NodeId) -> Option<&'a str>
-    ensures { option_map (λ name. chars name.now) result ≡ given (listed names.now) (told_by analysed.now) node }
+    ensures { option_map (λ name. chars name.now) result
+        ≡ given (listed names.now) (told_by analysed.now) node }
 {
     match new_name(names, analysed.symbol_at(node)) {
         Some(name) => Some(name),
@@ -46,7 +47,9 @@ pub fn is_given(analysed: &Analysed<'_>, names: &NewNames, node: NodeId) -> bool
 
 /// Whether the node is an identifier, if it is given a name.
 fn is_identifier_if_given(analysed: &Analysed<'_>, names: &NewNames, node: &Node) -> bool
-    ensures { result ≡ (not (is_given (given (listed names.now) (told_by analysed.now)) node.now.node_id) || is_identifier node.now.kind) }
+    ensures { result ≡ (not (is_given
+        (given (listed names.now) (told_by analysed.now)) node.now.node_id)
+        || is_identifier node.now.kind) }
 {
     !is_given(analysed, names, node.node_id)
         || matches!(
@@ -58,7 +61,8 @@ fn is_identifier_if_given(analysed: &Analysed<'_>, names: &NewNames, node: &Node
 /// Whether all nodes below one are identifiers, if they are given a name.
 #[tactic(auto, using(semantic_tree::specs::Falls::below))]
 pub fn are_identifiers(analysed: &Analysed<'_>, names: &NewNames, node: &Node) -> bool
-    ensures { result ≡ all_identifiers (is_given (given (listed names.now) (told_by analysed.now))) node.now.children }
+    ensures { result ≡ all_identifiers
+        (is_given (given (listed names.now) (told_by analysed.now))) node.now.children }
 {
     for (_, child) in node.children.as_slice() {
         if !is_identifier_if_given(analysed, names, child) {

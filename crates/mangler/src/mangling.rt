@@ -64,7 +64,8 @@ fn analysed_by<'a>(analysis: &'a SemanticBuilderReturn<'_>) -> Analysed<'a>
 fn are_alike(names: &NewNames, one: &Analysed<'_>, other: &Analysed<'_>, count: u32) -> bool
     requires one { ListsBeginWithOwn one.now.scoping.now }
     requires other { ListsBeginWithOwn other.now.scoping.now }
-    ensures { result ≡ (are_renamed (listed names.now) one.now.scoping.now other.now.scoping.now && is_no_node (first_difference (told_by one.now) (told_by other.now) 0 count)) }
+    ensures { result ≡ (are_renamed (listed names.now) one.now.scoping.now other.now.scoping.now
+        && is_no_node (first_difference (told_by one.now) (told_by other.now) 0 count)) }
 {
     are_renamed(names, one.scoping, other.scoping) && first_difference(one, other, count).is_none()
 }
@@ -111,7 +112,8 @@ fn is_good_copy(
     made: &Program,
 ) -> Result<bool, AllocError>
     requires { told_by analysed.now ≡ analysis_of program.now }
-    ensures { IfOk result (λ good. good ≡ true → IsGoodCopy (listed names.now) program.now made.now) }
+    ensures { IfOk result (λ good. good ≡ true
+        → IsGoodCopy (listed names.now) program.now made.now) }
 {
     let shorter = is_no_longer(made, program)?;
     if !shorter {
@@ -129,7 +131,8 @@ fn good_copy(
     made: Program,
 ) -> Result<Option<Program>, AllocError>
     requires { told_by analysed.now ≡ analysis_of program.now }
-    ensures { IfOk result (λ found. IfSome found (λ q. (q ≡ made) × IsGoodCopy (listed names.now) program.now q)) }
+    ensures { IfOk result (λ found.
+        IfSome found (λ q. (q ≡ made) × IsGoodCopy (listed names.now) program.now q)) }
 {
     match is_good_copy(alloc, program, analysed, names, &made) {
         Ok(true) => Ok(Some(made)),
@@ -174,7 +177,8 @@ fn mangled_with(
 ) -> Result<Option<Program>, AllocError>
     requires analysis { told_by analysed.now ≡ analysis_of program.now }
     requires may { (s : ℕ) → at may.now s ≡ may_change (options_of options) program.now s }
-    ensures { IfOk result (λ found. IfSome found (λ q. IsMangled (options_of options) program.now names.now q)) }
+    ensures { IfOk result (λ found.
+        IfSome found (λ q. IsMangled (options_of options) program.now names.now q)) }
 {
     let _root = program.root();
     let given = may_be_given(alloc, program, analysed, may, names)?;
@@ -280,7 +284,8 @@ fn proposal(
 
 /// The one of two mangled programs whose names are not longer than those of the other, the first if both are.
 fn shorter_of(one: Mangled, other: Mangled) -> Result<Mangled, AllocError>
-    ensures { IfOk result (λ m. m ≡ cond (nat_le (written one.program) (written other.program)) one other) }
+    ensures { IfOk result (λ m. m
+        ≡ cond (nat_le (written one.program) (written other.program)) one other) }
 {
     match is_no_longer(&one.program, &other.program) {
         Ok(true) => {
@@ -301,7 +306,8 @@ fn shorter_of(one: Mangled, other: Mangled) -> Result<Mangled, AllocError>
 
 /// What was found, if it isn't longer than what the simple mangler makes, else the latter.
 fn found_or_simple(found: Option<Mangled>, simple: Mangled) -> Result<Mangled, AllocError>
-    ensures { (o : Options) (p : Tree) → IfSome found (IsMangling o p) → IsSimple o p simple → IfOk result (IsShortMangling o p) }
+    ensures { (o : Options) (p : Tree) → IfSome found (IsMangling o p) → IsSimple o p simple
+        → IfOk result (IsShortMangling o p) }
 {
     match found {
         Some(found) => shorter_of(found, simple),
@@ -340,7 +346,8 @@ pub fn mangle_program(
     options: MangleOptions,
 ) -> Result<Mangled, AllocError>
     ensures mangled { IfOk result (λ m. IsMangled (options_of options) p.now m.names m.program) }
-    ensures length { IfOk result (λ m. written m.program ≤ written (simply_mangled (options_of options) p.now)) }
+    ensures length { IfOk result (λ m. written m.program
+        ≤ written (simply_mangled (options_of options) p.now)) }
 {
     let analysis = SemanticBuilder::new().build(alloc, p)?;
     let result = mangle_analysed(alloc, options, p, &analysed_by(&analysis));

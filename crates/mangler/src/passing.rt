@@ -16,7 +16,8 @@ fn is_good_name(barred: &NameSet, name: &str) -> bool
 
 /// Whether the symbol of the number may have the new name, if there is one.
 fn passes(may: &[bool], barred: &NameSet, number: usize, name: Option<&str>) -> bool
-    ensures { result ≡ passes_option (passes_by (at may.now) barred.now) number (option_map (λ text. chars text.now) name.entry) }
+    ensures { result ≡ passes_option (passes_by (at may.now) barred.now) number
+        (option_map (λ text. chars text.now) name.entry) }
 {
     match name {
         Some(name) => is_marked(may, number) && is_good_name(barred, name),

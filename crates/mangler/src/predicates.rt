@@ -14,7 +14,10 @@ fn add_name(
     in_predicate: bool,
     node: &Node,
 ) -> Result<(), AllocError>
-    ensures { OnOk result ((q : List ℕ) → list_any (bytes_eq q) names.new ≡ (list_any (bytes_eq q) names.old || list_any (bytes_eq q) (predicate_at in_predicate node.now))) }
+    ensures { OnOk result ((q : List ℕ)
+        → list_any (bytes_eq q) names.new
+        ≡ (list_any (bytes_eq q) names.old
+        || list_any (bytes_eq q) (predicate_at in_predicate node.now))) }
 {
     if in_predicate && node.kind == AstType::IdentifierName {
         names.add(alloc, node.text.as_str())?;
@@ -30,7 +33,10 @@ pub fn add_predicates(
     in_predicate: bool,
     node: &Node,
 ) -> Result<(), AllocError>
-    ensures { OnOk result ((q : List ℕ) → list_any (bytes_eq q) names.new ≡ (list_any (bytes_eq q) names.old || list_any (bytes_eq q) (predicates_from in_predicate node.now))) }
+    ensures { OnOk result ((q : List ℕ)
+        → list_any (bytes_eq q) names.new
+        ≡ (list_any (bytes_eq q) names.old
+        || list_any (bytes_eq q) (predicates_from in_predicate node.now))) }
 {
     add_name(alloc, names, in_predicate, node)?;
     let is_predicate = node.kind == AstType::TSTypePredicate;

@@ -49,7 +49,8 @@ fn set_of(alloc: Global, ids: &[NodeId]) -> Result<HashSet<usize>, AllocError>
 
 /// Adds the symbol, if there is one.
 fn add_symbol(set: &mut HashSet<usize>, symbol: Option<SymbolId>) -> Result<(), AllocError>
-    ensures { OnOk result ((s : ℕ) → has_key nat_eq set.new s ≡ (has_key nat_eq set.old s || is_symbol s symbol)) }
+    ensures { OnOk result ((s : ℕ)
+        → has_key nat_eq set.new s ≡ (has_key nat_eq set.old s || is_symbol s symbol)) }
 {
     match symbol {
         Some(symbol) => {
@@ -66,7 +67,9 @@ fn add_symbols(
     analysed: &Analysed<'_>,
     node: NodeId,
 ) -> Result<(), AllocError>
-    ensures { OnOk result ((s : ℕ) → has_key nat_eq set.new s ≡ (has_key nat_eq set.old s || bears_name (told_by analysed.now) s node)) }
+    ensures { OnOk result ((s : ℕ)
+        → has_key nat_eq set.new s
+        ≡ (has_key nat_eq set.old s || bears_name (told_by analysed.now) s node)) }
 {
     add_symbol(set, analysed.symbol_at(node))?;
     add_symbol(set, analysed.tied_at(node))
@@ -78,7 +81,8 @@ fn symbols_of(
     analysed: &Analysed<'_>,
     nodes: &[NodeId],
 ) -> Result<HashSet<usize>, AllocError>
-    ensures { IfOk result (λ set. (s : ℕ) → has_key nat_eq set s ≡ list_any (bears_name (told_by analysed.now) s) nodes.now) }
+    ensures { IfOk result (λ set. (s : ℕ)
+        → has_key nat_eq set s ≡ list_any (bears_name (told_by analysed.now) s) nodes.now) }
 {
     let mut set = HashSet::new(alloc);
     for node in nodes {
@@ -93,7 +97,10 @@ fn fixed_symbols(
     program: &Program,
     analysed: &Analysed<'_>,
 ) -> Result<HashSet<usize>, AllocError>
-    ensures { IfOk result (λ set. (s : ℕ) → has_key nat_eq set s ≡ list_any (fixes_symbol (exported_names (steps program.now)) (bears_name (told_by analysed.now) s)) (steps program.now)) }
+    ensures { IfOk result (λ set. (s : ℕ)
+        → has_key nat_eq set s ≡ list_any
+        (fixes_symbol (exported_names (steps program.now)) (bears_name (told_by analysed.now) s))
+        (steps program.now)) }
 {
     let names = exported_names(alloc, program)?;
     let exported = set_of(alloc, names.as_slice())?;
@@ -105,7 +112,8 @@ fn fixed_symbols(
 
 /// The names that type predicates have.
 fn predicate_names(alloc: Global, program: &Program) -> Result<NameSet, AllocError>
-    ensures { IfOk result (λ names. (q : List ℕ) → list_any (bytes_eq q) names ≡ list_any (is_predicate q) (steps program.now)) }
+    ensures { IfOk result (λ names. (q : List ℕ)
+        → list_any (bytes_eq q) names ≡ list_any (is_predicate q) (steps program.now)) }
 {
     let mut names = NameSet::new(alloc);
     add_predicates(alloc, &mut names, false, program.root().node())?;

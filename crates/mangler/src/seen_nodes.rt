@@ -16,7 +16,8 @@ fn push_node(
     spot: Spot,
     node: &Node,
 ) -> Result<(), AllocError>
-    ensures { OnOk result (nodes.new.items ≡ nodes.old.items ++ seen_at (has_key nat_eq exported.now) spot node.now) }
+    ensures { OnOk result (nodes.new.items
+        ≡ nodes.old.items ++ seen_at (has_key nat_eq exported.now) spot node.now) }
 {
     if spot.names_property(node.kind)
         || exported.contains(&node.node_id.index())
@@ -35,7 +36,8 @@ pub fn push_seen(
     spot: Spot,
     node: &Node,
 ) -> Result<(), AllocError>
-    ensures { OnOk result (nodes.new.items ≡ nodes.old.items ++ seen_from (has_key nat_eq exported.now) spot node.now) }
+    ensures { OnOk result (nodes.new.items
+        ≡ nodes.old.items ++ seen_from (has_key nat_eq exported.now) spot node.now) }
 {
     push_node(nodes, exported, spot, node)?;
     for (role, child) in node.children.as_slice() {

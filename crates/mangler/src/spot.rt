@@ -33,7 +33,12 @@ fn is_property_parameter(node: &Node) -> bool
 impl Spot {
     /// The spot of a root.
     pub fn root() -> Spot
-        ensures { result ≡ record { role = root_role; parent = None; in_property = false; names_property = false } }
+        ensures { result ≡ record {
+          role = root_role;
+          parent = None;
+          in_property = false;
+          names_property = false;
+        } }
     {
         Spot {
             role: Role::Root,

@@ -46,7 +46,8 @@ fn key_size(node: AstKind<'_>) -> Option<u64>
 
 /// The other name of an import or export and ` as `, where it isn't the local one.
 fn name_and_as(other: Option<AstKind<'_>>, local: Option<AstKind<'_>>) -> Option<u64>
-    ensures { IfSome result (λ n. n ≡ other_size_of (option_map shown other.entry) (option_map shown local.entry)) }
+    ensures { IfSome result (λ n. n
+        ≡ other_size_of (option_map shown other.entry) (option_map shown local.entry)) }
 {
     let (Some(other), Some(local)) = (other, local) else {
         return Some(0);
@@ -75,7 +76,8 @@ fn other_size(node: AstKind<'_>) -> Option<u64>
 
 /// The name of an identifier.
 fn name_size(node: AstKind<'_>) -> u64
-    ensures { result ≡ cond (is_identifier node.entry.node.now.kind) (size_of node.entry.node.now.text) 0 }
+    ensures { result ≡ cond (is_identifier node.entry.node.now.kind)
+        (size_of node.entry.node.now.text) 0 }
 {
     if matches!(
         node.ty(),

@@ -60,7 +60,8 @@ fn answer<K: Sink>(
     program: &Program,
     out: &mut K,
 ) -> Result<MangleStatus, ReportError>
-    ensures { GivesAnswer end_of (Answers (options_of options)) K.held K.faults out.old out.new program.now result }
+    ensures { GivesAnswer end_of
+        (Answers (options_of options)) K.held K.faults out.old out.new program.now result }
 {
     let text = mangled_text(alloc, options, program)?;
     write_text(text.as_slice(), out)
@@ -73,9 +74,12 @@ fn answer_input<S: Source, K: Sink>(
     source: &mut S,
     out: &mut K,
 ) -> Result<MangleStatus, ReportError>
-    ensures ends { Ends (options_of options) (source_call S.left S.faults source.old source.new) (sink_call K.held K.faults out.old out.new) result }
-    ensures failing { FaultsEnd (source_call S.left S.faults source.old source.new) (sink_call K.held K.faults out.old out.new) (end_due end_of result) }
-    ensures complete { (input : List ℕ) (program : Tree) → S.left source.old ≡ Some input → Stands input program → IfErr result IsNotRefused }
+    ensures ends { Ends (options_of options) (source_call S.left S.faults source.old source.new)
+        (sink_call K.held K.faults out.old out.new) result }
+    ensures failing { FaultsEnd (source_call S.left S.faults source.old source.new)
+        (sink_call K.held K.faults out.old out.new) (end_due end_of result) }
+    ensures complete { (input : List ℕ) (program : Tree) → S.left source.old ≡ Some input
+        → Stands input program → IfErr result IsNotRefused }
 {
     let program = read_program_from(alloc, source)?;
     let answered = answer(alloc, options, &program, out);
@@ -85,7 +89,8 @@ fn answer_input<S: Source, K: Sink>(
 
 /// Answers words that ask for nothing that is known.
 fn refuse_words<E: Sink>(errs: &mut E) -> MangleStatus
-    ensures { TellsEnd (sink_call E.held E.faults errs.old errs.new) usage_line Stop.Usage (end_of result) }
+    ensures { TellsEnd (sink_call E.held E.faults errs.old errs.new) usage_line Stop.Usage
+        (end_of result) }
 {
     refuse(USAGE, errs)
 }
@@ -101,11 +106,14 @@ pub fn run_mangle<S: Source, K: Sink, E: Sink>(
     out: &mut K,
     errs: &mut E,
 ) -> MangleStatus
-    ensures means { Means (source_call S.left S.faults source.old source.new) (sink_call K.held K.faults out.old out.new)
+    ensures means { Means (source_call S.left S.faults source.old source.new)
+        (sink_call K.held K.faults out.old out.new)
         (sink_call E.held E.faults errs.old errs.new) words.now result }
-    ensures failing { FaultsEnd (source_call S.left S.faults source.old source.new) (sink_call K.held K.faults out.old out.new) (end_of result) }
+    ensures failing { FaultsEnd (source_call S.left S.faults source.old source.new)
+        (sink_call K.held K.faults out.old out.new) (end_of result) }
     // Where no end fails and the input stands for a program, it is mangled, but for want of memory.
-    ensures complete { IsAsked (asked_by words.now) → IsClear (source_call S.left S.faults source.old source.new)
+    ensures complete { IsAsked (asked_by words.now)
+        → IsClear (source_call S.left S.faults source.old source.new)
         (sink_call K.held K.faults out.old out.new) → IsDoneOrMemory (end_of result) }
     ensures usage { asked_by words.now ≡ None → IsUsageOrMemory (end_of result) }
 {

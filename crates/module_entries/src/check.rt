@@ -43,8 +43,10 @@ fn check_source_types(list: &[Module]) -> Result<(), LinkError>
 /// What the modules import and export, in order.
 #[tactic(auto, using(crate::proofs::Turns::gathered_exports, crate::proofs::Turns::gathered_stars, crate::proofs::Turns::all_exports_gathered, crate::proofs::Turns::all_stars_gathered))]
 fn all_entries(alloc: Global, list: &[Module]) -> Result<Vec<ModuleEntries<'_>>, AllocError>
-    ensures exports { IfOk result (λ entries. map exports_seen entries.items ≡ map exports (all_analysed list.now)) }
-    ensures stars { IfOk result (λ entries. map stars_seen entries.items ≡ map stars (all_analysed list.now)) }
+    ensures exports { IfOk result (λ entries. map exports_seen entries.items
+        ≡ map exports (all_analysed list.now)) }
+    ensures stars { IfOk result (λ entries. map stars_seen entries.items
+        ≡ map stars (all_analysed list.now)) }
     ensures many { IfOk result (λ entries. length entries.items ≡ length list.now) }
 {
     let mut all = Vec::new(alloc);
@@ -62,7 +64,8 @@ fn check_entries(
 ) -> Result<(), LinkError>
     requires few { length entries.now ≤ 4294967294 }
     requires spelled { Each IsSpelled names.now.keys }
-    ensures { Checks (or_later (first_repeated 0 (map exports_seen entries.now)) (first_unknown (map characters names.now.keys) 0 (map stars_seen entries.now))) result }
+    ensures { Checks (or_later (first_repeated 0 (map exports_seen entries.now))
+        (first_unknown (map characters names.now.keys) 0 (map stars_seen entries.now))) result }
 {
     // The proof has to be told of all types that the names hold.
     let _none: Option<(TreeError, SpanFault, NodeId)> = None;
@@ -74,7 +77,9 @@ fn check_entries(
 fn check_links(alloc: Global, names: &IndexSet<&str>, list: &[Module]) -> Result<(), LinkError>
     requires few { length list.now ≤ 4294967294 }
     requires spelled { Each IsSpelled names.now.keys }
-    ensures { Checks (or_later (first_repeated 0 (map exports (all_analysed list.now))) (first_unknown (map characters names.now.keys) 0 (map stars (all_analysed list.now)))) result }
+    ensures { Checks (or_later (first_repeated 0 (map exports (all_analysed list.now)))
+        (first_unknown (map characters names.now.keys) 0 (map stars (all_analysed list.now))))
+        result }
 {
     let entries = all_entries(alloc, list)?;
     let checked = check_entries(alloc, names, &entries);
@@ -85,8 +90,10 @@ fn check_links(alloc: Global, names: &IndexSet<&str>, list: &[Module]) -> Result
 /// Refuses the first module of a name that an earlier one has, and then as above.
 fn check_named(alloc: Global, list: &[Module]) -> Result<(), LinkError>
     requires { length list.now ≤ 4294967294 }
-    ensures { Checks (or_later (first_twice [] 0 (module_names (all_analysed list.now))) (or_later (first_repeated 0 (map exports (all_analysed list.now)))
-        (first_unknown (module_names (all_analysed list.now)) 0 (map stars (all_analysed list.now))))) result }
+    ensures { Checks (or_later (first_twice [] 0 (module_names (all_analysed list.now)))
+        (or_later (first_repeated 0 (map exports (all_analysed list.now)))
+        (first_unknown (module_names (all_analysed list.now)) 0
+        (map stars (all_analysed list.now))))) result }
 {
     let names = check_names(alloc, list)?;
     check_links(alloc, &names, list)

@@ -16,7 +16,8 @@ use std::alloc::Global;
 pub fn check_names(alloc: Global, list: &[Module]) -> Result<IndexSet<&str>, LinkError>
     requires { length list.now ≤ 4294967294 }
     ensures refusal { Checks (first_twice [] 0 (module_names (all_analysed list.now))) result }
-    ensures names { IfOk result (λ names. map characters names.keys ≡ module_names (all_analysed list.now)) }
+    ensures names { IfOk result (λ names. map characters names.keys
+        ≡ module_names (all_analysed list.now)) }
     ensures spelled { IfOk result (λ names. Each IsSpelled names.keys) }
 {
     let mut names = IndexSet::new(alloc);

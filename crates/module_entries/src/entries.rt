@@ -35,9 +35,12 @@ impl<'a> ModuleEntries<'a> {
 
 /// What the program of a module imports and exports. Takes time linear in its nodes. The only error is want of memory.
 pub fn entries_of<'a>(alloc: Global, program: &'a Program) -> Result<ModuleEntries<'a>, AllocError>
-    ensures imports { IfOk result (λ entries. map shown_import entries.imports.items ≡ imports_in program.now.root) }
-    ensures exports { IfOk result (λ entries. map shown_export entries.exports.items ≡ exports_in program.now.root) }
-    ensures stars { IfOk result (λ entries. map shown entries.stars.items ≡ stars_in program.now.root) }
+    ensures imports { IfOk result (λ entries. map shown_import entries.imports.items
+        ≡ imports_in program.now.root) }
+    ensures exports { IfOk result (λ entries. map shown_export entries.exports.items
+        ≡ exports_in program.now.root) }
+    ensures stars { IfOk result (λ entries. map shown entries.stars.items
+        ≡ stars_in program.now.root) }
 {
     let root = program.root().node();
     let mut entries = ModuleEntries::new(alloc);

@@ -22,7 +22,8 @@ fn first_known<'a>(
     exports: &[ExportEntry<'a>],
 ) -> Result<Option<NodeId>, AllocError>
     requires { Each IsSpelled names.old.keys }
-    ensures { IfOk result (λ found. found ≡ repeated (map characters names.old.keys) (map shown_export exports.now)) }
+    ensures { IfOk result (λ found. found
+        ≡ repeated (map characters names.old.keys) (map shown_export exports.now)) }
 {
     for export in exports {
         if !add_name(names, export.name())? {

@@ -18,7 +18,8 @@ use std::alloc::AllocError;
 impl<'a> ModuleEntries<'a> {
     /// Adds the export of a node that stands in this statement.
     fn add_export(&mut self, statement: &'a Node, exporting: &'a Node) -> Result<(), AllocError>
-        ensures { OnOk result (seen self.new ≡ with_exports (seen self.old) (export_of statement.now exporting.now ∷ [])) }
+        ensures { OnOk result (seen self.new
+            ≡ with_exports (seen self.old) (export_of statement.now exporting.now ∷ [])) }
     {
         self.exports.push(ExportEntry {
             statement,
@@ -29,7 +30,9 @@ impl<'a> ModuleEntries<'a> {
 
     /// Adds the exports by specifiers.
     fn gather_specifiers(&mut self, statement: &'a Node) -> Result<(), AllocError>
-        ensures { OnOk result (seen self.new ≡ with_exports (seen self.old) (map (export_of statement.now) (children_of role.Specifiers statement.now.children))) }
+        ensures { OnOk result (seen self.new
+            ≡ with_exports (seen self.old)
+            (map (export_of statement.now) (children_of role.Specifiers statement.now.children))) }
     {
         for specifier in AstKind::new(statement).children(Role::Specifiers) {
             self.add_export(statement, specifier.node())?;
@@ -39,7 +42,9 @@ impl<'a> ModuleEntries<'a> {
 
     /// Adds the exports of the names that a node binds.
     fn gather_bound(&mut self, statement: &'a Node, node: AstKind<'a>) -> Result<(), AllocError>
-        ensures { OnOk result (seen self.new ≡ with_exports (seen self.old) (map (export_of statement.now) (bound_names node.entry.node.now))) }
+        ensures { OnOk result (seen self.new
+            ≡ with_exports (seen self.old)
+            (map (export_of statement.now) (bound_names node.entry.node.now))) }
     {
         let names = bound_identifiers(*self.exports.allocator(), node)?;
         for name in names.iter() {
@@ -50,7 +55,9 @@ impl<'a> ModuleEntries<'a> {
 
     /// Adds the exports of the names that an exported declaration binds.
     fn gather_declared(&mut self, statement: &'a Node) -> Result<(), AllocError>
-        ensures { OnOk result (seen self.new ≡ with_exports (seen self.old) (map (export_of statement.now) (declared_names statement.now))) }
+        ensures { OnOk result (seen self.new
+            ≡ with_exports (seen self.old)
+            (map (export_of statement.now) (declared_names statement.now))) }
     {
         for declaration in AstKind::new(statement).children(Role::Declaration) {
             self.gather_bound(statement, declaration)?;
@@ -60,7 +67,10 @@ impl<'a> ModuleEntries<'a> {
 
     /// Adds the export of all that a module exports, if it gets a name.
     fn gather_collected(&mut self, statement: &'a Node) -> Result<(), AllocError>
-        ensures { OnOk result (seen self.new ≡ with_exports (seen self.old) (cond (is_some (child_of role.Exported statement.now)) (export_of statement.now statement.now ∷ []) [])) }
+        ensures { OnOk result (seen self.new
+            ≡ with_exports (seen self.old)
+            (cond (is_some (child_of role.Exported statement.now))
+            (export_of statement.now statement.now ∷ []) [])) }
     {
         if AstKind::new(statement).child(Role::Exported).is_some() {
             self.add_export(statement, statement)
@@ -71,7 +81,8 @@ impl<'a> ModuleEntries<'a> {
 
     /// Adds the exports of a statement.
     fn gather_statement(&mut self, statement: &'a Node) -> Result<(), AllocError>
-        ensures { OnOk result (seen self.new ≡ with_exports (seen self.old) (exports_of_node statement.now)) }
+        ensures { OnOk result (seen self.new
+            ≡ with_exports (seen self.old) (exports_of_node statement.now)) }
     {
         match statement.kind {
             AstType::ExportNamedDeclaration | AstType::ExportFromDeclaration => {

@@ -27,7 +27,8 @@ pub struct ImportEntry<'a> {
 
 /// What a specifier of an import asks for.
 fn wanted_by<'a>(node: AstKind<'a>) -> Option<Wanted<'a>>
-    ensures { option_map shown_wanted result ≡ wanted_by node.entry.node.now.kind node.entry.node.now }
+    ensures { option_map shown_wanted result
+        ≡ wanted_by node.entry.node.now.kind node.entry.node.now }
 {
     match node.ty() {
         AstType::ImportSpecifier => { Some(Wanted::One(text_or_empty(node.child(Role::Imported)))) }

@@ -31,7 +31,9 @@ fn is_star(node: AstKind<'_>) -> bool
 impl<'a> ModuleEntries<'a> {
     /// Adds the import that a node is, a child of this parent, if it is one.
     fn gather_import(&mut self, parent: &'a Node, node: &'a Node) -> Result<(), AllocError>
-        ensures { OnOk result (seen self.new ≡ with_import (import_at (record { parent = parent.now; node = node.now })) (seen self.old)) }
+        ensures { OnOk result (seen self.new
+            ≡ with_import (import_at (record { parent = parent.now; node = node.now }))
+            (seen self.old)) }
     {
         if is_specifier(node) {
             self.imports.push(ImportEntry {
@@ -44,7 +46,8 @@ impl<'a> ModuleEntries<'a> {
 
     /// Adds a node, if it is a star export.
     fn gather_star(&mut self, node: &'a Node) -> Result<(), AllocError>
-        ensures { OnOk result (seen self.new ≡ with_star (cond (is_star node.now) (Some node.now) None) (seen self.old)) }
+        ensures { OnOk result (seen self.new
+            ≡ with_star (cond (is_star node.now) (Some node.now) None) (seen self.old)) }
     {
         let star = AstKind::new(node);
         if is_star(star) {
@@ -55,7 +58,8 @@ impl<'a> ModuleEntries<'a> {
 
     /// Adds what a node is, a child of this parent.
     fn gather_at(&mut self, parent: &'a Node, node: &'a Node) -> Result<(), AllocError>
-        ensures { OnOk result (seen self.new ≡ entered_at (record { parent = parent.now; node = node.now }) (seen self.old)) }
+        ensures { OnOk result (seen self.new
+            ≡ entered_at (record { parent = parent.now; node = node.now }) (seen self.old)) }
     {
         self.gather_import(parent, node)?;
         self.gather_star(node)
@@ -64,7 +68,8 @@ impl<'a> ModuleEntries<'a> {
     /// Adds the imports and star exports below a node.
     #[tactic(auto, using(semantic_tree::specs::Falls::below))]
     pub fn gather_below(&mut self, parent: &'a Node) -> Result<(), AllocError>
-        ensures { OnOk result (seen self.new ≡ entered_below parent.now parent.now.children (seen self.old)) }
+        ensures { OnOk result (seen self.new
+            ≡ entered_below parent.now parent.now.children (seen self.old)) }
     {
         for (_, child) in parent.children.as_slice() {
             self.gather_at(parent, child)?;

@@ -26,7 +26,8 @@ fn local_of<'a>(import: &ImportEntry<'a>) -> &'a str
 /// Adds the names that imports bind.
 #[tactic(auto, using(crate::proofs::LineTurns::import_turn, crate::proofs::LineTurns::imports_end))]
 fn push_locals<'a>(locals: &mut Vec<&'a str>, imports: &[ImportEntry<'a>]) -> Result<(), AllocError>
-    ensures { OnOk result (map characters locals.new.items ≡ map characters locals.old.items ++ map local_of (map shown_import imports.now)) }
+    ensures { OnOk result (map characters locals.new.items
+        ≡ map characters locals.old.items ++ map local_of (map shown_import imports.now)) }
 {
     for import in imports {
         locals.push(local_of(import))?;
@@ -37,7 +38,8 @@ fn push_locals<'a>(locals: &mut Vec<&'a str>, imports: &[ImportEntry<'a>]) -> Re
 /// The names that the imports of the modules bind, in order of module and node.
 #[tactic(auto, using(crate::proofs::LineTurns::module_turn, crate::proofs::LineTurns::locals_end))]
 pub fn locals_of(alloc: Global, list: &[Module]) -> Result<Vec<&str>, AllocError>
-    ensures { IfOk result (λ locals. map characters locals.items ≡ map local_name (all_imports (all_analysed list.now))) }
+    ensures { IfOk result (λ locals. map characters locals.items
+        ≡ map local_name (all_imports (all_analysed list.now))) }
 {
     let mut locals = Vec::new(alloc);
     for module in list {

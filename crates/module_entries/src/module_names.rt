@@ -35,7 +35,8 @@ fn note<'a>(
     name: &'a str,
     number: u32,
 ) -> Result<(), AllocError>
-    ensures { OnOk result ((text : List ℕ) → number_in numbers.new text ≡ noted name.now number (number_in numbers.old text) text) }
+    ensures { OnOk result ((text : List ℕ)
+        → number_in numbers.new text ≡ noted name.now number (number_in numbers.old text) text) }
 {
     if !numbers.contains_key(&name) {
         numbers.insert(name, number)?;

@@ -18,8 +18,10 @@ fn spell(text: &str)
 /// Adds a name, and tells whether it is a new one.
 pub fn add_name<'a>(names: &mut IndexSet<&'a str>, name: &'a str) -> Result<bool, AllocError>
     requires { Each IsSpelled names.old.keys }
-    ensures fresh { IfOk result (λ fresh. fresh ≡ not (list_any (bytes_eq (chars name.now)) (map characters names.old.keys))) }
-    ensures added { IfOk result (λ fresh. fresh ≡ true → map characters names.new.keys ≡ map characters names.old.keys ++ chars name.now ∷ []) }
+    ensures fresh { IfOk result (λ fresh. fresh
+        ≡ not (list_any (bytes_eq (chars name.now)) (map characters names.old.keys))) }
+    ensures added { IfOk result (λ fresh. fresh ≡ true
+        → map characters names.new.keys ≡ map characters names.old.keys ++ chars name.now ∷ []) }
     ensures spelled { OnOk result (Each IsSpelled names.new.keys) }
 {
     spell(name);

@@ -34,7 +34,8 @@ fn first_unknown(names: &IndexSet<&str>, stars: &[AstKind<'_>]) -> Option<NodeId
 pub fn check_stars(names: &IndexSet<&str>, entries: &[ModuleEntries<'_>]) -> Result<(), LinkError>
     requires few { length entries.now ≤ 4294967294 }
     requires spelled { Each IsSpelled names.now.keys }
-    ensures { Checks (first_unknown (map characters names.now.keys) 0 (map stars_seen entries.now)) result }
+    ensures { Checks (first_unknown (map characters names.now.keys) 0 (map stars_seen entries.now))
+        result }
 {
     for (number, module) in entries.iter().enumerate() {
         if let Some(node) = first_unknown(names, &module.stars) {

@@ -18,7 +18,8 @@ fn target_within<'a>(
     wanted: &Wanted<'a>,
 ) -> Result<Target, AllocError>
     ensures grows { OnOk result (Grows texts.old texts.new) }
-    ensures stands { IfOk result (λ target. denoted texts.new target ≡ Some (wanted_from (shown_wanted wanted.now) «module»)) }
+    ensures stands { IfOk result (λ target. denoted texts.new target
+        ≡ Some (wanted_from (shown_wanted wanted.now) «module»)) }
 {
     match wanted {
         Wanted::One(name) => Ok(Target::Name(module, texts.number_of(name)?)),
@@ -33,7 +34,8 @@ fn target_outside<'a>(
     wanted: &Wanted<'a>,
 ) -> Result<Target, AllocError>
     ensures grows { OnOk result (Grows texts.old texts.new) }
-    ensures stands { IfOk result (λ target. denoted texts.new target ≡ Some (outside (chars source.now) (name_wanted (shown_wanted wanted.now)))) }
+    ensures stands { IfOk result (λ target. denoted texts.new target
+        ≡ Some (outside (chars source.now) (name_wanted (shown_wanted wanted.now)))) }
 {
     let source = texts.number_of(source)?;
     match wanted {
@@ -53,7 +55,8 @@ pub fn wanted_target<'a>(
     wanted: &Wanted<'a>,
 ) -> Result<Target, AllocError>
     ensures grows { OnOk result (Grows texts.old texts.new) }
-    ensures stands { IfOk result (λ target. denoted texts.new target ≡ Some (wanted_end names.now (chars source.now) (shown_wanted wanted.now))) }
+    ensures stands { IfOk result (λ target. denoted texts.new target
+        ≡ Some (wanted_end names.now (chars source.now) (shown_wanted wanted.now))) }
 {
     match names.number_of(source) {
         Some(module) => target_within(texts, module, wanted),

@@ -41,7 +41,8 @@ fn write_lines<K: Sink>(
     links: &[Link],
     out: &mut K,
 ) -> Result<(), ReportError>
-    ensures { Writes K.held K.faults out.old out.new (lines_for (map characters locals.now) links.now) result }
+    ensures { Writes K.held K.faults out.old out.new
+        (lines_for (map characters locals.now) links.now) result }
 {
     let mut line = Line::new(alloc);
     for (local, link) in locals.iter().zip(links) {
@@ -59,7 +60,8 @@ pub fn write_links<K: Sink>(
     links: &[Link],
     out: &mut K,
 ) -> Result<(), ReportError>
-    ensures { Writes K.held K.faults out.old out.new (link_lines (all_imports (all_analysed modules.now)) links.now) result }
+    ensures { Writes K.held K.faults out.old out.new
+        (link_lines (all_imports (all_analysed modules.now)) links.now) result }
 {
     let locals = locals_of(alloc, modules.as_slice())?;
     write_lines(alloc, &locals, links, out)

@@ -13,7 +13,7 @@ use Rattle.semantic_model.specs.Analysis.{Analysis, analysis_of, symbol_at}
 use Rattle.semantic_model.specs.Exported.{exported_names, default_exported_names}
 use Rattle.name_lint.specs.Uses.{Use, uses_by, owners}
 
--- whether a symbol is in use for what it is: a member of an enum, the name of a function expression, one that is only declared, or one that a direct call of `eval` may name
+-- whether a symbol counts as used whatever refers to it: a member of an enum, the name of a function expression, one that is only declared, or one that a direct call of `eval` may name
 abbrev pub is_sure : Tables → Symbol → Bool
 is_sure t y =
     meets y.flags.bits symbol.EnumMember.bits || meets y.flags.bits symbol.FunctionExpression.bits || meets y.flags.bits symbol.Ambient.bits

@@ -15,7 +15,8 @@ use std::alloc::{AllocError, Global};
 /// of a function expression; and where a direct call of `eval` may name it. The only error is want of memory.
 pub fn find_names(alloc: Global, p: &Program, known: &[String]) -> Result<NameReport, AllocError>
     ensures unused { IfOk result (λ found. AreUnused p.now found.unused) }
-    ensures undeclared { IfOk result (λ found. found.undeclared ≡ undeclared (names_of known.now) p.now) }
+    ensures undeclared { IfOk result (λ found. found.undeclared
+        ≡ undeclared (names_of known.now) p.now) }
 {
     let analysis = SemanticBuilder::new().build(alloc, p)?;
     let semantic = &analysis.semantic;

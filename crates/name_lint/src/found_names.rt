@@ -49,7 +49,8 @@ pub fn names_by(
     requires nodes { tables.now.symbols ≡ entries (node_tables (steps program.now)).symbols }
     requires pass { HasGathered program.now pass.now }
     ensures unused { IfOk result (λ found. AreUnused program.now found.unused) }
-    ensures undeclared { IfOk result (λ found. found.undeclared ≡ undeclared (names_of known.now) program.now) }
+    ensures undeclared { IfOk result (λ found. found.undeclared
+        ≡ undeclared (names_of known.now) program.now) }
 {
     let exported = exports(alloc, program)?;
     let unused = unused_symbols(alloc, scoping, tables, &exported, pass.owners())?;
@@ -68,7 +69,8 @@ pub fn names_in(
     requires tables { scoping.now ≡ tables_of program.now }
     requires nodes { tables.now.symbols ≡ entries (node_tables (steps program.now)).symbols }
     ensures unused { IfOk result (λ found. AreUnused program.now found.unused) }
-    ensures undeclared { IfOk result (λ found. found.undeclared ≡ undeclared (names_of known.now) program.now) }
+    ensures undeclared { IfOk result (λ found. found.undeclared
+        ≡ undeclared (names_of known.now) program.now) }
 {
     let pass = TreePass::over(alloc, program, tables)?;
     names_by(alloc, program, scoping, tables, &pass, known)

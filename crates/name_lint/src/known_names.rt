@@ -37,7 +37,8 @@ impl KnownNames {
 
     /// Adds a name.
     fn add(&mut self, alloc: Global, word: &str) -> Result<(), AllocError>
-        ensures { OnOk result ((name : List ℕ) → is_known self.new name ≡ (bytes_eq name (chars word.now) || is_known self.old name)) }
+        ensures { OnOk result ((name : List ℕ)
+            → is_known self.new name ≡ (bytes_eq name (chars word.now) || is_known self.old name)) }
     {
         let text = String::from_str(alloc, word)?;
         self.texts.insert(text)?;
@@ -46,7 +47,8 @@ impl KnownNames {
 
     /// The names that the words are.
     pub fn of(alloc: Global, words: &[String]) -> Result<KnownNames, AllocError>
-        ensures { IfOk result (λ known. (name : List ℕ) → is_known known name ≡ is_known (names_of words.now) name) }
+        ensures { IfOk result (λ known. (name : List ℕ)
+            → is_known known name ≡ is_known (names_of words.now) name) }
     {
         let mut known = KnownNames::new(alloc);
         for word in words {

@@ -14,8 +14,8 @@ use scoping::{NodeTables, Scoping};
 use semantic_syntax::{NodeId, SymbolFlags, SymbolId};
 use std::alloc::{AllocError, Global};
 
-/// Whether the symbol is in use for what it is: a member of an enum, the name of a function expression, one that is
-/// only declared, or one that a direct call of `eval` may name.
+/// Whether the symbol counts as used, whatever refers to it: a member of an enum, the name of a function expression, one
+/// that is only declared, or one that a direct call of `eval` may name.
 fn is_sure(scoping: &Scoping, symbol: SymbolId) -> bool
     requires { symbol < length scoping.now.symbols }
     ensures { result ≡ is_sure scoping.now (symbol_of scoping.now symbol) }
@@ -29,7 +29,8 @@ fn is_sure(scoping: &Scoping, symbol: SymbolId) -> bool
 
 /// Adds the symbols that are in use for what they are.
 fn add_sure(symbols: &mut Vec<u32>, scoping: &Scoping) -> Result<(), AllocError>
-    ensures { OnOk result (symbols.new.items ≡ symbols.old.items ++ sure_from scoping.now 0 scoping.now.symbols) }
+    ensures { OnOk result (symbols.new.items
+        ≡ symbols.old.items ++ sure_from scoping.now 0 scoping.now.symbols) }
 {
     let count = scoping.symbols_len() as u32;
     for number in 0..count {
@@ -46,7 +47,8 @@ fn add_declared(
     nodes: &[NodeId],
     tables: &NodeTables,
 ) -> Result<(), AllocError>
-    ensures { OnOk result (symbols.new.items ≡ symbols.old.items ++ filter_map (symbol_in tables.now) nodes.now) }
+    ensures { OnOk result (symbols.new.items
+        ≡ symbols.old.items ++ filter_map (symbol_in tables.now) nodes.now) }
 {
     for node in nodes {
         if let Some(symbol) = tables.symbol_of(*node) {
@@ -65,7 +67,9 @@ fn live_at_once(
     exported: &[NodeId],
     free: &[u32],
 ) -> Result<Vec<u32>, AllocError>
-    ensures { IfOk result (λ symbols. symbols.items ≡ sure_from scoping.now 0 scoping.now.symbols ++ filter_map (symbol_in tables.now) exported.now ++ free.now) }
+    ensures { IfOk result (λ symbols. symbols.items
+        ≡ sure_from scoping.now 0 scoping.now.symbols
+        ++ filter_map (symbol_in tables.now) exported.now ++ free.now) }
 {
     let mut symbols = Vec::new(alloc);
     add_sure(&mut symbols, scoping)?;
@@ -84,8 +88,11 @@ fn live_marks(
 ) -> Result<Vec<bool>, AllocError>
     requires { AreSymbols scoping.now (symbol_in tables.now) exported.now owners.now }
     ensures length { IfOk result (λ marks. length marks.items ≡ length scoping.now.symbols) }
-    ensures sound { IfOk result (λ marks. (s : ℕ) → is_marked marks.items s ≡ true → LiveIn scoping.now (symbol_in tables.now) exported.now owners.now s) }
-    ensures complete { IfOk result (λ marks. (s : ℕ) → LiveIn scoping.now (symbol_in tables.now) exported.now owners.now s → is_marked marks.items s ≡ true) }
+    ensures sound { IfOk result (λ marks. (s : ℕ) → is_marked marks.items s ≡ true
+        → LiveIn scoping.now (symbol_in tables.now) exported.now owners.now s) }
+    ensures complete { IfOk result (λ marks. (s : ℕ)
+        → LiveIn scoping.now (symbol_in tables.now) exported.now owners.now s
+        → is_marked marks.items s ≡ true) }
 {
     let uses = ReferenceUses::of(alloc, scoping, owners)?;
     let seeds = live_at_once(alloc, scoping, tables, exported, &uses.free)?;
@@ -116,7 +123,9 @@ pub fn unused_symbols(
     owners: &[Option<SymbolId>],
 ) -> Result<SymbolIdList, AllocError>
     requires { AreSymbols scoping.now (symbol_in tables.now) exported.now owners.now }
-    ensures { IfOk result (λ unused. AreOutside (length scoping.now.symbols) (LiveIn scoping.now (symbol_in tables.now) exported.now owners.now) unused) }
+    ensures { IfOk result (λ unused.
+        AreOutside (length scoping.now.symbols)
+        (LiveIn scoping.now (symbol_in tables.now) exported.now owners.now) unused) }
 {
     let marks = live_marks(alloc, scoping, tables, exported, owners)?;
     let _count = scoping.symbols_len();

@@ -58,7 +58,8 @@ fn write_unused<K: Sink>(
     out: &mut K,
 ) -> Result<(), ReportError>
     requires { All (λ y. y < length scoping.now.symbols) symbols.now }
-    ensures { Writes K.held K.faults out.old out.new (flat_map (unused_line scoping.now) symbols.now) result }
+    ensures { Writes K.held K.faults out.old out.new
+        (flat_map (unused_line scoping.now) symbols.now) result }
 {
     for symbol in symbols {
         write_symbol(line, scoping, *symbol, out)?;
@@ -73,7 +74,8 @@ fn write_reference<K: Sink>(
     out: &mut K,
 ) -> Result<(), ReportError>
     requires { reference < length nodes.now }
-    ensures { Writes K.held K.faults out.old out.new (undeclared_line (map text_of nodes.now) (map span_of nodes.now) reference) result }
+    ensures { Writes K.held K.faults out.old out.new
+        (undeclared_line (map text_of nodes.now) (map span_of nodes.now) reference) result }
 {
     let node = nodes[reference.index()];
     make_name_line(
@@ -94,7 +96,9 @@ fn write_undeclared<K: Sink>(
     out: &mut K,
 ) -> Result<(), ReportError>
     requires { All (λ r. r < length nodes.now) references.now }
-    ensures { Writes K.held K.faults out.old out.new (flat_map (undeclared_line (map text_of nodes.now) (map span_of nodes.now)) references.now) result }
+    ensures { Writes K.held K.faults out.old out.new
+        (flat_map (undeclared_line (map text_of nodes.now) (map span_of nodes.now)) references.now)
+        result }
 {
     for reference in references {
         write_reference(line, nodes, *reference, out)?;
@@ -115,7 +119,8 @@ pub fn write_names<K: Sink>(
     requires unused { All (λ y. y < length scoping.now.symbols) report.now.unused }
     requires undeclared { All (λ r. r < length nodes.now) report.now.undeclared }
     ensures { Writes K.held K.faults out.old out.new
-        (name_lines scoping.now (map text_of nodes.now) (map span_of nodes.now) report.now.unused report.now.undeclared) result }
+        (name_lines scoping.now (map text_of nodes.now)
+        (map span_of nodes.now) report.now.unused report.now.undeclared) result }
 {
     let mut line = Line::new(alloc);
     write_unused(&mut line, scoping, report.unused.as_slice(), out)?;

@@ -66,7 +66,8 @@ fn finish_answer<K: Sink>(
     requires unused { All (λ y. y < length scoping.now.symbols) report.now.unused }
     requires undeclared { All (λ r. r < length nodes.now) report.now.undeclared }
     ensures { WritesAll K.held K.faults out.old out.new
-        (name_lines scoping.now (map text_of nodes.now) (map span_of nodes.now) report.now.unused report.now.undeclared)
+        (name_lines scoping.now (map text_of nodes.now)
+        (map span_of nodes.now) report.now.unused report.now.undeclared)
         (status_for report.now.unused report.now.undeclared) result }
 {
     write_names(alloc, scoping, nodes, report, out)?;
@@ -122,9 +123,12 @@ fn answer_input<S: Source, K: Sink>(
     out: &mut K,
 ) -> Result<NamesStatus, ReportError>
     requires { AreNames words.now }
-    ensures ends { Ends words.now (source_call S.left S.faults source.old source.new) (sink_call K.held K.faults out.old out.new) result }
-    ensures failing { FaultsEnd (source_call S.left S.faults source.old source.new) (sink_call K.held K.faults out.old out.new) (end_due end_of result) }
-    ensures complete { (input : List ℕ) (program : Tree) → S.left source.old ≡ Some input → Stands input program → IfErr result IsNotRefused }
+    ensures ends { Ends words.now (source_call S.left S.faults source.old source.new)
+        (sink_call K.held K.faults out.old out.new) result }
+    ensures failing { FaultsEnd (source_call S.left S.faults source.old source.new)
+        (sink_call K.held K.faults out.old out.new) (end_due end_of result) }
+    ensures complete { (input : List ℕ) (program : Tree) → S.left source.old ≡ Some input
+        → Stands input program → IfErr result IsNotRefused }
 {
     let program = read_program_from(alloc, source)?;
     answer(alloc, words, &program, out)
@@ -135,7 +139,8 @@ pub const USAGE: &str = "usage: name_lint [NAME ..]\n";
 
 /// Answers words that aren't names.
 fn refuse_words<E: Sink>(errs: &mut E) -> NamesStatus
-    ensures { TellsEnd (sink_call E.held E.faults errs.old errs.new) usage_line Stop.Usage (end_of result) }
+    ensures { TellsEnd (sink_call E.held E.faults errs.old errs.new) usage_line Stop.Usage
+        (end_of result) }
 {
     refuse(USAGE, errs)
 }
@@ -152,10 +157,13 @@ pub fn run_names<S: Source, K: Sink, E: Sink>(
     out: &mut K,
     errs: &mut E,
 ) -> NamesStatus
-    ensures means { Means (source_call S.left S.faults source.old source.new) (sink_call K.held K.faults out.old out.new)
+    ensures means { Means (source_call S.left S.faults source.old source.new)
+        (sink_call K.held K.faults out.old out.new)
         (sink_call E.held E.faults errs.old errs.new) words.now result }
-    ensures failing { FaultsEnd (source_call S.left S.faults source.old source.new) (sink_call K.held K.faults out.old out.new) (end_of result) }
-    ensures complete { AreNames words.now → IsClear (source_call S.left S.faults source.old source.new)
+    ensures failing { FaultsEnd (source_call S.left S.faults source.old source.new)
+        (sink_call K.held K.faults out.old out.new) (end_of result) }
+    ensures complete { AreNames words.now
+        → IsClear (source_call S.left S.faults source.old source.new)
         (sink_call K.held K.faults out.old out.new) → IsDoneOrMemory (end_of result) }
     ensures usage { (AreNames words.now → ⊥) → IsUsageOrMemory (end_of result) }
 {

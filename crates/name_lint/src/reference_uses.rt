@@ -35,8 +35,10 @@ fn used_symbol(reference: &Reference) -> Option<SymbolId>
 impl ReferenceUses {
     /// Adds a use.
     fn add(&mut self, owner: Option<SymbolId>, used: SymbolId) -> Result<(), AllocError>
-        ensures free { OnOk result (self.new.free.items ≡ self.old.free.items ++ filter_map free_use (use_of owner (Some used))) }
-        ensures owned { OnOk result (self.new.owned.items ≡ self.old.owned.items ++ filter_map owned_use (use_of owner (Some used))) }
+        ensures free { OnOk result (self.new.free.items
+            ≡ self.old.free.items ++ filter_map free_use (use_of owner (Some used))) }
+        ensures owned { OnOk result (self.new.owned.items
+            ≡ self.old.owned.items ++ filter_map owned_use (use_of owner (Some used))) }
     {
         let number = used.index() as u32;
         match owner {
@@ -52,8 +54,12 @@ impl ReferenceUses {
         owner: Option<SymbolId>,
         reference: &Reference,
     ) -> Result<(), AllocError>
-        ensures free { OnOk result (self.new.free.items ≡ self.old.free.items ++ filter_map free_use (use_of owner (used_symbol reference.now))) }
-        ensures owned { OnOk result (self.new.owned.items ≡ self.old.owned.items ++ filter_map owned_use (use_of owner (used_symbol reference.now))) }
+        ensures free { OnOk result (self.new.free.items
+            ≡ self.old.free.items
+            ++ filter_map free_use (use_of owner (used_symbol reference.now))) }
+        ensures owned { OnOk result (self.new.owned.items
+            ≡ self.old.owned.items
+            ++ filter_map owned_use (use_of owner (used_symbol reference.now))) }
     {
         match used_symbol(reference) {
             Some(used) => self.add(owner, used),
@@ -68,8 +74,10 @@ impl ReferenceUses {
         owners: &[Option<SymbolId>],
     ) -> Result<ReferenceUses, AllocError>
         requires { length owners.now ≡ length scoping.now.references }
-        ensures free { IfOk result (λ uses. uses.free.items ≡ filter_map free_use (uses_by owners.now scoping.now.references)) }
-        ensures owned { IfOk result (λ uses. uses.owned.items ≡ filter_map owned_use (uses_by owners.now scoping.now.references)) }
+        ensures free { IfOk result (λ uses. uses.free.items
+            ≡ filter_map free_use (uses_by owners.now scoping.now.references)) }
+        ensures owned { IfOk result (λ uses. uses.owned.items
+            ≡ filter_map owned_use (uses_by owners.now scoping.now.references)) }
     {
         let mut uses = ReferenceUses {
             free: Vec::new(alloc),

@@ -116,7 +116,8 @@ impl<'a> TreePass<'a> {
         owner: &Option<SymbolId>,
         tables: &NodeTables,
     ) -> Result<(), AllocError>
-        ensures { OnOk result (self.new ≡ gathered_from (symbol_in tables.now) owner.now node.entry.node.now self.old) }
+        ensures { OnOk result (self.new
+            ≡ gathered_from (symbol_in tables.now) owner.now node.entry.node.now self.old) }
     {
         self.gather_at(node, owner)?;
         let inside = owner_inside(node, owner, tables);

@@ -51,7 +51,9 @@ fn undeclared(
     known: &KnownNames,
 ) -> Result<Vec<ReferenceId>, AllocError>
     requires { length references.now ≡ length scoping.now.references }
-    ensures { IfOk result (λ found. found.items ≡ undeclared_from known.now scoping.now 0 (map text_of references.now) scoping.now.references) }
+    ensures { IfOk result (λ found. found.items
+        ≡ undeclared_from known.now scoping.now 0
+        (map text_of references.now) scoping.now.references) }
 {
     let mut found = Vec::new(alloc);
     let count = scoping.references_len() as u32;
@@ -73,7 +75,9 @@ pub fn undeclared_names(
     words: &[String],
 ) -> Result<ReferenceIdList, AllocError>
     requires { length references.now ≡ length scoping.now.references }
-    ensures { IfOk result (λ found. found ≡ undeclared_from (names_of words.now) scoping.now 0 (map text_of references.now) scoping.now.references) }
+    ensures { IfOk result (λ found. found
+        ≡ undeclared_from (names_of words.now) scoping.now 0
+        (map text_of references.now) scoping.now.references) }
 {
     let known = KnownNames::of(alloc, words)?;
     let found = undeclared(alloc, scoping, references, &known)?;

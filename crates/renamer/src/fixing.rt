@@ -51,7 +51,8 @@ fn fixes(
     place: Place,
     node: &Node,
 ) -> bool
-    ensures { result ≡ fixes_at (has_key nat_eq exported.now) (bears_name (told_by analysed.now) symbol) place node.now }
+    ensures { result ≡ fixes_at (has_key nat_eq exported.now)
+        (bears_name (told_by analysed.now) symbol) place node.now }
 {
     bears_name(analysed, symbol, node.node_id)
         && (names_property(place, node.kind) || exported.contains(&node.node_id.index()))
@@ -67,7 +68,9 @@ fn first_fixing(
     node: &Node,
 ) -> Option<NodeId>
     requires { place.depth + node_count node.now < 2 ^ 32 - 1 }
-    ensures { result ≡ first_where (fixes_at (has_key nat_eq exported.now) (bears_name (told_by analysed.now) symbol)) (placed_from place node.now) }
+    ensures { result ≡ first_where
+        (fixes_at (has_key nat_eq exported.now) (bears_name (told_by analysed.now) symbol))
+        (placed_from place node.now) }
 {
     if fixes(analysed, symbol, exported, place, node) {
         return Some(node.node_id);
@@ -89,7 +92,9 @@ pub fn first_fixed(
     analysed: &Analysed<'_>,
     symbol: SymbolId,
 ) -> Result<Option<NodeId>, AllocError>
-    ensures { IfOk result (λ found. found ≡ first_fixed (exported_names (steps program.now)) (bears_name (told_by analysed.now) symbol) (steps program.now)) }
+    ensures { IfOk result (λ found. found
+        ≡ first_fixed (exported_names (steps program.now))
+        (bears_name (told_by analysed.now) symbol) (steps program.now)) }
 {
     let names = exported_names(alloc, program)?;
     let exported = set_of(alloc, names.as_slice())?;

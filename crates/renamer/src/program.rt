@@ -36,7 +36,8 @@ fn answer<K: Sink>(
     program: &Program,
     out: &mut K,
 ) -> Result<(), RequestError>
-    ensures { GivesAnswer K.held K.faults out.old out.new (asked_by request.now) program.now result }
+    ensures { GivesAnswer K.held K.faults out.old out.new
+        (asked_by request.now) program.now result }
 {
     let made = rename_asked(alloc, program, request)?;
     let written = write_text(alloc, &made, out);
@@ -52,9 +53,12 @@ fn answer_request<S: Source, K: Sink>(
     source: &mut S,
     out: &mut K,
 ) -> Result<(), RequestError>
-    ensures ends { Ends (asked_by request.now) (source_call S.left S.faults source.old source.new) (sink_call K.held K.faults out.old out.new) result }
-    ensures failing { FaultsEnd (source_call S.left S.faults source.old source.new) (sink_call K.held K.faults out.old out.new) (end_due result) }
-    ensures complete { (input : List ℕ) (program : Tree) → S.left source.old ≡ Some input → Stands input program → IfErr result IsGoodInput }
+    ensures ends { Ends (asked_by request.now) (source_call S.left S.faults source.old source.new)
+        (sink_call K.held K.faults out.old out.new) result }
+    ensures failing { FaultsEnd (source_call S.left S.faults source.old source.new)
+        (sink_call K.held K.faults out.old out.new) (end_due result) }
+    ensures complete { (input : List ℕ) (program : Tree) → S.left source.old ≡ Some input
+        → Stands input program → IfErr result IsGoodInput }
 {
     let program = read_program_from(alloc, source)?;
     let answered = answer(alloc, request, &program, out);
@@ -72,12 +76,15 @@ pub fn run_rename<S: Source, K: Sink, E: Sink>(
     out: &mut K,
     errs: &mut E,
 ) -> RenameStatus
-    ensures means { Means (source_call S.left S.faults source.old source.new) (sink_call K.held K.faults out.old out.new)
+    ensures means { Means (source_call S.left S.faults source.old source.new)
+        (sink_call K.held K.faults out.old out.new)
         (sink_call E.held E.faults errs.old errs.new) words.now result }
-    ensures failing { FaultsEnd (source_call S.left S.faults source.old source.new) (sink_call K.held K.faults out.old out.new) (end_of result) }
+    ensures failing { FaultsEnd (source_call S.left S.faults source.old source.new)
+        (sink_call K.held K.faults out.old out.new) (end_of result) }
     // Where no end fails and the input stands for a program, it is renamed where that is not refused, but for want of memory.
     ensures complete { (asked : Asked) → request_of words.now ≡ Some asked
-        → (clear : IsClear (source_call S.left S.faults source.old source.new) (sink_call K.held K.faults out.old out.new))
+        → (clear : IsClear (source_call S.left S.faults source.old source.new)
+        (sink_call K.held K.faults out.old out.new))
         → IsOrMemory (end_for (answer_to asked clear.program)) (end_of result) }
     ensures usage { request_of words.now ≡ None → IsUsageOrMemory (end_of result) }
 {

@@ -114,7 +114,8 @@ pub fn rename_program(
     ensures refused { IfErr result (IsRefusedFor p.now s (chars new.now)) }
     // A name of this symbol alone never comes to mean another.
     ensures complete { (y : Symbol) → slice_get (tables_of p.now).symbols s ≡ Some y
-        → bytes_eq y.name (codes "arguments") ≡ false → bytes_eq y.name (codes "eval") ≡ false → BelongsTo p.now s y.name → IsUnused p.now (chars new.now)
+        → bytes_eq y.name (codes "arguments") ≡ false → bytes_eq y.name (codes "eval") ≡ false
+        → BelongsTo p.now s y.name → IsUnused p.now (chars new.now)
         → NeverDiffers result }
 {
     let _root = p.root();

@@ -20,7 +20,8 @@ use std::alloc::{AllocError, Global};
 
 /// Whether a value bears the name of the symbol, or its left does.
 fn is_named_value(analysed: &Analysed<'_>, symbol: SymbolId, value: AstKind<'_>) -> bool
-    ensures { result ≡ is_named_value (bears_name (told_by analysed.now) symbol) value.entry.node.now }
+    ensures { result ≡ is_named_value
+        (bears_name (told_by analysed.now) symbol) value.entry.node.now }
 {
     if bears_name(analysed, symbol, value.node_id()) {
         return true;
@@ -76,7 +77,8 @@ fn without_shorthand(marks: Marks) -> Marks
 /// The marks that the node has then.
 fn marks_of(analysed: &Analysed<'_>, symbol: SymbolId, node: AstKind<'_>) -> Marks
     requires { IsKnown node.node.now.kind node.node.now.marks }
-    ensures { result ≡ without_where (sheds (bears_name (told_by analysed.now) symbol)) shorthand node.entry.node.now }
+    ensures { result ≡ without_where
+        (sheds (bears_name (told_by analysed.now) symbol)) shorthand node.entry.node.now }
 {
     if sheds(analysed, symbol, node) {
         without_shorthand(node.node().marks)
@@ -87,7 +89,8 @@ fn marks_of(analysed: &Analysed<'_>, symbol: SymbolId, node: AstKind<'_>) -> Mar
 
 /// The text that the node has then.
 fn text_of<'a>(analysed: &Analysed<'_>, symbol: SymbolId, new: &'a str, node: &'a Node) -> &'a str
-    ensures { chars result.now ≡ (alone (bears_name (told_by analysed.now) symbol) (chars new.now) node.now).text }
+    ensures { chars result.now ≡
+        (alone (bears_name (told_by analysed.now) symbol) (chars new.now) node.now).text }
 {
     if bears_name(analysed, symbol, node.node_id) {
         new
@@ -105,7 +108,8 @@ fn renamed_alone(
     node: &Node,
 ) -> Result<Node, AllocError>
     requires { IsKnown node.now.kind node.now.marks }
-    ensures { IfOk result (λ made. made ≡ alone (bears_name (told_by analysed.now) symbol) (chars new.now) node.now) }
+    ensures { IfOk result (λ made. made
+        ≡ alone (bears_name (told_by analysed.now) symbol) (chars new.now) node.now) }
 {
     let text = text_of(analysed, symbol, new, node);
     let marks = marks_of(analysed, symbol, AstKind::new(node));
@@ -126,7 +130,12 @@ fn push_renamed(
     into: &mut Node,
 ) -> Result<(), AllocError>
     requires { AreKnown from.now.children }
-    ensures { OnOk result (into.new ≡ record into.old { children = join into.old.children (with_name (bears_name (told_by analysed.now) symbol) (chars new.now) from.now.children) }) }
+    ensures { OnOk result (into.new
+        ≡ record into.old {
+          children = join into.old.children
+              (with_name (bears_name (told_by analysed.now) symbol)
+              (chars new.now) from.now.children);
+        }) }
 {
     for (role, child) in from.children.as_slice() {
         let mut copy = renamed_alone(alloc, analysed, symbol, new, child)?;
@@ -148,7 +157,12 @@ fn renamed_root(
     root: &Node,
 ) -> Result<Node, AllocError>
     requires { AreKnown root.now.children }
-    ensures { IfOk result (λ made. made ≡ record root.now { children = with_name (bears_name (told_by analysed.now) symbol) (chars new.now) root.now.children; node_id = 0 }) }
+    ensures { IfOk result (λ made. made
+        ≡ record root.now {
+          children = with_name (bears_name (told_by analysed.now) symbol)
+              (chars new.now) root.now.children;
+          node_id = 0;
+        }) }
 {
     let mut made = Node::new(alloc, root.kind, root.span, root.text.as_str(), root.marks)?;
     push_renamed(alloc, analysed, symbol, new, root, &mut made)?;
@@ -163,8 +177,10 @@ fn program_of(
     comments: Vec<Comment>,
     root: Node,
 ) -> Program
-    requires { first_fault (numbered_tree (record { source = source; source_type = source_type; comments = comments.items; root = root })) ≡ None }
-    ensures { result ≡ numbered_tree (record { source = source; source_type = source_type; comments = comments.items; root = root }) }
+    requires { first_fault (numbered_tree
+        (record { source = source; source_type = source_type; comments = comments.items; root = root })) ≡ None }
+    ensures { result ≡ numbered_tree
+        (record { source = source; source_type = source_type; comments = comments.items; root = root }) }
 {
     match Program::new(alloc, source, source_type, comments, root) {
         Ok(program) => program,
@@ -182,8 +198,10 @@ pub fn renamed(
     new: &str,
 ) -> Result<Program, AllocError>
     requires name { bytes_eq (chars new.now) [] ≡ false }
-    requires identifiers { AreIdentifiers (bears_name (told_by analysed.now) symbol) program.now.root.children }
-    ensures { IfOk result (λ made. made ≡ renamed program.now (told_by analysed.now) symbol (chars new.now)) }
+    requires identifiers { AreIdentifiers
+        (bears_name (told_by analysed.now) symbol) program.now.root.children }
+    ensures { IfOk result (λ made. made
+        ≡ renamed program.now (told_by analysed.now) symbol (chars new.now)) }
 {
     let root = renamed_root(alloc, analysed, symbol, new, program.root().node())?;
     let source = Text::new(alloc, program.source_text())?;

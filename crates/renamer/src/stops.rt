@@ -17,7 +17,8 @@ pub const USAGE: &str = "usage: renamer SYMBOL NAME\n";
 
 /// Answers words that aren't a symbol's number and a name.
 pub(crate) fn refuse_words<E: Sink>(errs: &mut E) -> RenameStatus
-    ensures { TellsEnd (sink_call E.held E.faults errs.old errs.new) usage_line Stop.Usage (end_of result) }
+    ensures { TellsEnd (sink_call E.held E.faults errs.old errs.new) usage_line Stop.Usage
+        (end_of result) }
 {
     refuse(USAGE, errs)
 }
@@ -36,7 +37,8 @@ fn refusal_line(alloc: Global, refusal: Refusal) -> Result<String, AllocError>
 /// Tells a refusal's line, and answers `Refused`, or that memory is wanting. The sink has taken a prefix of the line
 /// then, and also where it failed.
 fn tell_refusal<E: Sink>(alloc: Global, refusal: Refusal, errs: &mut E) -> RenameStatus
-    ensures { TellsRefusal (sink_call E.held E.faults errs.old errs.new) (refusal_line refusal) (end_of result) }
+    ensures { TellsRefusal (sink_call E.held E.faults errs.old errs.new) (refusal_line refusal)
+        (end_of result) }
 {
     let Ok(line) = refusal_line(alloc, refusal) else {
         return RenameStatus::Memory;

@@ -32,7 +32,8 @@ fn write_answer<K: Sink>(
     ret: &SemanticBuilderReturn<'_>,
     out: &mut K,
 ) -> Result<(), ReportError>
-    ensures { Writes K.held K.faults out.old out.new (answer_text request (found_in ret.now)) result }
+    ensures { Writes K.held K.faults out.old out.new
+        (answer_text request (found_in ret.now)) result }
 {
     match request.make {
         None => write_report(alloc, ret, request.options(), out),
@@ -47,7 +48,8 @@ pub fn finish_answer<K: Sink>(
     ret: &SemanticBuilderReturn<'_>,
     out: &mut K,
 ) -> Result<ReportStatus, ReportError>
-    ensures { WritesAll K.held K.faults out.old out.new (answer_text request (found_in ret.now)) (status_for ret.now.diagnostics) result }
+    ensures { WritesAll K.held K.faults out.old out.new (answer_text request (found_in ret.now))
+        (status_for ret.now.diagnostics) result }
 {
     write_answer(alloc, request, ret, out)?;
     Ok(status_for(&ret.diagnostics))

@@ -26,7 +26,8 @@ fn write_asked_nodes<K: Sink>(
     nodes: &AstNodes<'_>,
     out: &mut K,
 ) -> Result<(), ReportError>
-    ensures { Writes K.held K.faults out.old out.new (where_asked asked (node_lines nodes.now)) result }
+    ensures { Writes K.held K.faults out.old out.new
+        (where_asked asked (node_lines nodes.now)) result }
 {
     if asked {
         write_nodes(line, nodes, out)
@@ -42,7 +43,8 @@ fn write_asked_classes<K: Sink>(
     classes: &ClassTable<'_>,
     out: &mut K,
 ) -> Result<(), ReportError>
-    ensures { Writes K.held K.faults out.old out.new (where_asked asked (all_class_lines classes.now)) result }
+    ensures { Writes K.held K.faults out.old out.new
+        (where_asked asked (all_class_lines classes.now)) result }
 {
     if asked {
         write_classes(line, classes, out)
@@ -59,7 +61,8 @@ fn write_asked_stats<K: Sink>(
     out: &mut K,
 ) -> Result<(), ReportError>
     ensures { Writes K.held K.faults out.old out.new
-        (where_asked asked (stats_line (node_count semantic.now.program.now.root) semantic.now.scoping)) result }
+        (where_asked asked (stats_line
+        (node_count semantic.now.program.now.root) semantic.now.scoping)) result }
 {
     if asked {
         write_stats(line, semantic.stats().nodes, semantic.scoping(), out)
@@ -76,7 +79,8 @@ fn write_listed<K: Sink>(
     options: Options,
     out: &mut K,
 ) -> Result<(), ReportError>
-    ensures { Writes K.held K.faults out.old out.new (listed_text options (found_in ret.now)) result }
+    ensures { Writes K.held K.faults out.old out.new
+        (listed_text options (found_in ret.now)) result }
 {
     write_asked_nodes(line, options.nodes, ret.semantic.nodes(), out)?;
     write_tables(alloc, line, ret.semantic.scoping(), out)
@@ -89,7 +93,8 @@ fn write_noted<K: Sink>(
     options: Options,
     out: &mut K,
 ) -> Result<(), ReportError>
-    ensures { Writes K.held K.faults out.old out.new (noted_text options (found_in ret.now)) result }
+    ensures { Writes K.held K.faults out.old out.new
+        (noted_text options (found_in ret.now)) result }
 {
     write_asked_classes(line, options.classes, ret.semantic.classes(), out)?;
     write_labels(line, ret.semantic.unused_labels(), out)
@@ -102,7 +107,8 @@ fn write_counted<K: Sink>(
     options: Options,
     out: &mut K,
 ) -> Result<(), ReportError>
-    ensures { Writes K.held K.faults out.old out.new (counted_text options (found_in ret.now)) result }
+    ensures { Writes K.held K.faults out.old out.new
+        (counted_text options (found_in ret.now)) result }
 {
     write_asked_stats(line, options.stats, &ret.semantic, out)?;
     write_diagnostics(line, &ret.diagnostics, out)
@@ -115,7 +121,8 @@ fn write_behind_tables<K: Sink>(
     options: Options,
     out: &mut K,
 ) -> Result<(), ReportError>
-    ensures { Writes K.held K.faults out.old out.new (noted_text options (found_in ret.now) ++ counted_text options (found_in ret.now)) result }
+    ensures { Writes K.held K.faults out.old out.new
+        (noted_text options (found_in ret.now) ++ counted_text options (found_in ret.now)) result }
 {
     write_noted(line, ret, options, out)?;
     write_counted(line, ret, options, out)
@@ -130,7 +137,8 @@ pub fn write_report<K: Sink>(
     options: Options,
     out: &mut K,
 ) -> Result<(), ReportError>
-    ensures { Writes K.held K.faults out.old out.new (report_text options (found_in ret.now)) result }
+    ensures { Writes K.held K.faults out.old out.new
+        (report_text options (found_in ret.now)) result }
 {
     let mut line = Line::new(alloc);
     write_listed(alloc, &mut line, ret, options, out)?;

@@ -74,7 +74,8 @@ pub fn make_element_line(
     is_static: bool,
     kind: ElementKind,
 ) -> Result<(), AllocError>
-    ensures { OnOk result (line.new ≡ element_head class element name.now span ++ element_end is_private is_static kind) }
+    ensures { OnOk result (line.new
+        ≡ element_head class element name.now span ++ element_end is_private is_static kind) }
 {
     line.begin();
     line.push_labelled("element ", class.index())?;

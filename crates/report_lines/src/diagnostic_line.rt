@@ -25,7 +25,8 @@ fn push_said(line: &mut Line, label: &str, text: &Option<Text>) -> Result<(), Al
 
 // Adds a text as it is, or a dash for none.
 fn push_plain(line: &mut Line, text: &Option<Text>) -> Result<(), AllocError>
-    ensures { OnOk result (line.new ≡ line.old ++ plain_or_dash (option_map encode_utf8_all text.now)) }
+    ensures { OnOk result (line.new
+        ≡ line.old ++ plain_or_dash (option_map encode_utf8_all text.now)) }
 {
     match text {
         None => line.push("-"),

@@ -12,7 +12,8 @@ use std::alloc::{AllocError, Global};
 
 // Gives the name to a reference that has none.
 fn name_once<'s>(names: &mut [Option<Ident<'s>>], reference: ReferenceId, name: Ident<'s>)
-    ensures { map name_shown names.new ≡ named_once (map name_shown names.old) reference (name_of name.entry) }
+    ensures { map name_shown names.new
+        ≡ named_once (map name_shown names.old) reference (name_of name.entry) }
 {
     let place = reference.index();
     if place < names.len() && names[place].is_none() {
@@ -22,7 +23,8 @@ fn name_once<'s>(names: &mut [Option<Ident<'s>>], reference: ReferenceId, name: 
 
 // Gives the name to those of the references that have none.
 fn name_each<'s>(names: &mut [Option<Ident<'s>>], references: &[ReferenceId], name: Ident<'s>)
-    ensures { map name_shown names.new ≡ named_each (map name_shown names.old) references.now (name_of name.entry) }
+    ensures { map name_shown names.new
+        ≡ named_each (map name_shown names.old) references.now (name_of name.entry) }
 {
     for reference in references {
         name_once(names, *reference, name);

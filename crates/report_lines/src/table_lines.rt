@@ -38,7 +38,8 @@ pub fn make_scope_line(
     node: NodeId,
     flags: ScopeFlags,
 ) -> Result<(), AllocError>
-    ensures { OnOk result (line.new ≡ scope_line scope (record { parent = parent; node = node; flags = flags })) }
+    ensures { OnOk result (line.new
+        ≡ scope_line scope (record { parent = parent; node = node; flags = flags })) }
 {
     line.begin();
     line.push_labelled("scope ", scope.index())?;

@@ -28,7 +28,8 @@ fn write_class_line<K: Sink>(
     node: NodeId,
     out: &mut K,
 ) -> Result<(), ReportError>
-    ensures { Writes K.held K.faults out.old out.new (class_line class node (parent_in classes.now.parents class)) result }
+    ensures { Writes K.held K.faults out.old out.new
+        (class_line class node (parent_in classes.now.parents class)) result }
 {
     let parent = parent_in(&classes.parent_ids, class);
     make_class_line(line, class, node, parent)?;
@@ -42,7 +43,8 @@ fn write_element<K: Sink>(
     element: &Element<'_>,
     out: &mut K,
 ) -> Result<(), ReportError>
-    ensures { Writes K.held K.faults out.old out.new (element_line class number (element_seen element.now)) result }
+    ensures { Writes K.held K.faults out.old out.new
+        (element_line class number (element_seen element.now)) result }
 {
     make_element_line(
         line,
@@ -64,7 +66,8 @@ fn write_elements<K: Sink>(
     out: &mut K,
 ) -> Result<(), ReportError>
     requires { length elements.now ≤ u32.MAX }
-    ensures { Writes K.held K.faults out.old out.new (numbered_text (λ n e. element_line class n (element_seen e)) 0 elements.now) result }
+    ensures { Writes K.held K.faults out.old out.new
+        (numbered_text (λ n e. element_line class n (element_seen e)) 0 elements.now) result }
 {
     for (number, element) in elements.iter().enumerate() {
         write_element(line, class, ElementId::new(number as u32), element, out)?;
@@ -78,7 +81,8 @@ fn write_use<K: Sink>(
     used: &PrivateIdentifierReference<'_>,
     out: &mut K,
 ) -> Result<(), ReportError>
-    ensures { Writes K.held K.faults out.old out.new (private_use_line class (use_seen used.now)) result }
+    ensures { Writes K.held K.faults out.old out.new
+        (private_use_line class (use_seen used.now)) result }
 {
     make_private_use_line(
         line,
@@ -98,7 +102,8 @@ fn write_uses<K: Sink>(
     out: &mut K,
 ) -> Result<(), ReportError>
     requires { class < length classes.now.nodes }
-    ensures { Writes K.held K.faults out.old out.new (flat_map (private_use_line class) (uses_in classes.now class)) result }
+    ensures { Writes K.held K.faults out.old out.new
+        (flat_map (private_use_line class) (uses_in classes.now class)) result }
 {
     for used in classes.iter_private_identifiers(class) {
         write_use(line, class, used, out)?;
@@ -115,7 +120,8 @@ fn write_members<K: Sink>(
 ) -> Result<(), ReportError>
     requires { class < length classes.now.nodes }
     ensures { Writes K.held K.faults out.old out.new
-        (numbered_text (element_line class) 0 (elements_in classes.now class) ++ flat_map (private_use_line class) (uses_in classes.now class)) result }
+        (numbered_text (element_line class) 0 (elements_in classes.now class)
+        ++ flat_map (private_use_line class) (uses_in classes.now class)) result }
 {
     write_elements(line, class, classes.elements_of(class), out)?;
     write_uses(line, classes, class, out)
@@ -129,7 +135,8 @@ fn write_class<K: Sink>(
     out: &mut K,
 ) -> Result<(), ReportError>
     requires { class < length classes.now.nodes }
-    ensures { Writes K.held K.faults out.old out.new (class_lines classes.now (class, node)) result }
+    ensures { Writes K.held K.faults out.old out.new
+        (class_lines classes.now (class, node)) result }
 {
     write_class_line(line, classes, class, node, out)?;
     write_members(line, classes, class, out)

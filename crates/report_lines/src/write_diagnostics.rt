@@ -25,7 +25,8 @@ pub fn write_diagnostics<K: Sink>(
     diagnostics: &Diagnostics,
     out: &mut K,
 ) -> Result<(), ReportError>
-    ensures { Writes K.held K.faults out.old out.new (flat_map diagnostic_line diagnostics.now) result }
+    ensures { Writes K.held K.faults out.old out.new
+        (flat_map diagnostic_line diagnostics.now) result }
 {
     for diagnostic in diagnostics.iter() {
         write_diagnostic(line, diagnostic, out)?;

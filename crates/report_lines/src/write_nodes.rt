@@ -18,7 +18,8 @@ fn write_node<K: Sink>(
     out: &mut K,
 ) -> Result<(), ReportError>
     requires { id < length nodes.now.nodes }
-    ensures { Writes K.held K.faults out.old out.new (node_line_by nodes.now.parents (id, seen node.now)) result }
+    ensures { Writes K.held K.faults out.old out.new
+        (node_line_by nodes.now.parents (id, seen node.now)) result }
 {
     let parent = nodes.parent_id(id);
     make_node_line(line, id, node.kind().ty(), parent, node.scope_id())?;

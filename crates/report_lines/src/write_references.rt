@@ -34,7 +34,8 @@ fn reference_name<'s>(
 ) -> &'s str
     requires reference { reference < length scoping.now.references }
     requires names { map name_shown names.now ≡ free_names scoping.now }
-    ensures { result.now ≡ encode_utf8_all (reference_name scoping.now reference (reference_of scoping.now reference)) }
+    ensures { result.now ≡ encode_utf8_all
+        (reference_name scoping.now reference (reference_of scoping.now reference)) }
 {
     match scoping.get_reference(reference).symbol_id() {
         None => text_of(names[reference.index()]),
@@ -52,7 +53,8 @@ fn write_reference<K: Sink>(
 ) -> Result<(), ReportError>
     requires reference { reference < length scoping.now.references }
     requires names { map name_shown names.now ≡ free_names scoping.now }
-    ensures { Writes K.held K.faults out.old out.new (reference_line scoping.now reference (reference_of scoping.now reference)) result }
+    ensures { Writes K.held K.faults out.old out.new
+        (reference_line scoping.now reference (reference_of scoping.now reference)) result }
 {
     let name = reference_name(scoping, names, reference);
     make_reference_line(
@@ -71,7 +73,8 @@ fn write_named<K: Sink>(
     out: &mut K,
 ) -> Result<(), ReportError>
     requires names { map name_shown names.now ≡ free_names scoping.now }
-    ensures { Writes K.held K.faults out.old out.new (numbered_text (reference_line scoping.now) 0 scoping.now.references) result }
+    ensures { Writes K.held K.faults out.old out.new
+        (numbered_text (reference_line scoping.now) 0 scoping.now.references) result }
 {
     let count = scoping.references_len() as u32;
     for number in 0..count {
@@ -87,7 +90,8 @@ fn write_references<K: Sink>(
     scoping: &Scoping,
     out: &mut K,
 ) -> Result<(), ReportError>
-    ensures { Writes K.held K.faults out.old out.new (numbered_text (reference_line scoping.now) 0 scoping.now.references) result }
+    ensures { Writes K.held K.faults out.old out.new
+        (numbered_text (reference_line scoping.now) 0 scoping.now.references) result }
 {
     let names = free_names(alloc, scoping)?;
     write_named(line, scoping, &names, out)
@@ -99,7 +103,8 @@ fn write_free<K: Sink>(
     references: &[ReferenceId],
     out: &mut K,
 ) -> Result<(), ReportError>
-    ensures { Writes K.held K.faults out.old out.new (free_line (name_of name.entry, references.now)) result }
+    ensures { Writes K.held K.faults out.old out.new
+        (free_line (name_of name.entry, references.now)) result }
 {
     make_free_line(line, name.as_str(), references)?;
     line.offer(out)

@@ -19,7 +19,8 @@ fn write_scope_line<K: Sink>(
     out: &mut K,
 ) -> Result<(), ReportError>
     requires { scope < length scoping.now.scopes }
-    ensures { Writes K.held K.faults out.old out.new (scope_line scope (scope_of scoping.now scope)) result }
+    ensures { Writes K.held K.faults out.old out.new
+        (scope_line scope (scope_of scoping.now scope)) result }
 {
     let parent = scoping.scope_parent_id(scope);
     make_scope_line(
@@ -39,7 +40,8 @@ fn write_binding<K: Sink>(
     symbol: SymbolId,
     out: &mut K,
 ) -> Result<(), ReportError>
-    ensures { Writes K.held K.faults out.old out.new (bind_line scope (name_of name.entry, symbol)) result }
+    ensures { Writes K.held K.faults out.old out.new
+        (bind_line scope (name_of name.entry, symbol)) result }
 {
     make_bind_line(line, scope, name.as_str(), symbol)?;
     line.offer(out)
@@ -51,7 +53,8 @@ fn write_bindings<K: Sink>(
     bindings: &Bindings<'_>,
     out: &mut K,
 ) -> Result<(), ReportError>
-    ensures { Writes K.held K.faults out.old out.new (flat_map (bind_line scope) bindings.now) result }
+    ensures { Writes K.held K.faults out.old out.new
+        (flat_map (bind_line scope) bindings.now) result }
 {
     for (name, symbol) in bindings.iter() {
         write_binding(line, scope, name, symbol, out)?;
@@ -66,7 +69,8 @@ fn write_scope<K: Sink>(
     out: &mut K,
 ) -> Result<(), ReportError>
     requires { scope < length scoping.now.scopes }
-    ensures { Writes K.held K.faults out.old out.new (scope_lines scoping.now scope (scope_of scoping.now scope)) result }
+    ensures { Writes K.held K.faults out.old out.new
+        (scope_lines scoping.now scope (scope_of scoping.now scope)) result }
 {
     write_scope_line(line, scoping, scope, out)?;
     write_bindings(line, scope, &scoping.get_bindings(scope), out)
@@ -78,7 +82,8 @@ pub fn write_scopes<K: Sink>(
     scoping: &Scoping,
     out: &mut K,
 ) -> Result<(), ReportError>
-    ensures { Writes K.held K.faults out.old out.new (numbered_text (scope_lines scoping.now) 0 scoping.now.scopes) result }
+    ensures { Writes K.held K.faults out.old out.new
+        (numbered_text (scope_lines scoping.now) 0 scoping.now.scopes) result }
 {
     let count = scoping.scopes_len() as u32;
     for number in 0..count {

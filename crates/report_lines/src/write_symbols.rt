@@ -21,7 +21,8 @@ fn write_symbol_line<K: Sink>(
     out: &mut K,
 ) -> Result<(), ReportError>
     requires { symbol < length scoping.now.symbols }
-    ensures { Writes K.held K.faults out.old out.new (symbol_line symbol (symbol_of scoping.now symbol)) result }
+    ensures { Writes K.held K.faults out.old out.new
+        (symbol_line symbol (symbol_of scoping.now symbol)) result }
 {
     make_symbol_line(
         line,
@@ -53,7 +54,8 @@ fn write_redeclarations<K: Sink>(
     entries: &[Redeclaration],
     out: &mut K,
 ) -> Result<(), ReportError>
-    ensures { Writes K.held K.faults out.old out.new (flat_map (redeclaration_line symbol) entries.now) result }
+    ensures { Writes K.held K.faults out.old out.new
+        (flat_map (redeclaration_line symbol) entries.now) result }
 {
     for entry in entries {
         write_redeclaration(line, symbol, entry, out)?;
@@ -68,7 +70,8 @@ fn write_uses<K: Sink>(
     out: &mut K,
 ) -> Result<(), ReportError>
     requires { symbol < length scoping.now.symbols }
-    ensures { Writes K.held K.faults out.old out.new (uses_line symbol (uses_of scoping.now symbol)) result }
+    ensures { Writes K.held K.faults out.old out.new
+        (uses_line symbol (uses_of scoping.now symbol)) result }
 {
     make_uses_line(line, symbol, scoping.get_resolved_reference_ids(symbol))?;
     line.offer(out)
@@ -81,7 +84,8 @@ fn write_declarations<K: Sink>(
     out: &mut K,
 ) -> Result<(), ReportError>
     requires { symbol < length scoping.now.symbols }
-    ensures { Writes K.held K.faults out.old out.new (declaration_lines symbol (symbol_of scoping.now symbol)) result }
+    ensures { Writes K.held K.faults out.old out.new
+        (declaration_lines symbol (symbol_of scoping.now symbol)) result }
 {
     write_symbol_line(line, scoping, symbol, out)?;
     write_redeclarations(line, symbol, scoping.symbol_redeclarations(symbol), out)
@@ -94,7 +98,8 @@ fn write_symbol<K: Sink>(
     out: &mut K,
 ) -> Result<(), ReportError>
     requires { symbol < length scoping.now.symbols }
-    ensures { Writes K.held K.faults out.old out.new (symbol_lines scoping.now symbol (symbol_of scoping.now symbol)) result }
+    ensures { Writes K.held K.faults out.old out.new
+        (symbol_lines scoping.now symbol (symbol_of scoping.now symbol)) result }
 {
     write_declarations(line, scoping, symbol, out)?;
     write_uses(line, scoping, symbol, out)
@@ -106,7 +111,8 @@ fn write_symbols<K: Sink>(
     scoping: &Scoping,
     out: &mut K,
 ) -> Result<(), ReportError>
-    ensures { Writes K.held K.faults out.old out.new (numbered_text (symbol_lines scoping.now) 0 scoping.now.symbols) result }
+    ensures { Writes K.held K.faults out.old out.new
+        (numbered_text (symbol_lines scoping.now) 0 scoping.now.symbols) result }
 {
     let count = scoping.symbols_len() as u32;
     for number in 0..count {

@@ -17,7 +17,8 @@ fn write_symbols_and_references<K: Sink>(
     scoping: &Scoping,
     out: &mut K,
 ) -> Result<(), ReportError>
-    ensures { Writes K.held K.faults out.old out.new (all_symbol_lines scoping.now ++ all_reference_lines scoping.now) result }
+    ensures { Writes K.held K.faults out.old out.new
+        (all_symbol_lines scoping.now ++ all_reference_lines scoping.now) result }
 {
     write_all_symbols(line, scoping, out)?;
     write_all_references(alloc, line, scoping, out)

@@ -32,7 +32,8 @@ impl IsGlobalReference for ReferenceId {
 
 /// Whether the tables give the node a reference, and that has no symbol.
 fn is_free_at(node: NodeId, scoping: &Scoping, tables: &NodeTables) -> bool
-    ensures { result ≡ option_map_or (is_free scoping.now) (lookup (nat_eq node) tables.now.references) false }
+    ensures { result ≡ option_map_or (is_free scoping.now)
+        (lookup (nat_eq node) tables.now.references) false }
 {
     match tables.reference_of(node) {
         Some(reference) => reference.is_global_reference(scoping, tables),

@@ -45,7 +45,8 @@ impl<'a> Semantic<'a> {
     pub fn clear_ast_references(&mut self)
         ensures nodes { self.new.nodes ≡ no_nodes }
         ensures comments { self.new.comments.now ≡ [] }
-        ensures rest { record self.new { nodes = self.old.nodes; comments = self.old.comments } ≡ self.old }
+        ensures rest { record self.new { nodes = self.old.nodes; comments = self.old.comments }
+            ≡ self.old }
     {
         self.nodes.clear();
         self.comments = &[];
@@ -55,7 +56,8 @@ impl<'a> Semantic<'a> {
     pub fn symbol_declaration(&self, s: SymbolId) -> &AstNode<'a>
         requires symbol { s < length self.now.scoping.symbols }
         requires node { (symbol_of self.now.scoping s).node < length self.now.nodes.nodes }
-        ensures { slice_get self.now.nodes.nodes (symbol_of self.now.scoping s).node ≡ Some (seen result.now) }
+        ensures { slice_get self.now.nodes.nodes (symbol_of self.now.scoping s).node
+            ≡ Some (seen result.now) }
     {
         self.nodes.get_node(self.scoping.symbol_declaration(s))
     }
@@ -64,7 +66,8 @@ impl<'a> Semantic<'a> {
     /// don't hold is none.
     pub fn is_unresolved_reference(&self, n: NodeId) -> bool
         requires { n < length self.now.nodes.nodes }
-        ensures { option_map (is_free_at self.now.scoping self.now.tables) (node_at self.now.nodes n) ≡ Some result }
+        ensures { option_map (is_free_at self.now.scoping self.now.tables)
+            (node_at self.now.nodes n) ≡ Some result }
     {
         self.is_reference_to_global_variable(self.nodes.kind(n))
     }
@@ -72,8 +75,10 @@ impl<'a> Semantic<'a> {
     /// The name that a reference reads or writes: the text of its node, an identifier reference.
     pub fn reference_name(&self, r: &Reference) -> &'a str
         requires node { r.now.node_id < length self.now.nodes.nodes }
-        requires reference { IfSome (node_at self.now.nodes r.now.node_id) (λ node. node.kind ≡ identifier_reference) }
-        ensures { option_map (λ node. node.text) (node_at self.now.nodes r.now.node_id) ≡ Some (chars result.now) }
+        requires reference { IfSome (node_at self.now.nodes r.now.node_id)
+            (λ node. node.kind ≡ identifier_reference) }
+        ensures { option_map (λ node. node.text) (node_at self.now.nodes r.now.node_id)
+            ≡ Some (chars result.now) }
     {
         self.nodes.kind(r.node_id()).text().as_str()
     }
@@ -81,7 +86,8 @@ impl<'a> Semantic<'a> {
     /// The bytes of the source that the node of a reference covers.
     pub fn reference_span(&self, r: &Reference) -> Span
         requires { r.now.node_id < length self.now.nodes.nodes }
-        ensures { option_map (λ node. node.span) (node_at self.now.nodes r.now.node_id) ≡ Some result }
+        ensures { option_map (λ node. node.span) (node_at self.now.nodes r.now.node_id)
+            ≡ Some result }
     {
         self.nodes.kind(r.node_id()).span()
     }

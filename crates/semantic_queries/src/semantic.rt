@@ -180,7 +180,8 @@ impl<'a> Semantic<'a> {
 
     /// Whether a comment starts in the span.
     pub fn has_comments_between(&self, span: Span) -> bool
-        ensures { result ≡ not (length (comments_within span.start span.end self.now.comments.now) == 0) }
+        ensures { result ≡ not (length
+            (comments_within span.start span.end self.now.comments.now) == 0) }
     {
         comment::has_comments_between(self.comments(), span)
     }

@@ -45,7 +45,12 @@ fn increased(n: u32, thousandths: u32) -> u32
 impl Stats {
     /// Counts of a program, which `with_stats` takes as hints for how much room to make.
     pub fn new(nodes: u32, scopes: u32, symbols: u32, references: u32) -> Self
-        ensures { result ≡ record { nodes = nodes; scopes = scopes; symbols = symbols; references = references } }
+        ensures { result ≡ record {
+          nodes = nodes;
+          scopes = scopes;
+          symbols = symbols;
+          references = references;
+        } }
     {
         Stats {
             nodes,

@@ -42,10 +42,13 @@ fn run<'a, L, R: Rules>(
     steps: &mut Steps<L>,
 ) -> Result<(), AllocError>
     requires { IsBegun settings walk.old program.now }
-    ensures analysis { OnOk result (IsAnalysis settings.checks program.now walk.new.made.tables walk.new.said) }
+    ensures analysis { OnOk result (IsAnalysis settings.checks program.now walk.new.made.tables
+        walk.new.said) }
     ensures nodes { OnOk result (BelongsToNodes program.now walk.new.made.nodes) }
-    ensures node_list { OnOk result (list_kept walk.new.nodes ≡ kept_nodes settings.build_nodes program.now) }
-    ensures classes { OnOk result (walk.new.notes.classes.classes ≡ classes_noted (settings.class_table || settings.checks) program.now) }
+    ensures node_list { OnOk result (list_kept walk.new.nodes
+        ≡ kept_nodes settings.build_nodes program.now) }
+    ensures classes { OnOk result (walk.new.notes.classes.classes
+        ≡ classes_noted (settings.class_table || settings.checks) program.now) }
     ensures labels { OnOk result (walk.new.notes.labels.unused ≡ unused_labels program.now.root) }
     ensures cost { OnOk result (steps.new ≡ raised steps.old (probes program.now)) }
     ensures risen { steps.old ≤ steps.new }
@@ -71,11 +74,15 @@ pub fn analyse<'a, L, R: Rules>(
     rules: &R,
     steps: &mut Steps<L>,
 ) -> Result<Analysis<'a>, AllocError>
-    ensures analysis { IfOk result (λ made. IsAnalysis settings.checks program.now made.scoping made.diagnostics) }
+    ensures analysis { IfOk result (λ made.
+        IsAnalysis settings.checks program.now made.scoping made.diagnostics) }
     ensures nodes { IfOk result (λ made. BelongsToNodes program.now made.tables) }
-    ensures node_list { IfOk result (λ made. made.nodes ≡ kept_nodes settings.build_nodes program.now) }
-    ensures classes { IfOk result (λ made. made.classes ≡ classes_noted (settings.class_table || settings.checks) program.now) }
-    ensures labels { IfOk result (λ made. made.unused_labels.items ≡ unused_labels program.now.root) }
+    ensures node_list { IfOk result (λ made. made.nodes
+        ≡ kept_nodes settings.build_nodes program.now) }
+    ensures classes { IfOk result (λ made. made.classes
+        ≡ classes_noted (settings.class_table || settings.checks) program.now) }
+    ensures labels { IfOk result (λ made. made.unused_labels.items
+        ≡ unused_labels program.now.root) }
     ensures cost { OnOk result (steps.new ≡ raised steps.old (probes program.now)) }
     ensures risen { steps.old ≤ steps.new }
     ensures given_up { OnErr result (steps.new ≤ raised steps.old (probes program.now)) }

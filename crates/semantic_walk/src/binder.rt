@@ -49,14 +49,29 @@ pub trait Binder<'a> {
 impl<'a> Binder<'a> for AstKind<'a> {
     fn bind(&self, walk: &mut Walk<'a>) -> Result<(), AllocError>
         ensures goes { OnOk result (Goes walk.old.made walk.new.made) }
-        ensures entering { (ds : List Declaration) (p : Place) → p.node ≡ self.now.node.now → is_bound_inside p.node ≡ false → IsWithin walk.old p p.chain → IsShown ds walk.old p →
-            OnOk result (walk.new ≡ record walk.old { made = act_all walk.old.made (declares_all ds (declared_on_entering p)) }) }
-        ensures opening { (ds : List Declaration) (p : Place) (own : OpenScope) → p.node ≡ self.now.node.now → is_bound_inside p.node ≡ true → IsWithin walk.old p (own ∷ []) →
-            OnOk result (walk.new ≡ record walk.old { made = act_all walk.old.made (declares_all ds (declared_on_opening p own)) }) }
-        ensures folds { (ds : List Declaration) (p : Place) (st : State) → p.node ≡ self.now.node.now → is_bound_inside p.node ≡ false → IsWithin walk.old p p.chain → IsShown ds walk.old p → ShowsFold walk.old.made st →
-            OnOk result (ShowsFold walk.new.made (run st (declares_all ds (declared_on_entering p)))) }
-        ensures folds_inside { (ds : List Declaration) (p : Place) (own : OpenScope) (st : State) → p.node ≡ self.now.node.now → is_bound_inside p.node ≡ true → IsWithin walk.old p (own ∷ []) → ShowsFold walk.old.made st →
-            OnOk result (ShowsFold walk.new.made (run st (declares_all ds (declared_on_opening p own)))) }
+        ensures entering { (ds : List Declaration) (p : Place) → p.node ≡ self.now.node.now
+            → is_bound_inside p.node ≡ false → IsWithin walk.old p p.chain → IsShown ds walk.old p →
+            OnOk result (walk.new
+            ≡ record walk.old {
+              made = act_all walk.old.made (declares_all ds (declared_on_entering p));
+            }) }
+        ensures opening { (ds : List Declaration) (p : Place) (own : OpenScope)
+            → p.node ≡ self.now.node.now → is_bound_inside p.node ≡ true
+            → IsWithin walk.old p (own ∷ []) →
+            OnOk result (walk.new
+            ≡ record walk.old {
+              made = act_all walk.old.made (declares_all ds (declared_on_opening p own));
+            }) }
+        ensures folds { (ds : List Declaration) (p : Place) (st : State)
+            → p.node ≡ self.now.node.now → is_bound_inside p.node ≡ false
+            → IsWithin walk.old p p.chain → IsShown ds walk.old p → ShowsFold walk.old.made st →
+            OnOk result (ShowsFold walk.new.made
+            (run st (declares_all ds (declared_on_entering p)))) }
+        ensures folds_inside { (ds : List Declaration) (p : Place) (own : OpenScope) (st : State)
+            → p.node ≡ self.now.node.now → is_bound_inside p.node ≡ true
+            → IsWithin walk.old p (own ∷ []) → ShowsFold walk.old.made st →
+            OnOk result (ShowsFold walk.new.made
+            (run st (declares_all ds (declared_on_opening p own)))) }
     {
         if walk.has_ids(*self) {
             walk.bind_node(*self)
@@ -81,9 +96,12 @@ impl<'a> Walk<'a> {
     pub(crate) fn bind_node(&mut self, kind: AstKind<'a>) -> Result<(), AllocError>
         requires { HasIds self.old kind.node.now }
         ensures goes { OnOk result (Goes self.old.made self.new.made) }
-        ensures entering { (ds : List Declaration) (p : Place) → p.node ≡ kind.entry.node.now → is_bound_inside p.node ≡ false → IsWithin self.old p p.chain → IsShown ds self.old p →
+        ensures entering { (ds : List Declaration) (p : Place) → p.node ≡ kind.entry.node.now
+            → is_bound_inside p.node ≡ false → IsWithin self.old p p.chain → IsShown ds self.old p →
             OnOk result (self.new ≡ acting ds self.old (declared_on_entering p)) }
-        ensures opening { (ds : List Declaration) (p : Place) (own : OpenScope) → p.node ≡ kind.entry.node.now → is_bound_inside p.node ≡ true → IsWithin self.old p (own ∷ []) →
+        ensures opening { (ds : List Declaration) (p : Place) (own : OpenScope)
+            → p.node ≡ kind.entry.node.now → is_bound_inside p.node ≡ true
+            → IsWithin self.old p (own ∷ []) →
             OnOk result (self.new ≡ acting ds self.old (declared_on_opening p own)) }
     {
         match kind.ty() {
@@ -122,8 +140,11 @@ impl<'a> Walk<'a> {
 
     /// Declares all that the node binds, in the current scope, as free of side effects or not.
     fn bind_names(&mut self, node: AstKind<'a>, row: Row, is_pure: bool) -> Result<(), AllocError>
-        requires { length self.old.made.tables.symbols + length (bound_names node.node.now) ≤ u32.MAX }
-        ensures made { OnOk result (self.new ≡ declaring self.old (map (named_by node.entry.node.now row is_pure) (bound_names node.entry.node.now))) }
+        requires { length self.old.made.tables.symbols + length (bound_names node.node.now)
+            ≤ u32.MAX }
+        ensures made { OnOk result (self.new
+            ≡ declaring self.old
+            (map (named_by node.entry.node.now row is_pure) (bound_names node.entry.node.now))) }
         ensures goes { OnOk result (Goes self.old.made self.new.made) }
     {
         self.declared
@@ -132,8 +153,11 @@ impl<'a> Walk<'a> {
 
     /// Declares the names under one role of the node, in the current scope.
     fn bind_at(&mut self, node: AstKind<'a>, role: Role, row: Row) -> Result<(), AllocError>
-        requires { length self.old.made.tables.symbols + length (names_at role node.node.now) ≤ u32.MAX }
-        ensures made { OnOk result (self.new ≡ declaring self.old (map (named_by node.entry.node.now row false) (names_at role node.entry.node.now))) }
+        requires { length self.old.made.tables.symbols + length (names_at role node.node.now)
+            ≤ u32.MAX }
+        ensures made { OnOk result (self.new
+            ≡ declaring self.old
+            (map (named_by node.entry.node.now row false) (names_at role node.entry.node.now))) }
         ensures goes { OnOk result (Goes self.old.made self.new.made) }
     {
         self.declared
@@ -153,8 +177,11 @@ impl<'a> Walk<'a> {
     /// A declarator: a `var` goes out to the nearest function (ECMAScript 8.2.7, VarScopedDeclarations), the other
     /// kinds stay.
     fn bind_variables(&mut self, declarator: AstKind<'a>) -> Result<(), AllocError>
-        requires { length self.old.made.tables.symbols + length (under (parent_in self.old.path) (bound_names declarator.node.now)) ≤ u32.MAX }
-        ensures made { (ds : List Declaration) (p : Place) → p.node ≡ declarator.entry.node.now → IsWithin self.old p p.chain → ShowsChain self.old.made.tables p.chain → HasVar p.chain →
+        requires { length self.old.made.tables.symbols + length
+            (under (parent_in self.old.path) (bound_names declarator.node.now)) ≤ u32.MAX }
+        ensures made { (ds : List Declaration) (p : Place) → p.node ≡ declarator.entry.node.now
+            → IsWithin self.old p p.chain → ShowsChain self.old.made.tables p.chain
+            → HasVar p.chain →
             OnOk result (self.new ≡ acting ds self.old (variables_under p.path p)) }
         ensures goes { OnOk result (Goes self.old.made self.new.made) }
     {
@@ -171,8 +198,11 @@ impl<'a> Walk<'a> {
         declarator: AstKind<'a>,
         declaration: AstKind<'a>,
     ) -> Result<(), AllocError>
-        requires { length self.old.made.tables.symbols + length (bound_names declarator.node.now) ≤ u32.MAX }
-        ensures made { (ds : List Declaration) (p : Place) → p.node ≡ declarator.entry.node.now → IsWithin self.old p p.chain → ShowsChain self.old.made.tables p.chain → HasVar p.chain → declaration.entry.node.now ∷ [] ≡ parent_in self.old.path →
+        requires { length self.old.made.tables.symbols + length (bound_names declarator.node.now)
+            ≤ u32.MAX }
+        ensures made { (ds : List Declaration) (p : Place) → p.node ≡ declarator.entry.node.now
+            → IsWithin self.old p p.chain → ShowsChain self.old.made.tables p.chain → HasVar p.chain
+            → declaration.entry.node.now ∷ [] ≡ parent_in self.old.path →
             OnOk result (self.new ≡ acting ds self.old (variables_under p.path p)) }
         ensures goes { OnOk result (Goes self.old.made self.new.made) }
     {
@@ -192,8 +222,12 @@ impl<'a> Walk<'a> {
         row: Row,
         is_pure: bool,
     ) -> Result<(), AllocError>
-        requires { length self.old.made.tables.symbols + length (bound_names declarator.node.now) ≤ u32.MAX }
-        ensures made { OnOk result (self.new ≡ hoisting self.old scope.Var.bits (map (named_by declarator.entry.node.now row is_pure) (bound_names declarator.entry.node.now))) }
+        requires { length self.old.made.tables.symbols + length (bound_names declarator.node.now)
+            ≤ u32.MAX }
+        ensures made { OnOk result (self.new
+            ≡ hoisting self.old scope.Var.bits
+            (map (named_by declarator.entry.node.now row is_pure)
+            (bound_names declarator.entry.node.now))) }
         ensures goes { OnOk result (Goes self.old.made self.new.made) }
     {
         let route = Route::outward(
@@ -209,11 +243,22 @@ impl<'a> Walk<'a> {
     /// A function: a plain one in a block of sloppy JavaScript may move out of its block (ECMAScript, Annex B.3.2,
     /// sec-block-level-function-declarations-web-legacy-compatibility-semantics).
     fn bind_function(&mut self, function: AstKind<'a>) -> Result<(), AllocError>
-        requires { length self.old.made.tables.symbols + length (bound_names function.node.now) ≤ u32.MAX }
-        ensures entering { (ds : List Declaration) (p : Place) → p.node ≡ function.entry.node.now → is_statement p.node ≡ true → IsWithin self.old p p.chain → ShowsChain self.old.made.tables p.chain → HasVar p.chain → IsStepNamed ds self.old.namesakes (entering p) →
-            OnOk result (self.new ≡ acting ds self.old (map (declare p.node (function_row p) (has pure_mark p.node)) (bound_names p.node))) }
-        ensures opening { (ds : List Declaration) (p : Place) (own : OpenScope) → p.node ≡ function.entry.node.now → is_statement p.node ≡ false → IsWithin self.old p (own ∷ []) →
-            OnOk result (self.new ≡ acting ds self.old (map (declare p.node (own_function_row p own) (has pure_mark p.node)) (bound_names p.node))) }
+        requires { length self.old.made.tables.symbols + length (bound_names function.node.now)
+            ≤ u32.MAX }
+        ensures entering { (ds : List Declaration) (p : Place) → p.node ≡ function.entry.node.now
+            → is_statement p.node ≡ true → IsWithin self.old p p.chain
+            → ShowsChain self.old.made.tables p.chain → HasVar p.chain
+            → IsStepNamed ds self.old.namesakes (entering p) →
+            OnOk result (self.new
+            ≡ acting ds self.old
+            (map (declare p.node (function_row p) (has pure_mark p.node)) (bound_names p.node))) }
+        ensures opening { (ds : List Declaration) (p : Place) (own : OpenScope)
+            → p.node ≡ function.entry.node.now → is_statement p.node ≡ false
+            → IsWithin self.old p (own ∷ []) →
+            OnOk result (self.new
+            ≡ acting ds self.old
+            (map (declare p.node (own_function_row p own) (has pure_mark p.node))
+            (bound_names p.node))) }
         ensures goes { OnOk result (Goes self.old.made self.new.made) }
     {
         let flags = self.scope_flags();
@@ -233,8 +278,11 @@ impl<'a> Walk<'a> {
         row: Row,
         is_pure: bool,
     ) -> Result<(), AllocError>
-        requires { length self.old.made.tables.symbols + length (bound_names function.node.now) ≤ u32.MAX }
-        ensures made { OnOk result (self.new ≡ moving self.old (map (named_by function.entry.node.now row is_pure) (bound_names function.entry.node.now))) }
+        requires { length self.old.made.tables.symbols + length (bound_names function.node.now)
+            ≤ u32.MAX }
+        ensures made { OnOk result (self.new
+            ≡ moving self.old (map (named_by function.entry.node.now row is_pure)
+            (bound_names function.entry.node.now))) }
         ensures goes { OnOk result (Goes self.old.made self.new.made) }
     {
         let names = bound_identifiers(self.alloc, function)?;
@@ -250,7 +298,8 @@ impl<'a> Walk<'a> {
         is_pure: bool,
     ) -> Result<(), AllocError>
         requires { length self.old.made.tables.symbols + length names.now ≤ u32.MAX }
-        ensures made { OnOk result (self.new ≡ moving self.old (map (named_by function.entry.node.now row is_pure) names.now)) }
+        ensures made { OnOk result (self.new
+            ≡ moving self.old (map (named_by function.entry.node.now row is_pure) names.now)) }
         ensures goes { OnOk result (Goes self.old.made self.new.made) }
     {
         for name in names.iter() {
@@ -268,7 +317,9 @@ impl<'a> Walk<'a> {
         is_pure: bool,
     ) -> Result<(), AllocError>
         requires { length self.old.made.tables.symbols < u32.MAX }
-        ensures made { OnOk result (self.new ≡ moving_one self.old (named_by function.entry.node.now row is_pure name.entry.node.now)) }
+        ensures made { OnOk result (self.new
+            ≡ moving_one self.old
+            (named_by function.entry.node.now row is_pure name.entry.node.now)) }
         ensures goes { OnOk result (Goes self.old.made self.new.made) }
     {
         let target = target_of_function(
@@ -284,8 +335,11 @@ impl<'a> Walk<'a> {
 
     /// A parameter, of the list that is its parent (ECMAScript 15.1.1).
     fn bind_parameter(&mut self, parameter: AstKind<'a>) -> Result<(), AllocError>
-        requires { length self.old.made.tables.symbols + length (under (parent_in self.old.path) (bound_names parameter.node.now)) ≤ u32.MAX }
-        ensures made { (ds : List Declaration) (p : Place) → p.node ≡ parameter.entry.node.now → IsWithin self.old p p.chain → ShowsChain self.old.made.tables p.chain → HasVar p.chain →
+        requires { length self.old.made.tables.symbols + length
+            (under (parent_in self.old.path) (bound_names parameter.node.now)) ≤ u32.MAX }
+        ensures made { (ds : List Declaration) (p : Place) → p.node ≡ parameter.entry.node.now
+            → IsWithin self.old p p.chain → ShowsChain self.old.made.tables p.chain
+            → HasVar p.chain →
             OnOk result (self.new ≡ acting ds self.old (parameters_under p.path p)) }
         ensures goes { OnOk result (Goes self.old.made self.new.made) }
     {
@@ -301,8 +355,11 @@ impl<'a> Walk<'a> {
         parameter: AstKind<'a>,
         list: AstKind<'a>,
     ) -> Result<(), AllocError>
-        requires { length self.old.made.tables.symbols + length (bound_names parameter.node.now) ≤ u32.MAX }
-        ensures made { (ds : List Declaration) (p : Place) → p.node ≡ parameter.entry.node.now → IsWithin self.old p p.chain → ShowsChain self.old.made.tables p.chain → HasVar p.chain → list.entry.node.now ∷ [] ≡ parent_in self.old.path →
+        requires { length self.old.made.tables.symbols + length (bound_names parameter.node.now)
+            ≤ u32.MAX }
+        ensures made { (ds : List Declaration) (p : Place) → p.node ≡ parameter.entry.node.now
+            → IsWithin self.old p p.chain → ShowsChain self.old.made.tables p.chain → HasVar p.chain
+            → list.entry.node.now ∷ [] ≡ parent_in self.old.path →
             OnOk result (self.new ≡ acting ds self.old (parameters_under p.path p)) }
         ensures goes { OnOk result (Goes self.old.made self.new.made) }
     {
@@ -313,8 +370,11 @@ impl<'a> Walk<'a> {
 
     /// A rest element, which declares only directly in a list of parameters: one in a pattern is declared with it.
     fn bind_rest(&mut self, rest: AstKind<'a>) -> Result<(), AllocError>
-        requires { length self.old.made.tables.symbols + length (cond (parent_holds (is formal_parameters) (parent_in self.old.path)) (bound_names rest.node.now) []) ≤ u32.MAX }
-        ensures made { (ds : List Declaration) (p : Place) → p.node ≡ rest.entry.node.now → IsWithin self.old p p.chain → p.node.kind ≡ rest_element →
+        requires { length self.old.made.tables.symbols + length
+            (cond (parent_holds (is formal_parameters) (parent_in self.old.path))
+            (bound_names rest.node.now) []) ≤ u32.MAX }
+        ensures made { (ds : List Declaration) (p : Place) → p.node ≡ rest.entry.node.now
+            → IsWithin self.old p p.chain → p.node.kind ≡ rest_element →
             OnOk result (self.new ≡ acting ds self.old (declared_on_entering p)) }
         ensures goes { OnOk result (Goes self.old.made self.new.made) }
     {
@@ -327,8 +387,13 @@ impl<'a> Walk<'a> {
 
     /// The BoundNames of a catch clause's parameter (ECMAScript 14.15.2, CatchClauseEvaluation).
     fn bind_caught(&mut self, parameter: AstKind<'a>) -> Result<(), AllocError>
-        requires { length self.old.made.tables.symbols + length (flat_map bound_names (all_in pattern_role parameter.node.now)) ≤ u32.MAX }
-        ensures made { OnOk result (self.new ≡ record self.old { made = declare_patterns self.old.made self.old.current parameter.entry.node.now (all_in pattern_role parameter.entry.node.now) }) }
+        requires { length self.old.made.tables.symbols + length
+            (flat_map bound_names (all_in pattern_role parameter.node.now)) ≤ u32.MAX }
+        ensures made { OnOk result (self.new
+            ≡ record self.old {
+              made = declare_patterns self.old.made self.old.current parameter.entry.node.now
+                  (all_in pattern_role parameter.entry.node.now);
+            }) }
         ensures goes { OnOk result (Goes self.old.made self.new.made) }
     {
         self.declared
@@ -337,8 +402,10 @@ impl<'a> Walk<'a> {
 
     /// The local name of an import (ECMAScript 16.2.2.1).
     fn bind_import(&mut self, specifier: AstKind<'a>) -> Result<(), AllocError>
-        requires { length self.old.made.tables.symbols + length (names_at local_role specifier.node.now) ≤ u32.MAX }
-        ensures made { (ds : List Declaration) (p : Place) → p.node ≡ specifier.entry.node.now → IsWithin self.old p p.chain →
+        requires { length self.old.made.tables.symbols + length
+            (names_at local_role specifier.node.now) ≤ u32.MAX }
+        ensures made { (ds : List Declaration) (p : Place) → p.node ≡ specifier.entry.node.now
+            → IsWithin self.old p p.chain →
             OnOk result (self.new ≡ acting ds self.old (imports p)) }
         ensures goes { OnOk result (Goes self.old.made self.new.made) }
     {
@@ -348,8 +415,13 @@ impl<'a> Walk<'a> {
 
     /// A member of an enum, which is bound in the enum's body.
     fn bind_member(&mut self, member: AstKind<'a>) -> Result<(), AllocError>
-        requires { length self.old.made.tables.symbols + length (flat_map member_names (all_in id_role member.node.now)) ≤ u32.MAX }
-        ensures made { OnOk result (self.new ≡ record self.old { made = declare_members self.old.made self.old.current member.entry.node.now (all_in id_role member.entry.node.now) }) }
+        requires { length self.old.made.tables.symbols + length
+            (flat_map member_names (all_in id_role member.node.now)) ≤ u32.MAX }
+        ensures made { OnOk result (self.new
+            ≡ record self.old {
+              made = declare_members self.old.made self.old.current member.entry.node.now
+                  (all_in id_role member.entry.node.now);
+            }) }
         ensures goes { OnOk result (Goes self.old.made self.new.made) }
     {
         self.declared.declare_member(member, self.current_scope)
@@ -357,8 +429,11 @@ impl<'a> Walk<'a> {
 
     /// A namespace: one that is nothing but types is no value (TypeScript's `getModuleInstanceState`).
     fn bind_namespace(&mut self, namespace: AstKind<'a>) -> Result<(), AllocError>
-        requires { length self.old.made.tables.symbols + length (bound_names namespace.node.now) ≤ u32.MAX }
-        ensures made { (ds : List Declaration) (p : Place) → p.node ≡ namespace.entry.node.now → IsWithin self.old p p.chain → p.node.kind ≡ namespace_declaration → IsStated self.old.states p →
+        requires { length self.old.made.tables.symbols + length (bound_names namespace.node.now)
+            ≤ u32.MAX }
+        ensures made { (ds : List Declaration) (p : Place) → p.node ≡ namespace.entry.node.now
+            → IsWithin self.old p p.chain → p.node.kind ≡ namespace_declaration
+            → IsStated self.old.states p →
             OnOk result (self.new ≡ acting ds self.old (declared_on_entering p)) }
         ensures goes { OnOk result (Goes self.old.made self.new.made) }
     {
@@ -368,8 +443,11 @@ impl<'a> Walk<'a> {
 
     /// A type parameter, of a list or of `infer` (TypeScript's `bindTypeParameter`).
     fn bind_type_parameter(&mut self, parameter: AstKind<'a>) -> Result<(), AllocError>
-        requires { length self.old.made.tables.symbols + length (names_at name_role parameter.node.now) ≤ u32.MAX }
-        ensures made { (ds : List Declaration) (p : Place) → p.node ≡ parameter.entry.node.now → IsWithin self.old p p.chain → ShowsChain self.old.made.tables p.chain → HasVar p.chain → p.node.kind ≡ type_parameter →
+        requires { length self.old.made.tables.symbols + length
+            (names_at name_role parameter.node.now) ≤ u32.MAX }
+        ensures made { (ds : List Declaration) (p : Place) → p.node ≡ parameter.entry.node.now
+            → IsWithin self.old p p.chain → ShowsChain self.old.made.tables p.chain → HasVar p.chain
+            → p.node.kind ≡ type_parameter →
             OnOk result (self.new ≡ acting ds self.old (declared_on_entering p)) }
         ensures goes { OnOk result (Goes self.old.made self.new.made) }
     {
@@ -384,8 +462,12 @@ impl<'a> Walk<'a> {
     /// A type parameter that `infer` declares goes out to the conditional type (TypeScript's
     /// `getInferTypeContainer`).
     fn bind_inferred(&mut self, parameter: AstKind<'a>, row: Row) -> Result<(), AllocError>
-        requires { length self.old.made.tables.symbols + length (names_at name_role parameter.node.now) ≤ u32.MAX }
-        ensures made { OnOk result (self.new ≡ declaring_past self.old scope.TsConditional.bits (map (named_by parameter.entry.node.now row false) (names_at name_role parameter.entry.node.now))) }
+        requires { length self.old.made.tables.symbols + length
+            (names_at name_role parameter.node.now) ≤ u32.MAX }
+        ensures made { OnOk result (self.new
+            ≡ declaring_past self.old scope.TsConditional.bits
+            (map (named_by parameter.entry.node.now row false)
+            (names_at name_role parameter.entry.node.now))) }
         ensures goes { OnOk result (Goes self.old.made self.new.made) }
     {
         let route = Route::outward(

@@ -32,7 +32,9 @@ fn stand_on(
 ) -> Result<bool, AllocError>
     requires { IsRoute (length scoping.now.scopes) route.now }
     ensures stays { namesakes.new ≡ namesakes.old }
-    ensures stands { IfOk result (λ stands. stands ≡ stands_on scoping.now namesakes.old (chars name.entry.text.now) (drop 1 route.now.passed.items)) }
+    ensures stands { IfOk result (λ stands. stands
+        ≡ stands_on scoping.now namesakes.old (chars name.entry.text.now)
+        (drop 1 route.now.passed.items)) }
 {
     for scope in between(route) {
         if namesakes.has(scoping.get_node_id(scope.id()), name)? {
@@ -53,7 +55,8 @@ pub(crate) fn target_of_function(
 ) -> Result<Option<ScopeId>, AllocError>
     requires { block < length scoping.now.scopes }
     ensures stays { namesakes.new ≡ namesakes.old }
-    ensures target { IfOk result (λ o. o ≡ block_target scoping.now namesakes.old block (chars name.entry.text.now)) }
+    ensures target { IfOk result (λ o. o
+        ≡ block_target scoping.now namesakes.old block (chars name.entry.text.now)) }
     ensures within { IfOk result (λ o. IfSome o (λ s. s < length scoping.now.scopes)) }
 {
     let route = Route::outward(alloc, scoping, block, ScopeFlags::Var)?;

@@ -20,16 +20,27 @@ ghost use Rattle.semantic_walk.specs.Stored.{empty_store, stored_after};
 
 /// At each place of the walk over a program the tables show what the declarations so far fold into.
 pub fn a_walk_shows_the_fold()
-    ensures { (program : Tree) → first_fault program ≡ None → (done more : List Step) → steps program ≡ done ++ more →
-        ShowsFold (after_all (written_declarations (steps program)) nothing_made done) (run start (flat_map (events_of (written_declarations (steps program))) done)) }
+    ensures { (program : Tree) → first_fault program ≡ None → (done more : List Step)
+        → steps program ≡ done ++ more →
+        ShowsFold (after_all (written_declarations (steps program)) nothing_made done)
+        (run start (flat_map (events_of (written_declarations (steps program))) done)) }
 {}
 
 /// Stores tell the path of the definitions. In the list of a program's nodes the parents lead from each node along its
 /// path to the root: `ids` says so of their ids, `nodes` of what they show. Where a walk that enters and leaves nodes
 /// stands at a node, its store has that path, whether it keeps all nodes or a stack.
 pub fn stores_tell_the_path()
-    ensures ids { (program : Tree) → IsNumbered program.root → (p : Place) → Among (entering p) (steps program) → above (node_list program).parents p.node.node_id ≡ map (λ (n : Node). n.node_id) p.path }
-    ensures parents { (program : Tree) → IsNumbered program.root → (p : Place) → Among (entering p) (steps program) → (parent : Node) (path : List Node) → p.path ≡ parent ∷ path → slice_index (node_list program).parents p.node.node_id ≡ parent.node_id }
-    ensures nodes { (program : Tree) → IsNumbered program.root → (p : Place) → Among (entering p) (steps program) → path_in (node_list program) p.node.node_id ≡ p.node ∷ p.path }
-    ensures walk { (program : Tree) (keeps : Bool) (done more : List Step) (p : Place) → steps program ≡ done ++ entering p ∷ more → path_to (stored_after (empty_store keeps) (done ++ entering p ∷ [])) ≡ p.node ∷ p.path }
+    ensures ids { (program : Tree) → IsNumbered program.root → (p : Place)
+        → Among (entering p) (steps program)
+        → above (node_list program).parents p.node.node_id ≡ map (λ (n : Node). n.node_id) p.path }
+    ensures parents { (program : Tree) → IsNumbered program.root → (p : Place)
+        → Among (entering p) (steps program) → (parent : Node) (path : List Node)
+        → p.path ≡ parent ∷ path
+        → slice_index (node_list program).parents p.node.node_id ≡ parent.node_id }
+    ensures nodes { (program : Tree) → IsNumbered program.root → (p : Place)
+        → Among (entering p) (steps program)
+        → path_in (node_list program) p.node.node_id ≡ p.node ∷ p.path }
+    ensures walk { (program : Tree) (keeps : Bool) (done more : List Step) (p : Place)
+        → steps program ≡ done ++ entering p ∷ more
+        → path_to (stored_after (empty_store keeps) (done ++ entering p ∷ [])) ≡ p.node ∷ p.path }
 {}

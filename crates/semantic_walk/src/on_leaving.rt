@@ -23,7 +23,9 @@ pub fn tell_leaving<'a, R: Rules>(
     said: &mut Diagnostics,
 ) -> Result<(), AllocError>
     requires { IsLeavable kind.node.now context.now }
-    ensures { OnOk result (said.new ≡ said.old ++ map told (drop counted declared.now.conflicts) ++ rows_of (sight kind.entry.node.now context.now)) }
+    ensures { OnOk result (said.new
+        ≡ said.old ++ map told (drop counted declared.now.conflicts)
+        ++ rows_of (sight kind.entry.node.now context.now)) }
 {
     declared.tell_from(counted, said)?;
     rules.check(alloc, kind, context, said)

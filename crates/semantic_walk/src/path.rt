@@ -54,7 +54,8 @@ fn is_list(kind: AstKind<'_>) -> bool
 /// Notes of a node whether it is a simple list of parameters, if it is a list.
 #[inline(always)]
 fn note_list(simple: &mut Vec<bool>, kind: AstKind<'_>) -> Result<(), AllocError>
-    ensures ok { OnOk result (simple.new.items ≡ simple.old.items ++ lists_simple (kind.entry.node.now ∷ [])) }
+    ensures ok { OnOk result (simple.new.items
+        ≡ simple.old.items ++ lists_simple (kind.entry.node.now ∷ [])) }
     ensures err { OnErr result (simple.new.items ≡ simple.old.items) }
 {
     if is_list(kind) {
@@ -66,7 +67,8 @@ fn note_list(simple: &mut Vec<bool>, kind: AstKind<'_>) -> Result<(), AllocError
 /// Forgets the last list, if the walk leaves one.
 #[inline(always)]
 fn forget_list(simple: &mut Vec<bool>, leaves_list: bool)
-    ensures { simple.new.items ≡ cond leaves_list (take (length simple.old.items - 1) simple.old.items) simple.old.items }
+    ensures { simple.new.items ≡ cond leaves_list
+        (take (length simple.old.items - 1) simple.old.items) simple.old.items }
 {
     if leaves_list {
         simple.pop();
@@ -92,7 +94,8 @@ fn keep<'a>(
     scope: ScopeId,
 ) -> Result<(), AllocError>
     requires { Stands store.old }
-    ensures entered { OnOk result (entered_in store.new ≡ option_map (λ e. entering e kind.entry.node.now scope) (entered_in store.old)) }
+    ensures entered { OnOk result (entered_in store.new
+        ≡ option_map (λ e. entering e kind.entry.node.now scope) (entered_in store.old)) }
     ensures stands { Stands store.new }
 {
     if keeps(store) {
@@ -153,7 +156,10 @@ impl<'a> Path<'a> {
 
     /// Leaves the last node.
     pub fn pop(&mut self)
-        ensures { self.new ≡ record { nodes = take (length self.old.nodes - 1) self.old.nodes; entered = option_map leaving self.old.entered } }
+        ensures { self.new ≡ record {
+          nodes = take (length self.old.nodes - 1) self.old.nodes;
+          entered = option_map leaving self.old.entered;
+        } }
     {
         let leaves_list = self.is_at_list();
         forget_list(&mut self.simple, leaves_list);
@@ -189,7 +195,8 @@ impl<'a> Path<'a> {
 
     /// Whether that parent, the list, is simple.
     pub fn is_in_simple(&self, list: AstKind<'a>) -> bool
-        ensures { list.entry.node.now ∷ [] ≡ parent_in self.now.nodes → result ≡ is_simple_parameter_list list.entry.node.now }
+        ensures { list.entry.node.now ∷ [] ≡ parent_in self.now.nodes
+            → result ≡ is_simple_parameter_list list.entry.node.now }
     {
         match self.simple.last() {
             Some(is_simple) if is_list(list) && !self.is_at_list() => *is_simple,

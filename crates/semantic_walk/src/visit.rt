@@ -129,9 +129,20 @@ impl<'a> Walk<'a> {
     ) -> Result<(), AllocError>
         requires turn { IsTurn self.old.made turn.old }
         requires ids { MayOpen self.old parent.node.now }
-        ensures opens { (ds : List Declaration) (p : Place) → p.node ≡ parent.entry.node.now → p.role ≡ parent_role → IsWithin self.old p p.chain → ShowsChain self.old.made.tables p.chain → HasVar p.chain →
-            OnOk result (self.new ≡ record self.old { made = after ds self.old.made (opening p (opened_scope p (length self.old.made.tables.scopes))); current = length self.old.made.tables.scopes }) }
-        ensures own { OnOk result (turn.new ≡ record turn.old { own = Some (length self.old.made.tables.scopes); header_start = length self.old.made.waiting }) }
+        ensures opens { (ds : List Declaration) (p : Place) → p.node ≡ parent.entry.node.now
+            → p.role ≡ parent_role → IsWithin self.old p p.chain
+            → ShowsChain self.old.made.tables p.chain → HasVar p.chain →
+            OnOk result (self.new
+            ≡ record self.old {
+              made = after ds self.old.made
+                  (opening p (opened_scope p (length self.old.made.tables.scopes)));
+              current = length self.old.made.tables.scopes;
+            }) }
+        ensures own { OnOk result (turn.new
+            ≡ record turn.old {
+              own = Some (length self.old.made.tables.scopes);
+              header_start = length self.old.made.waiting;
+            }) }
         ensures goes { OnOk result (Goes self.old.made self.new.made) }
         ensures stands { OnOk result (IsTurn self.new.made turn.new) }
         ensures start { OnOk result (turn.old.header_start ≤ turn.new.header_start) }
@@ -151,9 +162,15 @@ impl<'a> Walk<'a> {
         role: Role,
     ) -> Result<(), AllocError>
         requires turn { IsTurn self.old.made turn.old }
-        requires ids { turn.old.own ≡ None → is_inside parent.node.now.kind role ≡ true → MayOpen self.old parent.node.now }
-        ensures opens { (ds : List Declaration) (p : Place) (own : Option OpenScope) (n cursor start : ℕ) (f : Forest) → p.node ≡ parent.entry.node.now → p.role ≡ parent_role → IsBetweenAt ds self.old turn.old p own n cursor start f →
-            OnOk result ((record self.new { current = self.old.current } ≡ record self.old { made = after_all ds self.old.made (opening_at p role own n) }) × IsTurnAt turn.new p (scope_at p role own n) (start_at p role own start self.old.made)) }
+        requires ids { turn.old.own ≡ None → is_inside parent.node.now.kind role ≡ true
+            → MayOpen self.old parent.node.now }
+        ensures opens { (ds : List Declaration) (p : Place) (own : Option OpenScope)
+            (n cursor start : ℕ) (f : Forest) → p.node ≡ parent.entry.node.now
+            → p.role ≡ parent_role → IsBetweenAt ds self.old turn.old p own n cursor start f →
+            OnOk result ((record self.new { current = self.old.current }
+            ≡ record self.old { made = after_all ds self.old.made (opening_at p role own n) })
+            × IsTurnAt turn.new p (scope_at p role own n)
+            (start_at p role own start self.old.made)) }
         ensures goes { OnOk result (Goes self.old.made self.new.made) }
         ensures stands { OnOk result (IsTurn self.new.made turn.new) }
         ensures start { OnOk result (turn.old.header_start ≤ turn.new.header_start) }
@@ -170,7 +187,9 @@ impl<'a> Walk<'a> {
         requires { IsTurn self.old.made turn.now }
         ensures made { self.new ≡ record self.old {
           current = child_scope self.old.made.tables turn.now parent.entry.node.now.kind role;
-          cursor = cursor_before parent.entry.node.now (ambient_inside parent.entry.node.now turn.now.is_ambient) role child.entry.node.now self.old.cursor;
+          cursor = cursor_before parent.entry.node.now
+              (ambient_inside parent.entry.node.now turn.now.is_ambient) role child.entry.node.now
+              self.old.cursor;
           is_ambient = ambient_round parent.entry.node.now turn.now.is_ambient role;
         } }
         ensures goes { Goes self.old.made self.new.made }
@@ -200,16 +219,21 @@ impl<'a> Walk<'a> {
     ) -> Result<(), AllocError>
         requires turn { IsTurn self.old.made turn.old }
         requires alike { alike ≡ stands_alike turn.old.acts parent.node.now role }
-        requires ids { turn.old.own ≡ None → is_inside parent.node.now.kind role ≡ true → MayOpen self.old parent.node.now }
-        ensures comes { (ds : List Declaration) (p : Place) (own : Option OpenScope) (n cursor start : ℕ) (rest : List (Role × Node)) → p.node ≡ parent.entry.node.now → p.role ≡ parent_role →
-            IsBetweenAt ds self.old turn.old p own n cursor start (forest_of ((role, child.entry.node.now) ∷ rest)) →
+        requires ids { turn.old.own ≡ None → is_inside parent.node.now.kind role ≡ true
+            → MayOpen self.old parent.node.now }
+        ensures comes { (ds : List Declaration) (p : Place) (own : Option OpenScope)
+            (n cursor start : ℕ) (rest : List (Role × Node)) → p.node ≡ parent.entry.node.now
+            → p.role ≡ parent_role →
+            IsBetweenAt ds self.old turn.old p own n cursor start
+            (forest_of ((role, child.entry.node.now) ∷ rest)) →
             let place = child_place p (scope_at p role own n) cursor role child.entry.node.now in
             OnOk result ((self.new ≡ record self.old {
               made = after_all ds self.old.made (opening_at p role own n);
               current = at place;
               cursor = place.cursor;
               is_ambient = place.is_ambient;
-            }) × IsTurnAt turn.new p (scope_at p role own n) (start_at p role own start self.old.made)) }
+            }) × IsTurnAt turn.new p (scope_at p role own n)
+            (start_at p role own start self.old.made)) }
         ensures goes { OnOk result (Goes self.old.made self.new.made) }
         ensures stands { OnOk result (IsTurn self.new.made turn.new) }
         ensures start { OnOk result (turn.old.header_start ≤ turn.new.header_start) }
@@ -225,7 +249,8 @@ impl<'a> Walk<'a> {
     /// Comes back from a child: scope and ambience are the node's again.
     fn come_back(&mut self, turn: &Turn)
         requires { IsTurn self.old.made turn.now }
-        ensures made { self.new ≡ record self.old { current = turn.now.outer; is_ambient = turn.now.is_ambient } }
+        ensures made { self.new ≡ record
+            self.old { current = turn.now.outer; is_ambient = turn.now.is_ambient } }
         ensures goes { Goes self.old.made self.new.made }
     {
         self.current_scope = turn.outer;
@@ -245,13 +270,25 @@ impl<'a> Walk<'a> {
     ) -> Result<(), AllocError>
         requires scope { own < length self.old.made.tables.scopes }
         requires start { start ≤ length self.old.made.waiting }
-        ensures made { OnOk result (self.new ≡ cond (is_in_header parent role && not (has_role (header_roles parent) (forest_of rest.now)))
-            (record self.old { made = settled_from self.old.made start (map (header_outcome (source_of self.old.made.tables) own) (drop start self.old.made.waiting)) }) self.old) }
+        ensures made { OnOk result (self.new
+            ≡ cond (is_in_header parent role
+            && not (has_role (header_roles parent) (forest_of rest.now)))
+            (record self.old {
+              made = settled_from self.old.made start
+                  (map (header_outcome (source_of self.old.made.tables) own)
+                  (drop start self.old.made.waiting));
+            }) self.old) }
         ensures grows { OnOk result (Grows self.old.made.tables self.new.made.tables) }
         ensures waiting { OnOk result (start ≤ length self.new.made.waiting) }
-        ensures cost { OnOk result (steps.new ≡ raised steps.old (cond (is_in_header parent role && not (has_role (header_roles parent) (forest_of rest.now))) (probes_from self.old.made start own) 0)) }
+        ensures cost { OnOk result (steps.new
+            ≡ raised steps.old (cond
+            (is_in_header parent role && not (has_role (header_roles parent) (forest_of rest.now)))
+            (probes_from self.old.made start own) 0)) }
         ensures risen { steps.old ≤ steps.new }
-        ensures given_up { OnErr result (steps.new ≤ raised steps.old (cond (is_in_header parent role && not (has_role (header_roles parent) (forest_of rest.now))) (probes_from self.old.made start own) 0)) }
+        ensures given_up { OnErr result (steps.new
+            ≤ raised steps.old (cond
+            (is_in_header parent role && not (has_role (header_roles parent) (forest_of rest.now)))
+            (probes_from self.old.made start own) 0)) }
     {
         if is_in_header(parent, role) && !any_in_header(parent, rest) {
             self.end_header(own, start, steps)
@@ -263,7 +300,9 @@ impl<'a> Walk<'a> {
     /// The scope closes after the last child inside it.
     fn close_behind(&mut self, parent: AstType, own: ScopeId, role: Role, rest: &[(Role, Node)])
         requires { own < length self.old.made.tables.scopes }
-        ensures made { self.new ≡ cond (is_inside parent role && not (any_inside parent (forest_of rest.now))) (record self.old { made = close_scope self.old.made own }) self.old }
+        ensures made { self.new ≡ cond
+            (is_inside parent role && not (any_inside parent (forest_of rest.now)))
+            (record self.old { made = close_scope self.old.made own }) self.old }
         ensures goes { Goes self.old.made self.new.made }
     {
         if is_inside(parent, role) && !any_inside(parent, rest) {
@@ -281,15 +320,28 @@ impl<'a> Walk<'a> {
         steps: &mut Steps<L>,
     ) -> Result<(), AllocError>
         requires { IsTurn self.old.made turn.now }
-        ensures ends { (ds : List Declaration) (p : Place) (own : Option OpenScope) (start : ℕ) → p.node.kind ≡ parent → IsTurnAt turn.now p own start → HoldsAt self.old.made own start →
-            OnOk result (self.new ≡ record self.old { made = after_all ds self.old.made (ending_after p role own (forest_of rest.now)) }) }
+        ensures ends { (ds : List Declaration) (p : Place) (own : Option OpenScope) (start : ℕ)
+            → p.node.kind ≡ parent → IsTurnAt turn.now p own start
+            → HoldsAt self.old.made own start →
+            OnOk result (self.new
+            ≡ record self.old {
+              made = after_all ds self.old.made (ending_after p role own (forest_of rest.now));
+            }) }
         ensures grows { OnOk result (Grows self.old.made.tables self.new.made.tables) }
         ensures stands { OnOk result (IsTurn self.new.made turn.now) }
-        ensures cost { (ds : List Declaration) (p : Place) (own : Option OpenScope) (start : ℕ) → p.node.kind ≡ parent → IsTurnAt turn.now p own start → HoldsAt self.old.made own start →
-            OnOk result (steps.new ≡ raised steps.old (probes_of_steps ds self.old.made (ending_after p role own (forest_of rest.now)))) }
+        ensures cost { (ds : List Declaration) (p : Place) (own : Option OpenScope) (start : ℕ)
+            → p.node.kind ≡ parent → IsTurnAt turn.now p own start
+            → HoldsAt self.old.made own start →
+            OnOk result (steps.new
+            ≡ raised steps.old (probes_of_steps ds self.old.made
+            (ending_after p role own (forest_of rest.now)))) }
         ensures risen { steps.old ≤ steps.new }
-        ensures given_up { (ds : List Declaration) (p : Place) (own : Option OpenScope) (start : ℕ) → p.node.kind ≡ parent → IsTurnAt turn.now p own start → HoldsAt self.old.made own start →
-            OnErr result (steps.new ≤ raised steps.old (probes_of_steps ds self.old.made (ending_after p role own (forest_of rest.now)))) }
+        ensures given_up { (ds : List Declaration) (p : Place) (own : Option OpenScope) (start : ℕ)
+            → p.node.kind ≡ parent → IsTurnAt turn.now p own start
+            → HoldsAt self.old.made own start →
+            OnErr result (steps.new
+            ≤ raised steps.old (probes_of_steps ds self.old.made
+            (ending_after p role own (forest_of rest.now)))) }
     {
         match turn.own {
             Some(own) => {
@@ -305,9 +357,14 @@ impl<'a> Walk<'a> {
     fn open_empty(&mut self, kind: AstKind<'a>, role: Role, turn: &Turn) -> Result<(), AllocError>
         requires turn { IsTurn self.old.made turn.now }
         requires ids { MayOpen self.old kind.node.now }
-        ensures ends { (ds : List Declaration) (p : Place) → p.node ≡ kind.entry.node.now → p.role ≡ role → IsWithin self.old p p.chain → ShowsChain self.old.made.tables p.chain → HasVar p.chain →
+        ensures ends { (ds : List Declaration) (p : Place) → p.node ≡ kind.entry.node.now
+            → p.role ≡ role → IsWithin self.old p p.chain → ShowsChain self.old.made.tables p.chain
+            → HasVar p.chain →
             OnOk result (self.new ≡ record self.old {
-              made = close_scope (after ds self.old.made (opening p (opened_scope p (length self.old.made.tables.scopes)))) (length self.old.made.tables.scopes);
+              made = close_scope
+                  (after ds self.old.made
+                  (opening p (opened_scope p (length self.old.made.tables.scopes))))
+                  (length self.old.made.tables.scopes);
               current = turn.now.outer;
               is_ambient = turn.now.is_ambient;
             }) }
@@ -322,9 +379,13 @@ impl<'a> Walk<'a> {
     /// A scope without any child inside opens, and closes at once, behind all children.
     fn open_last(&mut self, kind: AstKind<'a>, role: Role, turn: &Turn) -> Result<(), AllocError>
         requires turn { IsTurn self.old.made turn.now }
-        requires ids { turn.now.own ≡ None → opens kind.node.now.kind ≡ true → MayOpen self.old kind.node.now }
-        ensures ends { (ds : List Declaration) (p : Place) (own : Option OpenScope) (n cursor start : ℕ) → p.node ≡ kind.entry.node.now → p.role ≡ role → IsBetweenAt ds self.old turn.now p own n cursor start nothing →
-            OnOk result (self.new ≡ record self.old { made = after_all ds self.old.made (opening_last p own n) }) }
+        requires ids { turn.now.own ≡ None → opens kind.node.now.kind ≡ true
+            → MayOpen self.old kind.node.now }
+        ensures ends { (ds : List Declaration) (p : Place) (own : Option OpenScope)
+            (n cursor start : ℕ) → p.node ≡ kind.entry.node.now → p.role ≡ role
+            → IsBetweenAt ds self.old turn.now p own n cursor start nothing →
+            OnOk result (self.new
+            ≡ record self.old { made = after_all ds self.old.made (opening_last p own n) }) }
         ensures goes { OnOk result (Goes self.old.made self.new.made) }
     {
         if !turn.acts {
@@ -346,7 +407,8 @@ impl<'a> Walk<'a> {
 
     /// Behind a child the cursor may be what it was before, or empty.
     fn turn_cursor(&mut self, parent: AstType, role: Role, before: ReferenceFlags)
-        ensures made { self.new ≡ record self.old { cursor = cursor_behind parent role before.bits self.old.cursor } }
+        ensures made { self.new ≡ record
+            self.old { cursor = cursor_behind parent role before.bits self.old.cursor } }
         ensures goes { Goes self.old.made self.new.made }
     {
         self.current_reference_flags = behind_child(
@@ -368,7 +430,9 @@ impl<'a> Walk<'a> {
         steps: &mut Steps<L>,
     ) -> Result<(), AllocError>
         requires { IsTurn self.old.made turn.now }
-        ensures ends { (ds : List Declaration) (p : Place) (own : Option OpenScope) (start : ℕ) → p.node.kind ≡ parent → IsTurnAt turn.now p own start → HoldsAt self.old.made own start →
+        ensures ends { (ds : List Declaration) (p : Place) (own : Option OpenScope) (start : ℕ)
+            → p.node.kind ≡ parent → IsTurnAt turn.now p own start
+            → HoldsAt self.old.made own start →
             OnOk result (self.new ≡ record self.old {
               made = after_all ds self.old.made (ending_after p role own (forest_of rest.now));
               current = at p;
@@ -377,11 +441,19 @@ impl<'a> Walk<'a> {
             }) }
         ensures grows { OnOk result (Grows self.old.made.tables self.new.made.tables) }
         ensures stands { OnOk result (IsTurn self.new.made turn.now) }
-        ensures cost { (ds : List Declaration) (p : Place) (own : Option OpenScope) (start : ℕ) → p.node.kind ≡ parent → IsTurnAt turn.now p own start → HoldsAt self.old.made own start →
-            OnOk result (steps.new ≡ raised steps.old (probes_of_steps ds self.old.made (ending_after p role own (forest_of rest.now)))) }
+        ensures cost { (ds : List Declaration) (p : Place) (own : Option OpenScope) (start : ℕ)
+            → p.node.kind ≡ parent → IsTurnAt turn.now p own start
+            → HoldsAt self.old.made own start →
+            OnOk result (steps.new
+            ≡ raised steps.old (probes_of_steps ds self.old.made
+            (ending_after p role own (forest_of rest.now)))) }
         ensures risen { steps.old ≤ steps.new }
-        ensures given_up { (ds : List Declaration) (p : Place) (own : Option OpenScope) (start : ℕ) → p.node.kind ≡ parent → IsTurnAt turn.now p own start → HoldsAt self.old.made own start →
-            OnErr result (steps.new ≤ raised steps.old (probes_of_steps ds self.old.made (ending_after p role own (forest_of rest.now)))) }
+        ensures given_up { (ds : List Declaration) (p : Place) (own : Option OpenScope) (start : ℕ)
+            → p.node.kind ≡ parent → IsTurnAt turn.now p own start
+            → HoldsAt self.old.made own start →
+            OnErr result (steps.new
+            ≤ raised steps.old (probes_of_steps ds self.old.made
+            (ending_after p role own (forest_of rest.now)))) }
     {
         self.come_back(turn);
         if turn.acts {
@@ -408,7 +480,8 @@ impl<'a> Walk<'a> {
     /// Notes a reference that is a leaf, as a visit would: it waits in the current scope, and uses the cursor up.
     fn refer_in_passing(&mut self, child: AstKind<'a>) -> Result<(), AllocError>
         requires { length self.old.made.tables.references < u32.MAX }
-        ensures made { OnOk result (self.new ≡ record (referring self.old child.entry.node.now) { cursor = 0 }) }
+        ensures made { OnOk result (self.new
+            ≡ record (referring self.old child.entry.node.now) { cursor = 0 }) }
         ensures goes { OnOk result (Goes self.old.made self.new.made) }
     {
         self.refer(child)?;
@@ -440,15 +513,19 @@ impl<'a> Walk<'a> {
         steps: &mut Steps<L>,
     ) -> Result<(), AllocError>
         requires { IsSomewhere self.old kind.node.now role }
-        ensures walks { (ds : List Declaration) (p : Place) (own : Option OpenScope) (n : ℕ) → p.node ≡ kind.entry.node.now → p.role ≡ role → IsComing ds self.old p own n →
+        ensures walks { (ds : List Declaration) (p : Place) (own : Option OpenScope) (n : ℕ)
+            → p.node ≡ kind.entry.node.now → p.role ≡ role → IsComing ds self.old p own n →
             OnOk result (self.new ≡ walked_within ds self.old p own n) }
-        ensures leaves { (ds : List Declaration) (p : Place) (own : Option OpenScope) (n : ℕ) → p.node ≡ kind.entry.node.now → p.role ≡ role → IsComing ds self.old p own n →
+        ensures leaves { (ds : List Declaration) (p : Place) (own : Option OpenScope) (n : ℕ)
+            → p.node ≡ kind.entry.node.now → p.role ≡ role → IsComing ds self.old p own n →
             OnOk result (IsLeaving self.new p) }
         ensures goes { OnOk result (Goes self.old.made self.new.made) }
-        ensures cost { (ds : List Declaration) (p : Place) (own : Option OpenScope) (n : ℕ) → p.node ≡ kind.entry.node.now → p.role ≡ role → IsComing ds self.old p own n →
+        ensures cost { (ds : List Declaration) (p : Place) (own : Option OpenScope) (n : ℕ)
+            → p.node ≡ kind.entry.node.now → p.role ≡ role → IsComing ds self.old p own n →
             OnOk result (steps.new ≡ raised steps.old (probes_over ds self.old p own n)) }
         ensures risen { steps.old ≤ steps.new }
-        ensures given_up { (ds : List Declaration) (p : Place) (own : Option OpenScope) (n : ℕ) → p.node ≡ kind.entry.node.now → p.role ≡ role → IsComing ds self.old p own n →
+        ensures given_up { (ds : List Declaration) (p : Place) (own : Option OpenScope) (n : ℕ)
+            → p.node ≡ kind.entry.node.now → p.role ≡ role → IsComing ds self.old p own n →
             OnErr result (steps.new ≤ raised steps.old (probes_over ds self.old p own n)) }
     {
         self.enter(kind)?;

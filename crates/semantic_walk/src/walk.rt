@@ -111,8 +111,10 @@ impl<'a> Model for Walk<'a> {
 /// (ECMAScript 15.2.5, 15.7.14).
 fn declares_inside(kind: AstKind<'_>) -> bool
     ensures inside { result ≡ is_bound_inside kind.entry.node.now }
-    ensures entering { (p : Place) → p.node ≡ kind.entry.node.now → result ≡ true → declared_on_entering p ≡ [] }
-    ensures opening { (p : Place) (own : OpenScope) → p.node ≡ kind.entry.node.now → result ≡ false → declared_on_opening p own ≡ [] }
+    ensures entering { (p : Place) → p.node ≡ kind.entry.node.now → result ≡ true
+        → declared_on_entering p ≡ [] }
+    ensures opening { (p : Place) (own : OpenScope) → p.node ≡ kind.entry.node.now → result ≡ false
+        → declared_on_opening p own ≡ [] }
 {
     match kind.ty() {
         AstType::Function | AstType::Class => !is_statement(kind),
@@ -130,7 +132,9 @@ impl<'a> Walk<'a> {
         program: &'a Program,
         settings: Settings,
     ) -> Result<Walk<'a>, AllocError>
-        ensures begins { IfOk result (λ w. w ≡ begun program.now w.states w.namesakes settings.build_nodes (notes_classes settings) settings.checks) }
+        ensures begins { IfOk result (λ w. w
+            ≡ begun program.now w.states w.namesakes settings.build_nodes
+            (notes_classes settings) settings.checks) }
         ensures names { IfOk result (λ w. AreNamesOf program.now w.namesakes) }
         ensures states { IfOk result (λ w. AllStated w.states (steps program.now)) }
     {
@@ -184,7 +188,10 @@ impl<'a> Walk<'a> {
 
     /// Notes what is entered of classes and labels.
     fn note(&mut self, kind: AstKind<'a>) -> Result<(), AllocError>
-        ensures made { OnOk result (self.new ≡ record self.old { notes = noting (parent_in self.old.path) kind.entry.node.now self.old.notes }) }
+        ensures made { OnOk result (self.new
+            ≡ record self.old {
+              notes = noting (parent_in self.old.path) kind.entry.node.now self.old.notes;
+            }) }
         ensures goes { OnOk result (Goes self.old.made self.new.made) }
     {
         if is_noted(kind.ty()) {
@@ -197,7 +204,8 @@ impl<'a> Walk<'a> {
 
     /// Notes what is left of classes and labels.
     fn note_behind(&mut self, kind: AstKind<'a>) -> Result<(), AllocError>
-        ensures made { OnOk result (self.new ≡ record self.old { notes = leaving_notes kind.entry.node.now self.old.notes }) }
+        ensures made { OnOk result (self.new
+            ≡ record self.old { notes = leaving_notes kind.entry.node.now self.old.notes }) }
         ensures goes { OnOk result (Goes self.old.made self.new.made) }
     {
         if is_noted_behind(kind.ty()) {
@@ -210,7 +218,11 @@ impl<'a> Walk<'a> {
     /// Steps to a node: it stands on the path, and the cursor is that on entering it.
     #[tactic(auto, using(crate::proofs::Going::going, table_building::proofs::Growing::growing))]
     fn step_to(&mut self, kind: AstKind<'a>) -> Result<(), AllocError>
-        ensures made { OnOk result (self.new ≡ record (noting_node self.old kind.entry.node.now) { path = self.old.path ++ kind.entry.node.now ∷ []; cursor = on_entering kind.entry.node.now.kind self.old.cursor }) }
+        ensures made { OnOk result (self.new
+            ≡ record (noting_node self.old kind.entry.node.now) {
+              path = self.old.path ++ kind.entry.node.now ∷ [];
+              cursor = on_entering kind.entry.node.now.kind self.old.cursor;
+            }) }
         ensures goes { OnOk result (Goes self.old.made self.new.made) }
     {
         self.path.push(kind, self.current_scope)?;
@@ -221,7 +233,9 @@ impl<'a> Walk<'a> {
     /// Notes the reference that an identifier reference is.
     fn note_reference(&mut self, kind: AstKind<'a>) -> Result<(), AllocError>
         requires { length self.old.made.tables.references < u32.MAX }
-        ensures made { OnOk result (self.new ≡ cond (is identifier_reference kind.entry.node.now) (referring self.old kind.entry.node.now) self.old) }
+        ensures made { OnOk result (self.new
+            ≡ cond (is identifier_reference kind.entry.node.now)
+            (referring self.old kind.entry.node.now) self.old) }
         ensures goes { OnOk result (Goes self.old.made self.new.made) }
     {
         if kind.ty() == AstType::IdentifierReference {
@@ -233,7 +247,8 @@ impl<'a> Walk<'a> {
 
     /// Notes a direct call of `eval` (ECMAScript 13.3.6.1).
     fn note_eval(&mut self, kind: AstKind<'a>)
-        ensures made { self.new ≡ cond (is_direct_eval kind.entry.node.now) (record self.old { made = add_eval self.old.made self.old.current }) self.old }
+        ensures made { self.new ≡ cond (is_direct_eval kind.entry.node.now)
+            (record self.old { made = add_eval self.old.made self.old.current }) self.old }
         ensures goes { Goes self.old.made self.new.made }
     {
         if is_direct_eval(kind) {
@@ -244,9 +259,11 @@ impl<'a> Walk<'a> {
     /// Declares what the node declares, if it declares inside its own scope, or if it declares outside.
     fn declare(&mut self, kind: AstKind<'a>, inside: bool) -> Result<(), AllocError>
         requires { is_bound_inside kind.node.now ≡ inside → HasIds self.old kind.node.now }
-        ensures entering { (ds : List Declaration) (p : Place) → p.node ≡ kind.entry.node.now → inside ≡ false → IsWithin self.old p p.chain → IsShown ds self.old p →
+        ensures entering { (ds : List Declaration) (p : Place) → p.node ≡ kind.entry.node.now
+            → inside ≡ false → IsWithin self.old p p.chain → IsShown ds self.old p →
             OnOk result (self.new ≡ acting ds self.old (declared_on_entering p)) }
-        ensures opening { (ds : List Declaration) (p : Place) (own : OpenScope) → p.node ≡ kind.entry.node.now → inside ≡ true → IsWithin self.old p (own ∷ []) →
+        ensures opening { (ds : List Declaration) (p : Place) (own : OpenScope)
+            → p.node ≡ kind.entry.node.now → inside ≡ true → IsWithin self.old p (own ∷ []) →
             OnOk result (self.new ≡ acting ds self.old (declared_on_opening p own)) }
         ensures goes { OnOk result (Goes self.old.made self.new.made) }
     {
@@ -261,8 +278,16 @@ impl<'a> Walk<'a> {
     /// noted.
     pub(crate) fn enter(&mut self, kind: AstKind<'a>) -> Result<(), AllocError>
         requires { MayEnter self.old kind.node.now }
-        ensures walks { (ds : List Declaration) (p : Place) → p.node ≡ kind.entry.node.now → ComesTo self.old p → IsShown ds self.old p →
-            OnOk result (self.new ≡ record self.old { made = entered ds self.old p; path = self.old.path ++ p.node ∷ []; cursor = on_entering p.node.kind p.cursor; nodes = kept_at self.old p; notes = noting p.path p.node self.old.notes }) }
+        ensures walks { (ds : List Declaration) (p : Place) → p.node ≡ kind.entry.node.now
+            → ComesTo self.old p → IsShown ds self.old p →
+            OnOk result (self.new
+            ≡ record self.old {
+              made = entered ds self.old p;
+              path = self.old.path ++ p.node ∷ [];
+              cursor = on_entering p.node.kind p.cursor;
+              nodes = kept_at self.old p;
+              notes = noting p.path p.node self.old.notes;
+            }) }
         ensures goes { OnOk result (Goes self.old.made self.new.made) }
     {
         self.step_to(kind)?;
@@ -288,7 +313,8 @@ impl<'a> Walk<'a> {
     /// Makes the scope of the node in its role, which binds nothing.
     fn make_scope(&mut self, kind: AstKind<'a>, role: Role) -> Result<ScopeId, AllocError>
         requires { length self.old.made.tables.scopes < u32.MAX }
-        ensures made { OnOk result (self.new ≡ record self.old { made = opening_in self.old role kind.entry.node.now }) }
+        ensures made { OnOk result (self.new
+            ≡ record self.old { made = opening_in self.old role kind.entry.node.now }) }
         ensures number { IfOk result (λ s. s ≡ length self.old.made.tables.scopes) }
         ensures apart { IfOk result (λ s. (self.new.current == s) ≡ false) }
         ensures empty { IfOk result (λ s. bindings_of self.new.made.tables s ≡ []) }
@@ -311,8 +337,15 @@ impl<'a> Walk<'a> {
     /// Opens the scope of the node in its role.
     pub(crate) fn open(&mut self, kind: AstKind<'a>, role: Role) -> Result<ScopeId, AllocError>
         requires { MayOpen self.old kind.node.now }
-        ensures opens { (ds : List Declaration) (p : Place) → p.node ≡ kind.entry.node.now → p.role ≡ role → IsWithin self.old p p.chain → ShowsChain self.old.made.tables p.chain → HasVar p.chain →
-            OnOk result (self.new ≡ record self.old { made = after ds self.old.made (opening p (opened_scope p (length self.old.made.tables.scopes))); current = length self.old.made.tables.scopes }) }
+        ensures opens { (ds : List Declaration) (p : Place) → p.node ≡ kind.entry.node.now
+            → p.role ≡ role → IsWithin self.old p p.chain → ShowsChain self.old.made.tables p.chain
+            → HasVar p.chain →
+            OnOk result (self.new
+            ≡ record self.old {
+              made = after ds self.old.made
+                  (opening p (opened_scope p (length self.old.made.tables.scopes)));
+              current = length self.old.made.tables.scopes;
+            }) }
         ensures number { IfOk result (λ s. s ≡ length self.old.made.tables.scopes) }
         ensures goes { OnOk result (Goes self.old.made self.new.made) }
         ensures within { IfOk result (λ s. s < length self.new.made.tables.scopes) }
@@ -339,7 +372,9 @@ impl<'a> Walk<'a> {
         requires scope { scope < length self.old.made.tables.scopes }
         requires apart { (self.old.current == scope) ≡ false }
         requires empty { bindings_of self.old.made.tables scope ≡ [] }
-        ensures made { OnOk result (self.new ≡ cond (is_catch_body (place_in self.old role kind.entry.node.now)) (taking_over self.old scope) self.old) }
+        ensures made { OnOk result (self.new
+            ≡ cond (is_catch_body (place_in self.old role kind.entry.node.now))
+            (taking_over self.old scope) self.old) }
         ensures goes { OnOk result (Goes self.old.made self.new.made) }
     {
         if self.is_catch_body(kind, role) {
@@ -361,7 +396,13 @@ impl<'a> Walk<'a> {
 
     /// Steps from a node: it leaves the path, and the cursor is that on leaving it.
     fn step_from(&mut self, kind: AstKind<'a>) -> Result<(), AllocError>
-        ensures made { OnOk result (self.new ≡ record self.old { path = take (length self.old.path - 1) self.old.path; cursor = on_leaving kind.entry.node.now.kind self.old.cursor; nodes = option_map leaving self.old.nodes; notes = leaving_notes kind.entry.node.now self.old.notes }) }
+        ensures made { OnOk result (self.new
+            ≡ record self.old {
+              path = take (length self.old.path - 1) self.old.path;
+              cursor = on_leaving kind.entry.node.now.kind self.old.cursor;
+              nodes = option_map leaving self.old.nodes;
+              notes = leaving_notes kind.entry.node.now self.old.notes;
+            }) }
         ensures goes { OnOk result (Goes self.old.made self.new.made) }
     {
         self.note_behind(kind)?;
@@ -408,7 +449,8 @@ impl<'a> Walk<'a> {
     #[inline(never)]
     fn tell_and_leave<R: Rules>(&mut self, kind: AstKind<'a>, rules: &R) -> Result<(), AllocError>
         requires { self.old.checks ≡ true → IsFit self.old kind.node.now }
-        ensures made { (p : Place) → p.node ≡ kind.entry.node.now → ShowsRows self.old p → OnOk result (self.new ≡ left_at self.old p) }
+        ensures made { (p : Place) → p.node ≡ kind.entry.node.now → ShowsRows self.old p
+            → OnOk result (self.new ≡ left_at self.old p) }
         ensures goes { OnOk result (Goes self.old.made self.new.made) }
     {
         self.tell(kind, rules)?;
@@ -419,7 +461,8 @@ impl<'a> Walk<'a> {
     /// told.
     pub(crate) fn leave<R: Rules>(&mut self, kind: AstKind<'a>, rules: &R) -> Result<(), AllocError>
         requires { self.old.checks ≡ true → IsFit self.old kind.node.now }
-        ensures made { (p : Place) → p.node ≡ kind.entry.node.now → ShowsRows self.old p → OnOk result (self.new ≡ left_at self.old p) }
+        ensures made { (p : Place) → p.node ≡ kind.entry.node.now → ShowsRows self.old p
+            → OnOk result (self.new ≡ left_at self.old p) }
         ensures goes { OnOk result (Goes self.old.made self.new.made) }
     {
         if self.checks {
@@ -438,29 +481,39 @@ impl<'a> Walk<'a> {
     ) -> Result<(), AllocError>
         requires scope { scope < length self.old.made.tables.scopes }
         requires start { start ≤ length self.old.made.waiting }
-        ensures made { OnOk result (self.new ≡ record self.old { made = settled_from self.old.made start (map (header_outcome (source_of self.old.made.tables) scope) (drop start self.old.made.waiting)) }) }
+        ensures made { OnOk result (self.new
+            ≡ record self.old {
+              made = settled_from self.old.made start
+                  (map (header_outcome (source_of self.old.made.tables) scope)
+                  (drop start self.old.made.waiting));
+            }) }
         ensures grows { OnOk result (Grows self.old.made.tables self.new.made.tables) }
         ensures waiting { OnOk result (start ≤ length self.new.made.waiting) }
-        ensures cost { OnOk result (steps.new ≡ raised steps.old (probes_from self.old.made start scope)) }
+        ensures cost { OnOk result (steps.new
+            ≡ raised steps.old (probes_from self.old.made start scope)) }
         ensures risen { steps.old ≤ steps.new }
-        ensures given_up { OnErr result (steps.new ≤ raised steps.old (probes_from self.old.made start scope)) }
+        ensures given_up { OnErr result (steps.new
+            ≤ raised steps.old (probes_from self.old.made start scope)) }
     {
         self.declared.end_header(scope, start, steps)
     }
 
     /// After the walk every reference that waits is settled.
     pub(crate) fn end<L>(&mut self, steps: &mut Steps<L>) -> Result<(), AllocError>
-        ensures made { OnOk result (self.new ≡ record self.old { made = settle_rest self.old.made }) }
+        ensures made { OnOk result (self.new
+            ≡ record self.old { made = settle_rest self.old.made }) }
         ensures cost { OnOk result (steps.new ≡ raised steps.old (probes_in_end self.old.made)) }
         ensures risen { steps.old ≤ steps.new }
-        ensures given_up { OnErr result (steps.new ≤ raised steps.old (probes_in_end self.old.made)) }
+        ensures given_up { OnErr result (steps.new
+            ≤ raised steps.old (probes_in_end self.old.made)) }
     {
         self.declared.settle_rest(steps)
     }
 
     /// Tells the conflicts that are left.
     pub(crate) fn tell_rest(&mut self) -> Result<(), AllocError>
-        ensures { OnOk result (let t = caught_up (telling_of self.old) in self.new ≡ record self.old { said = t.said; counted = t.counted }) }
+        ensures { OnOk result (let t = caught_up (telling_of self.old) in
+            self.new ≡ record self.old { said = t.said; counted = t.counted }) }
     {
         self.declared.tell_from(self.counted, &mut self.said)?;
         self.counted = self.declared.conflicts_len();

@@ -17,7 +17,9 @@ fn add_changing(
     taken: &Taken,
     name: &str,
 ) -> Result<(), AllocError>
-    ensures { OnOk result (names.new ≡ cond (changes_by taken.now (chars name.now)) (joining names.old (chars name.now)) names.old) }
+    ensures { OnOk result (names.new
+        ≡ cond (changes_by taken.now (chars name.now))
+        (joining names.old (chars name.now)) names.old) }
 {
     if taken.changes(name) {
         names.add(alloc, name)?;
@@ -31,7 +33,8 @@ pub fn changing_names(
     scoping: &Scoping,
     taken: &Taken,
 ) -> Result<NameSet, AllocError>
-    ensures { IfOk result (λ names. names ≡ fold joining [] (filter (changes_by taken.now) (symbol_names scoping.now))) }
+    ensures { IfOk result (λ names. names
+        ≡ fold joining [] (filter (changes_by taken.now) (symbol_names scoping.now))) }
 {
     let mut names = NameSet::new(alloc);
     for number in 0..(scoping.symbols_len() as u32) {

@@ -36,7 +36,10 @@ impl NameMap {
 
     /// Adds a new name for a name, unless it has one. The only error is want of memory.
     pub fn add(&mut self, alloc: Global, name: &str, new_name: &str) -> Result<(), AllocError>
-        ensures { OnOk result ((q : Name) → lookup (bytes_eq q) self.new ≡ first_name (lookup (bytes_eq q) self.old) (cond (bytes_eq q (chars name.now)) (Some (chars new_name.now)) None)) }
+        ensures { OnOk result ((q : Name)
+            → lookup (bytes_eq q) self.new
+            ≡ first_name (lookup (bytes_eq q) self.old)
+            (cond (bytes_eq q (chars name.now)) (Some (chars new_name.now)) None)) }
     {
         if self.names.contains_key(name) {
             return Ok(());
@@ -49,7 +52,8 @@ impl NameMap {
 
     /// The new name of the name, if it has one.
     pub fn get(&self, name: &str) -> Option<&str>
-        ensures { option_map (λ text. chars text.now) result ≡ lookup (bytes_eq (chars name.now)) self.now }
+        ensures { option_map (λ text. chars text.now) result
+            ≡ lookup (bytes_eq (chars name.now)) self.now }
     {
         match self.names.get(name) {
             Some(text) => Some(text.as_str()),

@@ -17,7 +17,8 @@ use std::alloc::{AllocError, Global};
 
 /// The next symbol gets the name, or keeps its own.
 fn push_name(alloc: Global, names: &mut NewNames, name: Option<&str>) -> Result<(), AllocError>
-    ensures { OnOk result (names.new ≡ names.old ++ option_map (λ text. chars text.now) name.entry ∷ []) }
+    ensures { OnOk result (names.new
+        ≡ names.old ++ option_map (λ text. chars text.now) name.entry ∷ []) }
 {
     match name {
         Some(name) => names.push(alloc, name),
@@ -43,7 +44,9 @@ pub fn each_named(
     program: &Program,
     known: &Known<'_>,
 ) -> Result<NewNames, AllocError>
-    ensures { IfOk result (λ names. names ≡ names_by (name_pairs (may_by known.now) (told_by known.now) program.now) (told_by known.now).tables.symbols) }
+    ensures { IfOk result (λ names. names
+        ≡ names_by (name_pairs (may_by known.now) (told_by known.now) program.now)
+        (told_by known.now).tables.symbols) }
 {
     let taken = taken_names(alloc, program, known)?;
     let changing = changing_names(alloc, known.scoping, &taken)?;

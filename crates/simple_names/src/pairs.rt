@@ -28,8 +28,11 @@ fn add_shorter(
     name: &str,
     new_name: &str,
 ) -> Result<(), AllocError>
-    ensures { OnOk result ((q : Name) → lookup (bytes_eq q) pairs.new ≡ cond (is_shorter (chars name.now, chars new_name.now))
-        (first_name (lookup (bytes_eq q) pairs.old) (cond (bytes_eq q (chars name.now)) (Some (chars new_name.now)) None)) (lookup (bytes_eq q) pairs.old)) }
+    ensures { OnOk result ((q : Name)
+        → lookup (bytes_eq q) pairs.new ≡ cond (is_shorter (chars name.now, chars new_name.now))
+        (first_name (lookup (bytes_eq q) pairs.old)
+        (cond (bytes_eq q (chars name.now)) (Some (chars new_name.now)) None))
+        (lookup (bytes_eq q) pairs.old)) }
 {
     if is_shorter(name, new_name) {
         pairs.add(alloc, name, new_name)?;
@@ -40,8 +43,11 @@ fn add_shorter(
 /// The names that change with the next unused short names in order, where they are shorter. For any number of short names
 /// of which enough are unused, these are the pairs.
 pub fn name_pairs(alloc: Global, changing: &NameSet, taken: &Taken) -> Result<NameMap, AllocError>
-    ensures { IfOk result (λ pairs. (count : ℕ) → length changing.now ≤ length (unused_from (unused_by taken.now) 0 count)
-        → (q : Name) → lookup (bytes_eq q) pairs ≡ lookup (bytes_eq q) (filter is_shorter (zip changing.now (unused_from (unused_by taken.now) 0 count)))) }
+    ensures { IfOk result (λ pairs. (count : ℕ)
+        → length changing.now ≤ length (unused_from (unused_by taken.now) 0 count)
+        → (q : Name) → lookup (bytes_eq q) pairs
+        ≡ lookup (bytes_eq q) (filter is_shorter
+        (zip changing.now (unused_from (unused_by taken.now) 0 count)))) }
 {
     let mut pairs = NameMap::new(alloc);
     let mut next = 0;

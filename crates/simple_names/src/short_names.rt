@@ -32,14 +32,16 @@ fn character(number: u8) -> u8
 /// Adds the character of this number.
 fn push_character(name: &mut String, number: u8) -> Result<(), AllocError>
     requires { number < 64 }
-    ensures { OnOk result (chars (string_bytes name.new) ≡ chars (string_bytes name.old) ++ character number ∷ []) }
+    ensures { OnOk result (chars (string_bytes name.new)
+        ≡ chars (string_bytes name.old) ++ character number ∷ []) }
 {
     name.push(char::from(character(number)))
 }
 
 /// Adds the characters behind the first. For want of memory some may be added.
 fn push_further(name: &mut String, number: usize) -> Result<(), AllocError>
-    ensures { OnOk result (chars (string_bytes name.new) ≡ chars (string_bytes name.old) ++ further number number) }
+    ensures { OnOk result (chars (string_bytes name.new)
+        ≡ chars (string_bytes name.old) ++ further number number) }
 {
     let mut rest = number;
     while rest > 0 {

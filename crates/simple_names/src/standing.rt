@@ -23,7 +23,9 @@ fn add_name(
     node: &Node,
 ) -> Result<(), AllocError>
     ensures { OnOk result ((q : Name) → has names.new q ≡ (has names.old q
-        || has (cond (is_named setting role node.now.kind && not (bears_such (may_by known.now) (told_by known.now) node.now.node_id)) (node.now.text ∷ []) []) q)) }
+        || has (cond (is_named setting role node.now.kind
+        && not (bears_such (may_by known.now) (told_by known.now) node.now.node_id))
+        (node.now.text ∷ []) []) q)) }
 {
     if is_named(setting, role, node.kind) && !bears_such(known, node.node_id) {
         names.add(alloc, node.text.as_str())?;
@@ -40,7 +42,10 @@ fn add_names(
     setting: Setting,
     node: &Node,
 ) -> Result<(), AllocError>
-    ensures { OnOk result ((q : Name) → has names.new q ≡ (has names.old q || has (fixed_below (bears_such (may_by known.now) (told_by known.now)) setting node.now.children) q)) }
+    ensures { OnOk result ((q : Name)
+        → has names.new q ≡ (has names.old q
+        || has (fixed_below (bears_such (may_by known.now) (told_by known.now)) setting
+        node.now.children) q)) }
 {
     for (role, child) in node.children.as_slice() {
         add_name(alloc, names, known, setting, *role, child)?;
@@ -56,7 +61,10 @@ pub fn standing_names(
     program: &Program,
     known: &Known<'_>,
 ) -> Result<NameSet, AllocError>
-    ensures { IfOk result (λ names. (q : Name) → has names q ≡ has (fixed_below (bears_such (may_by known.now) (told_by known.now)) Elsewhere program.now.root.children) q) }
+    ensures { IfOk result (λ names. (q : Name)
+        → has names q ≡ has (fixed_below
+        (bears_such (may_by known.now) (told_by known.now)) Elsewhere
+        program.now.root.children) q) }
 {
     let mut names = NameSet::new(alloc);
     let root = program.root().node();

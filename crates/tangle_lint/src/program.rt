@@ -50,7 +50,8 @@ fn finish_answer<K: Sink>(
     names: &TangledNames,
     out: &mut K,
 ) -> Result<TangledStatus, ReportError>
-    ensures { WritesAll K.held K.faults out.old out.new (tangle_lines scoping.now names.now) (status_for names.now) result }
+    ensures { WritesAll K.held K.faults out.old out.new (tangle_lines scoping.now names.now)
+        (status_for names.now) result }
 {
     write_tangles(alloc, scoping, names, out)?;
     Ok(status_for(names))
@@ -92,9 +93,12 @@ fn answer_input<S: Source, K: Sink>(
     out: &mut K,
 ) -> Result<TangledStatus, ReportError>
     requires { AreNone words.now }
-    ensures ends { Ends words.now (source_call S.left S.faults source.old source.new) (sink_call K.held K.faults out.old out.new) result }
-    ensures failing { FaultsEnd (source_call S.left S.faults source.old source.new) (sink_call K.held K.faults out.old out.new) (end_due end_of result) }
-    ensures complete { (input : List ℕ) (program : Tree) → S.left source.old ≡ Some input → Stands input program → IfErr result IsNotRefused }
+    ensures ends { Ends words.now (source_call S.left S.faults source.old source.new)
+        (sink_call K.held K.faults out.old out.new) result }
+    ensures failing { FaultsEnd (source_call S.left S.faults source.old source.new)
+        (sink_call K.held K.faults out.old out.new) (end_due end_of result) }
+    ensures complete { (input : List ℕ) (program : Tree) → S.left source.old ≡ Some input
+        → Stands input program → IfErr result IsNotRefused }
 {
     let program = read_program_from(alloc, source)?;
     answer(alloc, &program, out)
@@ -105,7 +109,8 @@ pub const USAGE: &str = "usage: tangled_names\n";
 
 /// Answers words.
 fn refuse_words<E: Sink>(errs: &mut E) -> TangledStatus
-    ensures { TellsEnd (sink_call E.held E.faults errs.old errs.new) usage_line Stop.Usage (end_of result) }
+    ensures { TellsEnd (sink_call E.held E.faults errs.old errs.new) usage_line Stop.Usage
+        (end_of result) }
 {
     refuse(USAGE, errs)
 }
@@ -120,10 +125,13 @@ pub fn run_tangled<S: Source, K: Sink, E: Sink>(
     out: &mut K,
     errs: &mut E,
 ) -> TangledStatus
-    ensures means { Means (source_call S.left S.faults source.old source.new) (sink_call K.held K.faults out.old out.new)
+    ensures means { Means (source_call S.left S.faults source.old source.new)
+        (sink_call K.held K.faults out.old out.new)
         (sink_call E.held E.faults errs.old errs.new) words.now result }
-    ensures failing { FaultsEnd (source_call S.left S.faults source.old source.new) (sink_call K.held K.faults out.old out.new) (end_of result) }
-    ensures complete { AreNone words.now → IsClear (source_call S.left S.faults source.old source.new)
+    ensures failing { FaultsEnd (source_call S.left S.faults source.old source.new)
+        (sink_call K.held K.faults out.old out.new) (end_of result) }
+    ensures complete { AreNone words.now
+        → IsClear (source_call S.left S.faults source.old source.new)
         (sink_call K.held K.faults out.old out.new) → IsDoneOrMemory (end_of result) }
     ensures usage { (AreNone words.now → ⊥) → IsUsageOrMemory (end_of result) }
 {

@@ -83,7 +83,8 @@ fn write_tangle<K: Sink>(
     name: &TangledName,
     out: &mut K,
 ) -> Result<(), ReportError>
-    ensures { Writes K.held K.faults out.old out.new (tangle_line scoping.now (tangle_seen name.now)) result }
+    ensures { Writes K.held K.faults out.old out.new
+        (tangle_line scoping.now (tangle_seen name.now)) result }
 {
     let text = name_of(scoping, name.symbol);
     make_line(line, name.symbol.index(), text, name.reasons.as_slice())?;
@@ -97,7 +98,8 @@ fn write_each<K: Sink>(
     names: &[TangledName],
     out: &mut K,
 ) -> Result<(), ReportError>
-    ensures { Writes K.held K.faults out.old out.new (flat_map (seen_line scoping.now) names.now) result }
+    ensures { Writes K.held K.faults out.old out.new
+        (flat_map (seen_line scoping.now) names.now) result }
 {
     for name in names {
         write_tangle(line, scoping, name, out)?;

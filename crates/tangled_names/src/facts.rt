@@ -31,7 +31,8 @@ pub struct NameFacts<'a> {
 
 /// Whether that is what is noted, and its name is among the keys at its home.
 fn is_among(mention: &Mention<'_>, what: What, keys: &KeySet<'_>) -> bool
-    ensures { result ≡ (is_of what (noted_of mention.now) && stands (key_of (noted_of mention.now)) keys.now) }
+    ensures { result ≡ (is_of what (noted_of mention.now)
+        && stands (key_of (noted_of mention.now)) keys.now) }
 {
     is_of(mention, what) && keys.has_key(mention)
 }
@@ -43,7 +44,9 @@ fn names_among<'a>(
     what: What,
     keys: &KeySet<'_>,
 ) -> Result<KeySet<'a>, AllocError>
-    ensures { IfOk result (λ names. (name : Name) → has_name names name ≡ any_mention (λ m. is_of what m && stands (key_of m) keys.now) (map noted_of mentions.now) name) }
+    ensures { IfOk result (λ names. (name : Name)
+        → has_name names name ≡ any_mention (λ m. is_of what m && stands (key_of m) keys.now)
+        (map noted_of mentions.now) name) }
 {
     let mut names = KeySet::new(alloc);
     for mention in mentions {
@@ -59,7 +62,8 @@ fn noted_names<'a>(
     mentions: &[Mention<'a>],
     what: What,
 ) -> Result<KeySet<'a>, AllocError>
-    ensures { IfOk result (λ names. (name : Name) → has_name names name ≡ any_mention (is_of what) (map noted_of mentions.now) name) }
+    ensures { IfOk result (λ names. (name : Name)
+        → has_name names name ≡ any_mention (is_of what) (map noted_of mentions.now) name) }
 {
     let mut names = KeySet::new(alloc);
     for mention in mentions {
@@ -75,7 +79,9 @@ fn openers_among<'a>(
     mentions: &[Mention<'a>],
     keys: &KeySet<'_>,
 ) -> Result<KeySet<'a>, AllocError>
-    ensures { IfOk result (λ openers. (n : ℕ) → stands (node_key n) openers ≡ contains (openers_by keys.now (map noted_of mentions.now)) n) }
+    ensures { IfOk result (λ openers. (n : ℕ)
+        → stands (node_key n) openers
+        ≡ contains (openers_by keys.now (map noted_of mentions.now)) n) }
 {
     let mut openers = KeySet::new(alloc);
     for mention in mentions {
@@ -87,7 +93,8 @@ fn openers_among<'a>(
 
 /// The names of symbols that a direct call of `eval` may name.
 fn eval_names(alloc: Global, scoping: &Scoping) -> Result<KeySet<'_>, AllocError>
-    ensures { IfOk result (λ names. (name : Name) → has_name names name ≡ any_symbol (is_seen_by_eval scoping.now) scoping.now.symbols name) }
+    ensures { IfOk result (λ names. (name : Name)
+        → has_name names name ≡ any_symbol (is_seen_by_eval scoping.now) scoping.now.symbols name) }
 {
     let mut names = KeySet::new(alloc);
     let count = scoping.symbols_len() as u32;
@@ -101,7 +108,8 @@ fn eval_names(alloc: Global, scoping: &Scoping) -> Result<KeySet<'_>, AllocError
 
 /// The names of symbols that a qualified name may pass by.
 fn passed_names(alloc: Global, scoping: &Scoping) -> Result<KeySet<'_>, AllocError>
-    ensures { IfOk result (λ names. (name : Name) → has_name names name ≡ any_symbol may_be_passed scoping.now.symbols name) }
+    ensures { IfOk result (λ names. (name : Name)
+        → has_name names name ≡ any_symbol may_be_passed scoping.now.symbols name) }
 {
     let mut names = KeySet::new(alloc);
     let count = scoping.symbols_len() as u32;
@@ -119,7 +127,10 @@ fn member_names<'a>(
     scoping: &'a Scoping,
     openers: &KeySet<'_>,
 ) -> Result<KeySet<'a>, AllocError>
-    ensures { IfOk result (λ names. (name : Name) → has_name names name ≡ any_symbol (λ (y : Symbol). stands (node_key (scope_of scoping.now y.scope).node) openers.now) scoping.now.symbols name) }
+    ensures { IfOk result (λ names. (name : Name)
+        → has_name names name ≡ any_symbol
+        (λ (y : Symbol). stands (node_key (scope_of scoping.now y.scope).node) openers.now)
+        scoping.now.symbols name) }
 {
     let mut names = KeySet::new(alloc);
     let count = scoping.symbols_len() as u32;
@@ -133,7 +144,9 @@ fn member_names<'a>(
 
 /// The names of block functions that meet another declaration.
 fn block_functions<'a>(alloc: Global, mentions: &[Mention<'a>]) -> Result<KeySet<'a>, AllocError>
-    ensures { IfOk result (λ names. (name : Name) → has_name names name ≡ any_mention (meets_declaration (map noted_of mentions.now)) (map noted_of mentions.now) name) }
+    ensures { IfOk result (λ names. (name : Name)
+        → has_name names name ≡ any_mention (meets_declaration (map noted_of mentions.now))
+        (map noted_of mentions.now) name) }
 {
     let repeated = repeated_keys(alloc, mentions, What::Declaration)?;
     names_among(alloc, mentions, What::BlockFunction, &repeated)
@@ -141,7 +154,9 @@ fn block_functions<'a>(alloc: Global, mentions: &[Mention<'a>]) -> Result<KeySet
 
 /// The names of `var` in catch clauses that meet a catch name.
 fn catch_variables<'a>(alloc: Global, mentions: &[Mention<'a>]) -> Result<KeySet<'a>, AllocError>
-    ensures { IfOk result (λ names. (name : Name) → has_name names name ≡ any_mention (meets_catch_name (map noted_of mentions.now)) (map noted_of mentions.now) name) }
+    ensures { IfOk result (λ names. (name : Name)
+        → has_name names name ≡ any_mention (meets_catch_name (map noted_of mentions.now))
+        (map noted_of mentions.now) name) }
 {
     let caught = noted_keys(alloc, mentions, What::CatchName)?;
     names_among(alloc, mentions, What::VarInCatch, &caught)
@@ -153,7 +168,9 @@ fn merged_members<'a>(
     mentions: &[Mention<'a>],
     scoping: &'a Scoping,
 ) -> Result<KeySet<'a>, AllocError>
-    ensures { IfOk result (λ names. (name : Name) → has_name names name ≡ any_symbol (is_merged_member (map noted_of mentions.now) scoping.now) scoping.now.symbols name) }
+    ensures { IfOk result (λ names. (name : Name)
+        → has_name names name ≡ any_symbol
+        (is_merged_member (map noted_of mentions.now) scoping.now) scoping.now.symbols name) }
 {
     let repeated = repeated_keys(alloc, mentions, What::Block)?;
     let openers = openers_among(alloc, mentions, &repeated)?;
@@ -169,13 +186,27 @@ impl<'a> NameFacts<'a> {
         mentions: &[Mention<'a>],
         scoping: &'a Scoping,
     ) -> Result<NameFacts<'a>, AllocError>
-        ensures block_functions { IfOk result (λ f. (name : Name) → has_name f.block_functions name ≡ any_mention (meets_declaration (map noted_of mentions.now)) (map noted_of mentions.now) name) }
-        ensures catch_variables { IfOk result (λ f. (name : Name) → has_name f.catch_variables name ≡ any_mention (meets_catch_name (map noted_of mentions.now)) (map noted_of mentions.now) name) }
-        ensures in_with { IfOk result (λ f. (name : Name) → has_name f.in_with name ≡ any_mention is_in_with (map noted_of mentions.now) name) }
-        ensures seen_by_eval { IfOk result (λ f. (name : Name) → has_name f.seen_by_eval name ≡ any_symbol (is_seen_by_eval scoping.now) scoping.now.symbols name) }
-        ensures merged { IfOk result (λ f. (name : Name) → has_name f.merged name ≡ any_symbol (is_merged_member (map noted_of mentions.now) scoping.now) scoping.now.symbols name) }
-        ensures passed { IfOk result (λ f. (name : Name) → has_name f.passed name ≡ any_symbol may_be_passed scoping.now.symbols name) }
-        ensures shared { IfOk result (λ f. (name : Name) → has_name f.shared name ≡ is_shared scoping.now.symbols name) }
+        ensures block_functions { IfOk result (λ f. (name : Name)
+            → has_name f.block_functions name
+            ≡ any_mention (meets_declaration (map noted_of mentions.now))
+            (map noted_of mentions.now) name) }
+        ensures catch_variables { IfOk result (λ f. (name : Name)
+            → has_name f.catch_variables name
+            ≡ any_mention (meets_catch_name (map noted_of mentions.now))
+            (map noted_of mentions.now) name) }
+        ensures in_with { IfOk result (λ f. (name : Name)
+            → has_name f.in_with name ≡ any_mention is_in_with (map noted_of mentions.now) name) }
+        ensures seen_by_eval { IfOk result (λ f. (name : Name)
+            → has_name f.seen_by_eval name
+            ≡ any_symbol (is_seen_by_eval scoping.now) scoping.now.symbols name) }
+        ensures merged { IfOk result (λ f. (name : Name)
+            → has_name f.merged name
+            ≡ any_symbol (is_merged_member (map noted_of mentions.now) scoping.now)
+            scoping.now.symbols name) }
+        ensures passed { IfOk result (λ f. (name : Name)
+            → has_name f.passed name ≡ any_symbol may_be_passed scoping.now.symbols name) }
+        ensures shared { IfOk result (λ f. (name : Name)
+            → has_name f.shared name ≡ is_shared scoping.now.symbols name) }
     {
         let block_functions = block_functions(alloc, mentions)?;
         let catch_variables = catch_variables(alloc, mentions)?;

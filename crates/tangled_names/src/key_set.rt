@@ -63,7 +63,8 @@ impl<'a> KeySet<'a> {
 
     /// Adds the name at the home.
     fn add(&mut self, name: &'a str, home: usize) -> Result<(), AllocError>
-        ensures { OnOk result (self.new ≡ with_key self.old (record { name = chars name.now; home = home })) }
+        ensures { OnOk result (self.new
+            ≡ with_key self.old (record { name = chars name.now; home = home })) }
     {
         spell(name);
         self.stored.insert((name, home))?;

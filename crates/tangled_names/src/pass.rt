@@ -92,7 +92,8 @@ impl<'a> MentionPass<'a> {
 
     /// Notes what is said of a binding identifier.
     fn note_identifier(&mut self, name: Ident<'a>, around: &Around) -> Result<(), AllocError>
-        ensures { OnOk result (self.new ≡ self.old ++ identifier_noted around.now (name_of name.entry)) }
+        ensures { OnOk result (self.new
+            ≡ self.old ++ identifier_noted around.now (name_of name.entry)) }
     {
         let declarer = around.declarer;
         let home = around.home.index();
@@ -120,7 +121,8 @@ impl<'a> MentionPass<'a> {
         name: Ident<'a>,
         around: &Around,
     ) -> Result<(), AllocError>
-        ensures { OnOk result (self.new ≡ self.old ++ function_noted around.now function.entry.node.now (name_of name.entry)) }
+        ensures { OnOk result (self.new
+            ≡ self.old ++ function_noted around.now function.entry.node.now (name_of name.entry)) }
     {
         let is_block_function = is_block_function(function, around);
         let home = around.home.index();
@@ -130,7 +132,8 @@ impl<'a> MentionPass<'a> {
 
     /// Notes the function, if it is a declaration with a name.
     fn note_declared(&mut self, function: AstKind<'a>, around: &Around) -> Result<(), AllocError>
-        ensures { OnOk result (self.new ≡ self.old ++ declaration_noted around.now function.entry.node.now) }
+        ensures { OnOk result (self.new
+            ≡ self.old ++ declaration_noted around.now function.entry.node.now) }
     {
         if !is_statement(function) {
             return Ok(());
@@ -143,7 +146,9 @@ impl<'a> MentionPass<'a> {
 
     /// Notes a block with the name of the node, whose scope the node opens.
     fn note_block(&mut self, node: AstKind<'a>) -> Result<(), AllocError>
-        ensures { OnOk result (self.new ≡ self.old ++ named_noted (noted block_noted node.entry.node.now.node_id) (child_of id_role node.entry.node.now)) }
+        ensures { OnOk result (self.new
+            ≡ self.old ++ named_noted (noted block_noted node.entry.node.now.node_id)
+            (child_of id_role node.entry.node.now)) }
     {
         match node.child(Role::Id) {
             Some(id) => self.note_if(true, What::Block, node.node_id().index(), id.text()),
@@ -153,7 +158,9 @@ impl<'a> MentionPass<'a> {
 
     /// Notes an enum, whose scope its body opens.
     fn note_enum(&mut self, node: AstKind<'a>) -> Result<(), AllocError>
-        ensures { OnOk result (self.new ≡ self.old ++ enum_noted (child_of id_role node.entry.node.now) (child_of body_role node.entry.node.now)) }
+        ensures { OnOk result (self.new
+            ≡ self.old ++ enum_noted (child_of id_role node.entry.node.now)
+            (child_of body_role node.entry.node.now)) }
     {
         match (node.child(Role::Id), node.child(Role::Body)) {
             (Some(id), Some(body)) => {
@@ -165,7 +172,8 @@ impl<'a> MentionPass<'a> {
 
     /// Notes what is said of names at the node.
     fn note(&mut self, node: AstKind<'a>, around: &Around) -> Result<(), AllocError>
-        ensures { OnOk result (self.new ≡ self.old ++ noted_by node.entry.node.now.kind around.now node.entry.node.now) }
+        ensures { OnOk result (self.new
+            ≡ self.old ++ noted_by node.entry.node.now.kind around.now node.entry.node.now) }
     {
         match node.ty() {
             AstType::BindingIdentifier => self.note_identifier(node.text(), around),

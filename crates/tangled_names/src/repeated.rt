@@ -20,7 +20,8 @@ pub fn noted_keys<'a>(
     mentions: &[Mention<'a>],
     what: What,
 ) -> Result<KeySet<'a>, AllocError>
-    ensures { IfOk result (λ keys. (k : Key) → stands k keys ≡ stands k (keys_of what (map noted_of mentions.now))) }
+    ensures { IfOk result (λ keys. (k : Key)
+        → stands k keys ≡ stands k (keys_of what (map noted_of mentions.now))) }
 {
     let mut keys = KeySet::new(alloc);
     for mention in mentions {
@@ -39,8 +40,11 @@ struct Met<'a> {
 
 /// Adds the name of what is noted, if it is so.
 fn meet<'a>(met: &mut Met<'a>, is: bool, mention: &Mention<'a>) -> Result<(), AllocError>
-    ensures seen { OnOk result (met.new.seen ≡ with_key_if is met.old.seen (key_of (noted_of mention.now))) }
-    ensures again { OnOk result (met.new.again ≡ with_key_if (is && stands (key_of (noted_of mention.now)) met.old.seen) met.old.again (key_of (noted_of mention.now))) }
+    ensures seen { OnOk result (met.new.seen
+        ≡ with_key_if is met.old.seen (key_of (noted_of mention.now))) }
+    ensures again { OnOk result (met.new.again
+        ≡ with_key_if (is && stands (key_of (noted_of mention.now)) met.old.seen) met.old.again
+        (key_of (noted_of mention.now))) }
 {
     let is_again = is && met.seen.has_key(mention);
     met.again.add_key_if(is_again, mention)?;
@@ -53,7 +57,8 @@ pub fn repeated_keys<'a>(
     mentions: &[Mention<'a>],
     what: What,
 ) -> Result<KeySet<'a>, AllocError>
-    ensures { IfOk result (λ keys. (k : Key) → stands k keys ≡ repeats k (keys_of what (map noted_of mentions.now))) }
+    ensures { IfOk result (λ keys. (k : Key)
+        → stands k keys ≡ repeats k (keys_of what (map noted_of mentions.now))) }
 {
     let mut met = Met {
         seen: KeySet::new(alloc),
@@ -68,8 +73,11 @@ pub fn repeated_keys<'a>(
 
 /// Adds the name.
 fn meet_name<'a>(met: &mut Met<'a>, name: &'a str) -> Result<(), AllocError>
-    ensures seen { OnOk result (met.new.seen ≡ with_key_if true met.old.seen (name_key (chars name.now))) }
-    ensures again { OnOk result (met.new.again ≡ with_key_if (has_name met.old.seen (chars name.now)) met.old.again (name_key (chars name.now))) }
+    ensures seen { OnOk result (met.new.seen
+        ≡ with_key_if true met.old.seen (name_key (chars name.now))) }
+    ensures again { OnOk result (met.new.again
+        ≡ with_key_if (has_name met.old.seen (chars name.now)) met.old.again
+        (name_key (chars name.now))) }
 {
     let is_again = met.seen.has_name(name);
     met.again.add_name_if(is_again, name)?;
@@ -78,7 +86,8 @@ fn meet_name<'a>(met: &mut Met<'a>, name: &'a str) -> Result<(), AllocError>
 
 /// The names that two symbols have, or more.
 pub fn shared_names(alloc: Global, scoping: &Scoping) -> Result<KeySet<'_>, AllocError>
-    ensures { IfOk result (λ names. (name : Name) → has_name names name ≡ is_shared scoping.now.symbols name) }
+    ensures { IfOk result (λ names. (name : Name)
+        → has_name names name ≡ is_shared scoping.now.symbols name) }
 {
     let mut met = Met {
         seen: KeySet::new(alloc),

@@ -44,7 +44,8 @@ pub fn is_seen_by_eval(scoping: &Scoping, symbol: SymbolId) -> bool
 /// Whether one of the nodes opens the scope of the symbol.
 pub fn is_bound_by(scoping: &Scoping, openers: &KeySet<'_>, symbol: SymbolId) -> bool
     requires { symbol < length scoping.now.symbols }
-    ensures { result ≡ stands (node_key (scope_of scoping.now (symbol_of scoping.now symbol).scope).node) openers.now }
+    ensures { result ≡ stands (node_key
+        (scope_of scoping.now (symbol_of scoping.now symbol).scope).node) openers.now }
 {
     openers.has_node(opener_of(scoping, scoping.symbol_scope_id(symbol)))
 }

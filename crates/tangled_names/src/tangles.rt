@@ -127,7 +127,9 @@ fn reasons_for(
     scoping: &Scoping,
     name: &str,
 ) -> Result<Vec<Reason>, AllocError>
-    ensures { IfOk result (λ found. found.items ≡ filter (λ r. told facts.now source_type scoping.now r (chars name.entry.now)) all_reasons) }
+    ensures { IfOk result (λ found. found.items
+        ≡ filter (λ r. told facts.now source_type scoping.now r (chars name.entry.now))
+        all_reasons) }
 {
     let mut found = Vec::new(alloc);
     for reason in all_reasons() {
@@ -147,7 +149,9 @@ fn reasons_if(
     scoping: &Scoping,
     name: &str,
 ) -> Result<Vec<Reason>, AllocError>
-    ensures { IfOk result (λ found. found.items ≡ cond is (filter (λ r. told facts.now source_type scoping.now r (chars name.entry.now)) all_reasons) []) }
+    ensures { IfOk result (λ found. found.items
+        ≡ cond is (filter (λ r. told facts.now source_type scoping.now r (chars name.entry.now))
+        all_reasons) []) }
 {
     if is {
         reasons_for(alloc, facts, source_type, scoping, name)
@@ -163,7 +167,10 @@ fn tangles_by(
     source_type: SourceType,
     scoping: &Scoping,
 ) -> Result<TangledNames, AllocError>
-    ensures { IfOk result (λ found. found ≡ tangles_from (λ (name : Name). filter (λ r. told facts.now source_type scoping.now r name) all_reasons) (λ x. false) 0 scoping.now.symbols) }
+    ensures { IfOk result (λ found. found
+        ≡ tangles_from (λ (name : Name).
+        filter (λ r. told facts.now source_type scoping.now r name) all_reasons)
+        (λ x. false) 0 scoping.now.symbols) }
 {
     let mut found = TangledNames::new(alloc);
     let mut before = KeySet::new(alloc);

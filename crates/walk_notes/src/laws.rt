@@ -7,6 +7,9 @@ ghost use Rattle.walk_notes.specs.NoteLists.{nothing_noted, noted_over, classes_
 
 /// A walk over a program from its root has its classes in the end, if it notes them, and the labels that no jump names.
 pub fn a_walk_notes_a_program()
-    ensures classes { (on : Bool) (p : Tree) → first_fault p ≡ None → (noted_over [] p.root (nothing_noted on)).classes.classes ≡ classes_noted on p }
-    ensures labels { (on : Bool) (p : Tree) → first_fault p ≡ None → (noted_over [] p.root (nothing_noted on)).labels ≡ record { around = []; unused = unused_labels p.root } }
+    ensures classes { (on : Bool) (p : Tree) → first_fault p ≡ None
+        → (noted_over [] p.root (nothing_noted on)).classes.classes ≡ classes_noted on p }
+    ensures labels { (on : Bool) (p : Tree) → first_fault p ≡ None
+        → (noted_over [] p.root (nothing_noted on)).labels
+        ≡ record { around = []; unused = unused_labels p.root } }
 {}

@@ -51,7 +51,8 @@ impl<'a> LazyNamesakes<'a> {
     /// the program's nodes, each later one that of a look-up. The only error is want of memory.
     pub fn has(&mut self, opener: NodeId, name: Ident<'_>) -> Result<bool, AllocError>
         ensures stays { self.new ≡ self.old }
-        ensures has { IfOk result (λ has. has ≡ is_written self.old opener (chars name.entry.text.now)) }
+        ensures has { IfOk result (λ has. has
+            ≡ is_written self.old opener (chars name.entry.text.now)) }
     {
         if let Some(namesakes) = &self.collected {
             return Ok(namesakes.has(opener, name));

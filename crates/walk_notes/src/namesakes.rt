@@ -82,7 +82,8 @@ fn is_lexical(declaration: Option<AstKind<'_>>) -> bool
 /// Whether the names that a catch clause declares are those of a pattern: past a plain one a `var` may go
 /// (ECMAScript, Annex B.3.4).
 fn has_pattern(parameter: AstKind<'_>) -> bool
-    ensures { result ≡ holds (λ p. not (is binding_identifier p)) (child_of pattern_role parameter.entry.node.now) }
+    ensures { result ≡ holds (λ p. not (is binding_identifier p))
+        (child_of pattern_role parameter.entry.node.now) }
 {
     match parameter.child(Role::Pattern) {
         Some(pattern) => pattern.ty() != AstType::BindingIdentifier,
@@ -92,7 +93,8 @@ fn has_pattern(parameter: AstKind<'_>) -> bool
 
 /// Whether the node declares lexical variables, a class, a function, or the names of a catch pattern.
 fn counts(kind: AstKind<'_>, parent: Option<AstKind<'_>>) -> bool
-    ensures { result ≡ counts_as kind.entry.node.now.kind kind.entry.node.now (option_map shown parent.entry) }
+    ensures { result ≡ counts_as kind.entry.node.now.kind kind.entry.node.now
+        (option_map shown parent.entry) }
 {
     match kind.ty() {
         AstType::VariableDeclarator => is_lexical(parent),
@@ -138,7 +140,10 @@ fn openers_in_child(kind: AstKind<'_>, role: Role, openers: &Openers) -> Openers
 impl Namesakes {
     /// Those of a program, wherever they are written. Only sloppy JavaScript has block functions that move.
     pub fn of(alloc: Global, program: &Program) -> Result<Namesakes, AllocError>
-        ensures { IfOk result (λ made. (opener : ℕ) (name : Name) → is_written made opener name ≡ (is_sloppy program.now.source_type && is_written (names_written program.now) opener name)) }
+        ensures { IfOk result (λ made. (opener : ℕ) (name : Name)
+            → is_written made opener name
+            ≡ (is_sloppy program.now.source_type
+            && is_written (names_written program.now) opener name)) }
     {
         let mut namesakes = Namesakes::new(alloc);
         if !is_sloppy(program.source_type()) {
@@ -175,7 +180,8 @@ impl Namesakes {
 
     /// The name is declared in the scope that the node opens.
     fn add(&mut self, opener: NodeId, name: Ident<'_>) -> Result<(), AllocError>
-        ensures { OnOk result (Adds self.old self.new (record { opener = opener; name = chars name.entry.text.now } ∷ [])) }
+        ensures { OnOk result (Adds self.old self.new
+            (record { opener = opener; name = chars name.entry.text.now } ∷ [])) }
     {
         let number = self.names.intern(name)?;
         self.written.insert((opener.index(), number))?;
@@ -184,7 +190,8 @@ impl Namesakes {
 
     /// The names that a node binds are declared in the scope that the opener opens.
     fn note(&mut self, kind: AstKind<'_>, opener: NodeId) -> Result<(), AllocError>
-        ensures { OnOk result (Adds self.old self.new (names_in opener (bound_names kind.entry.node.now))) }
+        ensures { OnOk result (Adds self.old self.new
+            (names_in opener (bound_names kind.entry.node.now))) }
     {
         let names = bound_identifiers(self.alloc, kind)?;
         for name in names.iter() {
@@ -200,7 +207,9 @@ impl Namesakes {
         parent: Option<AstKind<'_>>,
         openers: &Openers,
     ) -> Result<(), AllocError>
-        ensures { OnOk result (Adds self.old self.new (written_by kind.entry.node.now (option_map shown parent.entry) (openers_of openers.now))) }
+        ensures { OnOk result (Adds self.old self.new
+            (written_by kind.entry.node.now (option_map shown parent.entry)
+            (openers_of openers.now))) }
     {
         if counts(kind, parent) {
             self.note(kind, opener_of_names(kind, openers))?;
@@ -216,7 +225,9 @@ impl Namesakes {
         parent: Option<AstKind<'_>>,
         openers: &Openers,
     ) -> Result<(), AllocError>
-        ensures { OnOk result (Adds self.old self.new (written_in kind.entry.node.now (option_map shown parent.entry) (openers_of openers.now))) }
+        ensures { OnOk result (Adds self.old self.new
+            (written_in kind.entry.node.now (option_map shown parent.entry)
+            (openers_of openers.now))) }
     {
         self.note_node(kind, parent, openers)?;
         for (role, child) in kind.node().children.as_slice() {

@@ -83,7 +83,8 @@ impl<'a> Notes<'a> {
         kind: AstKind<'a>,
         parent: Option<AstKind<'a>>,
     ) -> Result<(), AllocError>
-        ensures ok { OnOk result (self.new ≡ noting (path_of parent.entry) kind.entry.node.now self.old) }
+        ensures ok { OnOk result (self.new
+            ≡ noting (path_of parent.entry) kind.entry.node.now self.old) }
         ensures err { OnErr result (self.new ≡ self.old) }
     {
         if may_have_label(kind.ty()) {
@@ -99,7 +100,10 @@ impl<'a> Notes<'a> {
         kind: AstKind<'a>,
         parent: Option<AstKind<'a>>,
     ) -> Result<(), AllocError>
-        ensures ok { OnOk result (self.new ≡ record self.old { classes = entered_under (path_of parent.entry) kind.entry.node.now self.old.classes }) }
+        ensures ok { OnOk result (self.new
+            ≡ record self.old {
+              classes = entered_under (path_of parent.entry) kind.entry.node.now self.old.classes;
+            }) }
         ensures err { OnErr result (self.new ≡ self.old) }
     {
         match parent {

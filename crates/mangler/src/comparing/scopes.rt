@@ -53,7 +53,8 @@ fn name_or<'a>(names: &'a NewNames, symbol: SymbolId, old: Ident<'a>) -> &'a str
 fn binds_the_same(names: &NewNames, one: &Scoping, other: &Scoping, scope: ScopeId) -> bool
     requires one { scope < length one.now.scopes }
     requires other { scope < length other.now.scopes }
-    ensures { result ≡ pointwise same_binding (bindings_of other.now scope) (map (renamed_binding (listed names.now)) (bindings_of one.now scope)) }
+    ensures { result ≡ pointwise same_binding (bindings_of other.now scope)
+        (map (renamed_binding (listed names.now)) (bindings_of one.now scope)) }
 {
     let mut theirs = other.get_bindings(scope).iter();
     for (name, symbol) in one.get_bindings(scope).iter() {
@@ -69,7 +70,8 @@ fn binds_the_same(names: &NewNames, one: &Scoping, other: &Scoping, scope: Scope
 
 /// Whether all scopes bind the same symbols, by their new names.
 pub fn are_same_bindings(names: &NewNames, one: &Scoping, other: &Scoping) -> bool
-    ensures { result ≡ pointwise (pointwise same_binding) other.now.bindings (map (map (renamed_binding (listed names.now))) one.now.bindings) }
+    ensures { result ≡ pointwise (pointwise same_binding) other.now.bindings
+        (map (map (renamed_binding (listed names.now))) one.now.bindings) }
 {
     one.attest();
     other.attest();

@@ -17,7 +17,8 @@ use semantic_syntax::SymbolId;
 /// The name that the symbol has then.
 fn name_then<'a>(names: &'a NewNames, scoping: &'a Scoping, symbol: SymbolId) -> &'a str
     requires { symbol < length scoping.now.symbols }
-    ensures { chars result.now ≡ name_or (listed names.now symbol) (symbol_of scoping.now symbol).name }
+    ensures { chars result.now ≡ name_or (listed names.now symbol)
+        (symbol_of scoping.now symbol).name }
 {
     match names.get(symbol) {
         Some(name) => name,
@@ -31,7 +32,8 @@ fn has_same_redeclarations(one: &Scoping, other: &Scoping, symbol: SymbolId) -> 
     requires other { symbol < length other.now.symbols }
     requires own { ListsBeginWithOwn one.now }
     requires others { ListsBeginWithOwn other.now }
-    ensures { result ≡ option_eq (pointwise same_declaration) (symbol_of other.now symbol).redeclarations (symbol_of one.now symbol).redeclarations }
+    ensures { result ≡ option_eq (pointwise same_declaration)
+        (symbol_of other.now symbol).redeclarations (symbol_of one.now symbol).redeclarations }
 {
     are_same_declarations(
         other.symbol_redeclarations(symbol),
@@ -45,7 +47,10 @@ fn is_same_symbol(names: &NewNames, one: &Scoping, other: &Scoping, symbol: Symb
     requires other { symbol < length other.now.symbols }
     requires own { ListsBeginWithOwn one.now }
     requires others { ListsBeginWithOwn other.now }
-    ensures { result ≡ same_symbol (symbol_of other.now symbol) (record (symbol_of one.now symbol) { name = name_or (listed names.now symbol) (symbol_of one.now symbol).name }) }
+    ensures { result ≡ same_symbol (symbol_of other.now symbol)
+        (record (symbol_of one.now symbol) {
+          name = name_or (listed names.now symbol) (symbol_of one.now symbol).name;
+        }) }
 {
     is_same_text(other.symbol_name(symbol), name_then(names, one, symbol))
         && is_same_span(other.symbol_span(symbol), one.symbol_span(symbol))
@@ -59,7 +64,8 @@ fn is_same_symbol(names: &NewNames, one: &Scoping, other: &Scoping, symbol: Symb
 pub fn are_same_symbols(names: &NewNames, one: &Scoping, other: &Scoping) -> bool
     requires own { ListsBeginWithOwn one.now }
     requires others { ListsBeginWithOwn other.now }
-    ensures { result ≡ pointwise same_symbol other.now.symbols (renamed_symbols (listed names.now) 0 one.now.symbols) }
+    ensures { result ≡ pointwise same_symbol other.now.symbols
+        (renamed_symbols (listed names.now) 0 one.now.symbols) }
 {
     if other.symbols_len() != one.symbols_len() {
         return false;

@@ -57,7 +57,8 @@ fn is_default_declaration(declaration: AstKind<'_>) -> bool
 
 /// Adds the names that a node binds. For want of memory some may be added.
 fn push_names(names: &mut Vec<NodeId>, node: AstKind<'_>) -> Result<(), AllocError>
-    ensures { OnOk result (names.new.items ≡ names.old.items ++ map (λ x. x.node_id) (bound_names node.entry.node.now)) }
+    ensures { OnOk result (names.new.items
+        ≡ names.old.items ++ map (λ x. x.node_id) (bound_names node.entry.node.now)) }
 {
     let bound = bound_identifiers(*names.allocator(), node)?;
     for name in bound.iter() {
@@ -68,7 +69,8 @@ fn push_names(names: &mut Vec<NodeId>, node: AstKind<'_>) -> Result<(), AllocErr
 
 /// Adds the names that a node exports, if it is such a statement.
 fn push_given(names: &mut Vec<NodeId>, export: Export, node: AstKind<'_>) -> Result<(), AllocError>
-    ensures { OnOk result (names.new.items ≡ names.old.items ++ given_names export node.entry.node.now) }
+    ensures { OnOk result (names.new.items
+        ≡ names.old.items ++ given_names export node.entry.node.now) }
 {
     if !export.is_statement(node.ty()) {
         return Ok(());

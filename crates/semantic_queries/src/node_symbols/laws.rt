@@ -11,6 +11,9 @@ ghost use Rattle.semantic_queries.specs.Shown.{shown, entries};
 
 /// The tables of a program, and what belongs to its nodes, show its analysis.
 pub fn tables_show_the_analysis()
-    ensures { (p : Tree) (t : Tables) (nodes : NodeEntries) → t ≡ tables_of p → nodes.symbols ≡ entries (node_tables (steps p)).symbols → nodes.references ≡ entries (node_tables (steps p)).references → nodes.scopes ≡ entries (node_tables (steps p)).scopes
+    ensures { (p : Tree) (t : Tables) (nodes : NodeEntries) → t ≡ tables_of p
+        → nodes.symbols ≡ entries (node_tables (steps p)).symbols
+        → nodes.references ≡ entries (node_tables (steps p)).references
+        → nodes.scopes ≡ entries (node_tables (steps p)).scopes
         → shown t nodes ≡ analysis_of p }
 {}
