@@ -10,21 +10,21 @@ use crate::stops::Stop;
 /// How a program ends that looks for findings.
 #[derive(Clone, Copy, Debug, PartialEq, Eq)]
 pub enum FindingStatus {
-    /// The answer is written, and there is no finding.
+    /// 0: the answer is written, and there is no finding.
     Done,
-    /// The answer is written, and there are findings.
+    /// 1: the answer is written, and there are findings.
     Found,
-    /// The words are refused.
+    /// 2: the words are refused.
     Usage,
-    /// The input is refused.
+    /// 3: the input is refused.
     Tree,
-    /// The input is too long.
+    /// 4: the input is too long.
     TooLong,
-    /// A call on the source failed.
+    /// 5: a call on the source failed.
     Read,
-    /// A call on the sink failed.
+    /// 6: a call on the sink failed.
     Write,
-    /// Memory is wanting.
+    /// 7: memory is wanting.
     Memory,
 }
 

@@ -9,21 +9,21 @@ use program_ends::{Status, Stop};
 /// How the program ends.
 #[derive(Clone, Copy, Debug, PartialEq, Eq)]
 pub enum ReportStatus {
-    /// The report is written, and there are no diagnostics.
+    /// 0: the report is written, and there are no diagnostics.
     Clean,
-    /// The report is written, and there are diagnostics.
+    /// 1: the report is written, and there are diagnostics.
     Diagnosed,
-    /// A word isn't known, or a number is missing or not well written.
+    /// 2: a word isn't known, or a number is missing or not well written.
     Usage,
-    /// The input is no program.
+    /// 3: the input is no program.
     Tree,
-    /// The input is too long.
+    /// 4: the input is too long.
     TooLong,
-    /// A call on the source failed.
+    /// 5: a call on the source failed.
     Read,
-    /// A call on the sink failed.
+    /// 6: a call on the sink failed.
     Write,
-    /// Memory is wanting.
+    /// 7: memory is wanting.
     Memory,
 }
 
