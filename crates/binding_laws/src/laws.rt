@@ -1,0 +1,12 @@
+//! Laws over ties and symbols. Each holds of every program without a fault.
+ghost use Rattle.std.specs.Prelude.{◌≡◌, None};
+ghost use Rattle.semantic_tree.specs.Faults.{first_fault};
+ghost use Rattle.semantic_tree.specs.Tree.{Tree};
+ghost use Rattle.binding_laws.specs.SeenDeclarations.{TiesAreOutward};
+
+/// Each reference is tied to the first symbol outward that it may mean, or is free. Of a scope whose header holds it,
+/// what counts is bound by the declarations that don't stand in the scope's body, with the flags that these give; of
+/// any other scope, what it binds in the end.
+pub fn references_see_declarations()
+    ensures { (p : Tree) → first_fault p ≡ None → TiesAreOutward p }
+{}
