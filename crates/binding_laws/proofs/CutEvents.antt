@@ -111,7 +111,7 @@ entering_behind c aw chain ds (d ∷ new) g m n o = (
 abbrev pub IsOwnPlain : OpenScope → Declaration → Type 0
 IsOwnPlain s d = (d.how ≡ plain) × (d.route.target.number ≡ s.number)
 
-placed_plain : (how : How) (ds : List Declaration) (d : Declaration) → how ≡ plain → placed_by how ds d ≡ d
+pub placed_plain : (how : How) (ds : List Declaration) (d : Declaration) → how ≡ plain → placed_by how ds d ≡ d
 placed_plain plain ds d e = refl
 placed_plain hoisted ds d e = absurd cc
 placed_plain moved ds d e = absurd cc

@@ -115,7 +115,7 @@ entered_behind c aw ds p (inl v) m n = elim (cases_Bool (is kind.BindingIdentifi
   | inr e ↦ entering_behind c aw p.chain ds (declared_on_entering p) (entering_goes p.node.kind p v) (solid_match aw p.chain v (m e)) n (entering_other p.node.kind p)
 ]
 
-opened_plain : (p : Place) (own : OpenScope) → EachDeclared (IsOwnPlain own) (declared_on_opening p own)
+pub opened_plain : (p : Place) (own : OpenScope) → EachDeclared (IsOwnPlain own) (declared_on_opening p own)
 opened_plain p own = each_on_opening (IsOwnPlain own) (λ how r. (how ≡ plain) × (r.target.number ≡ own.number)) (λ node row is_pure name h. h) p.node.kind p own (λ e. (refl, refl))
 
 taken_behind : (c : ℕ) (p : Place) (s : OpenScope) → AllBehind c (taken_over p s)

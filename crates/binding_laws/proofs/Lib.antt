@@ -6,3 +6,6 @@ pub mod CutSteps
 pub mod Unremembered
 pub mod HeaderFold
 pub mod TiedOutward
+pub mod Growing
+pub mod KeptSymbols
+pub mod KeptSteps

@@ -165,6 +165,17 @@ entering_other kind.TSNamespaceDeclaration p = namespace_names (instance_state p
 entering_other kind.TSTypeParameter p = row_other p.node (type_parameter_row (type_parameter_route p)) false (names_at role.Name p.node) refl
 entering_other _ p = tt
 
+-- nor what a class or a mapped type declares in its own scope
+pub class_other : (p : Place) (own : OpenScope) → AllOther (declared_inside kind.Class p own)
+class_other p own = by (is_statement p.node)
+  where
+    by : (b : Bool) → AllOther (cond b [] (map (declare p.node (class_row p (own ∷ [])) false) (ids p.node)))
+    by true = tt
+    by false = row_other p.node (class_row p (own ∷ [])) false (ids p.node) (marked_other symbol.Class.bits p.node refl refl)
+
+pub key_other : (p : Place) (own : OpenScope) → AllOther (declared_inside kind.TSMappedType p own)
+key_other p own = row_other p.node (type_parameter_row (here (own ∷ []))) false (names_at role.Key p.node) refl
+
 -- what a function declares in its own scope is
 pub own_named : (p : Place) (own : OpenScope) → EachDeclared IsOwnName (declared_inside kind.Function p own)
 own_named p own = by (is_statement p.node) refl

@@ -1,0 +1,276 @@
+-- The declarations of one name in one scope have one symbol.
+use Rattle.std.proofs.Common.{◌≡◌, ℕ, suc, ◌<◌, ◌≤◌, List, [], ◌∷◌, ◌++◌, Option, Some, None, Bool, true, false, cond, ◌&&◌, ◌==◌, bytes_eq, ◌⊎◌, inl, inr, refl, sym, ap, subst, ◌∙◌, length, flat_map, arith}
+use Rattle.std.specs.Prelude.{slice_get}
+use Rattle.std.proofs.lemmas.Bool.{and_left, and_right}
+use Rattle.std.proofs.lemmas.Bool.Decides.{eqb_tells, Decides-ltb}
+use Rattle.std.proofs.lemmas.List.{length-append}
+use Rattle.semantic_kinds.specs.Roles.{same_role}
+use Rattle.semantic_kinds.specs.declared.kind.AstType.{AstType}
+use Rattle.semantic_kinds.specs.declared.kind.AstType.TheVariants as kind
+use Rattle.semantic_kinds.specs.declared.role.Role.TheVariants as role
+use Rattle.semantic_syntax.proofs.Truth.{and_first}
+use Rattle.semantic_syntax.specs.Sets.{meets}
+use Rattle.semantic_syntax.specs.Tables.{Name, Symbol, Bindings}
+use Rattle.semantic_tree.specs.Faults.{first_fault}
+use Rattle.semantic_tree.specs.Tree.{Tree}
+use Rattle.semantic_tree.specs.Views.{is}
+use Rattle.semantic_model.specs.Binder.{declared_by, declared_inside, declared_on_entering, declared_on_opening}
+use Rattle.semantic_model.specs.Binding.{get, put, bound_by}
+use Rattle.semantic_model.specs.Declaration.{How, plain, hoisted, Declaration}
+use Rattle.semantic_model.specs.Entries.{Among}
+use Rattle.semantic_model.specs.Event.{Event, declares, takes_over, ends_header, is_catch_body, taken_over, placed, declares_all, events_of, written_declarations, events, declarations}
+use Rattle.semantic_model.specs.Fold.{State, Made, start, make, found, or_else, unless_expression, declare_in, flags_of, flags_or_none, update, in_scope, new_symbol}
+use Rattle.semantic_model.specs.Hoist.{rescoped, declare_by, act, run}
+use Rattle.semantic_model.specs.Place.{Place, OpenScope, innermost, parent_holds}
+use Rattle.semantic_model.specs.Step.{Step, entering, opening, header_ending, closing, leaving, steps}
+use Rattle.semantic_model.proofs.fold.EachDeclared.{EachDeclared}
+use Rattle.semantic_model.proofs.fold.Orders.{Adds, adds, table_of, orderly_events}
+use Rattle.semantic_model.proofs.fold.TakeOvers.{Ready, Orderly}
+use Rattle.semantic_model.proofs.form.Clauses.{kind_is}
+use Rattle.semantic_model.proofs.form.Shape.{has_form}
+use Rattle.semantic_model.proofs.lists.BindingLaws.{same_key, get-put_same, get-put_other, get_among, get-take_over_other}
+use Rattle.semantic_model.proofs.lists.Bounds.{IsSound, get_below}
+use Rattle.semantic_model.proofs.lists.Growth.{act_grows, run_grows, start_is_sound}
+use Rattle.semantic_model.proofs.lists.Members.{among_more}
+use Rattle.semantic_model.proofs.lists.SymbolLaws.{get-last, get-push}
+use Rattle.semantic_model.proofs.once.ListedUnder.{name_tells}
+use Rattle.semantic_model.proofs.once.TiedByName.{orderly_left, orderly_right}
+use Rattle.semantic_model.proofs.once.UseLists.{IsBelow}
+use Rattle.semantic_model.proofs.steps.Compose.{run-append}
+use Rattle.walk_model.specs.Walks.{numbers}
+use Rattle.walk_model.proofs.declares.Simulated.{program_nested, root_declares_none, solid}
+use Rattle.walk_model.proofs.headers.Frozen.{IsWithin, below, within_step}
+use Rattle.walk_model.proofs.places.Grounds.{IsGrounded, AllGrounded, all_grounded}
+use Rattle.walk_model.proofs.places.Nested.{Descends, AreNested, IsNestedStep, open_past, seen_past}
+use Rattle.walk_model.proofs.places.Routes.{grounded, GoesOut, AllGoOut, entering_goes, opening_goes, placed_goes, target_below}
+use Rattle.binding_laws.specs.SeenDeclarations.{declared, is_own_name}
+use Rattle.binding_laws.specs.OneSymbol.{takes_by, NoneTakes, BindsIn, OneSymbolEach}
+use Rattle.binding_laws.proofs.CutEvents.{IsOwnPlain, placed_other, placed_plain}
+use Rattle.binding_laws.proofs.CutSteps.{opened_plain}
+use Rattle.binding_laws.proofs.KeptSymbols.{expression, IsBoundTo, Keeps, NoneBinds, IsFree, declared_keeps}
+use Rattle.binding_laws.proofs.OwnNames.{AllOther, IsOwnName, entering_other, own_named, class_other, key_other}
+use Rattle.binding_laws.proofs.Growing.{same_flags}
+
+-- the targets of the declarations are below the number
+abbrev MadeBelow : ℕ → State → Type 0
+MadeBelow n st = (m : Made) → Among m st.made → m.declaration.route.target.number < n
+
+below_more : (n m : ℕ) (st : State) → n ≤ m → MadeBelow n st → MadeBelow m st
+below_more n m st l h k a = omega (arith, h k a, l)
+
+declares_below : (n : ℕ) (chain : List OpenScope) (ds new : List Declaration) (st : State) → AllGoOut chain new → Descends n (grounded chain) → MadeBelow n st → MadeBelow n (run st (declares_all ds new))
+declares_below n chain ds [] st g k h = h
+declares_below n chain ds (d ∷ new) st g k h = declares_below n chain ds new (act st (declares there)) g.1 k one_more
+  where
+    there : Declaration
+    there = placed ds d
+
+    goes : GoesOut chain there
+    goes = placed_goes chain d.how ds d g.0
+
+    one_more : MadeBelow n (act st (declares there))
+    one_more m a =
+        let w : Adds st.made there (act st (declares there)).made = adds st there in
+        elim (among_more m (record { declaration = there; symbol = w.symbol }) st.made (subst (Among m) w.adds a)) [
+          | inl b ↦ h m b
+          | inr q ↦ subst (λ (k : Made). k.declaration.route.target.number < n) q (target_below n there.route.passed there.route.target goes.rest (subst (Descends n) (sym goes.is) k))
+        ]
+
+module _ (c : ℕ) (x : Name) where
+  abbrev AllFree : List Event → Type 0
+  AllFree [] = Unit {0}
+  AllFree (e ∷ es) = IsFree c x e × AllFree es
+
+  free_left : (es fs : List Event) → AllFree (es ++ fs) → AllFree es
+  free_left [] fs h = tt
+  free_left (e ∷ es) fs h = (h.0, free_left es fs h.1)
+
+  free_right : (es fs : List Event) → AllFree (es ++ fs) → AllFree fs
+  free_right [] fs h = h
+  free_right (e ∷ es) fs h = free_right es fs h.1
+
+  all_free : (es : List Event) → ((d : Declaration) → Among d (declarations es) → d.naming.name ≡ x → takes_by d.how c d ≡ false) → AllFree es
+  all_free [] h = tt
+  all_free (declares d ∷ es) h = (h d (inl refl), all_free es (λ e a. h e (inr a)))
+  all_free (takes_over a b ∷ es) h = (tt, all_free es h)
+  all_free (ends_header a ∷ es) h = (tt, all_free es h)
+
+  declares_keep : (ds new : List Declaration) (st : State) → AllOther new → AllFree (declares_all ds new) → IsSound st → Keeps c x st → Keeps c x (run st (declares_all ds new))
+  declares_keep ds [] st o f b h = h
+  declares_keep ds (d ∷ new) st o f b h =
+      declares_keep ds new (act st (declares (placed ds d))) o.1 f.1 (act_grows st (declares (placed ds d)) b).sound (declared_keeps c x st (placed ds d) f.0 (placed_other ds d o.0) b h)
+
+  -- the scope is new, or has but own names
+  abbrev IsFresh : ℕ → State → Type 0
+  IsFresh k st = (y : Name) → found st k y ≡ None
+
+  fresh_make : (k : ℕ) (st : State) (d : Declaration) → is_own_name d ≡ true → IsSound st → IsFresh k st → IsFresh k (make st k d)
+  fresh_make k st d o b f y = elim (name_tells d.naming.name y) [
+    | inl q ↦ ap (λ e. unless_expression (flags_of (make st k d)) (or_else e (get st.remembered k y))) (ap (get (put st.bindings k d.naming.name (length st.symbols)) k) (sym q.1) ∙ get-put_same st.bindings k d.naming.name (length st.symbols))
+        ∙ ap (λ t. cond t None (Some (length st.symbols))) (ap (λ e. meets (flags_or_none e) expression) (get-last st.symbols (new_symbol k d.naming)) ∙ o)
+    | inr q ↦ ap (λ e. unless_expression (flags_of (make st k d)) (or_else e (get st.remembered k y))) (get-put_other st.bindings k d.naming.name (length st.symbols) k y (other q.0))
+        ∙ old (or_else (get st.bindings k y) (get st.remembered k y)) (either (get st.bindings k y) (get_below (length st.symbols) st.bindings k y b.bindings)) ∙ f y
+  ]
+    where
+      other : bytes_eq d.naming.name y ≡ false → same_key k d.naming.name k y ≡ false
+      other e = and_right (k == k) (bytes_eq d.naming.name y) e
+
+      either : (e : Option ℕ) → IsBelow (length st.symbols) e → IsBelow (length st.symbols) (or_else e (get st.remembered k y))
+      either None l = get_below (length st.symbols) st.remembered k y b.remembered
+      either (Some s) l = l
+
+      old : (e : Option ℕ) → IsBelow (length st.symbols) e → unless_expression (flags_of (make st k d)) e ≡ unless_expression (flags_of st) e
+      old None l = refl
+      old (Some s) l = ap (λ g. cond (meets (flags_or_none g) expression) None (Some s)) (get-push st.symbols (new_symbol k d.naming) s l)
+
+  not_own : (d : Declaration) → is_own_name d ≡ true → BindsIn c x d → ⊥
+  not_own d o i = let w : true ≡ false = sym o ∙ i.other in absurd cc
+
+  -- what an own name leaves
+  own_keeps : (k : ℕ) (st : State) (d : Declaration) → is_own_name d ≡ true → (k ≡ c → NoneBinds c x st) → IsSound st → Keeps c x st → Keeps c x (make st k d)
+  own_keeps k st d o e b h = record { bound_to = λ m a i. by m i (among_more m (record { declaration = d; symbol = length st.symbols }) st.made a); unremembered = h.unremembered }
+    where
+      by : (m : Made) → BindsIn c x m.declaration → Among m st.made ⊎ (record { declaration = d; symbol = length st.symbols } ≡ m) → IsBoundTo c x (make st k d) m
+      by m i (inr q) = absurd (not_own m.declaration (subst (λ (n : Made). is_own_name n.declaration ≡ true) q o) i)
+      by m i (inl a) = elim (eqb_tells k c) [
+        | inl q ↦ absurd (e q.1 m a i)
+        | inr q ↦ (let g : IsBoundTo c x st m = h.bound_to m a i in record {
+          bound = get-put_other st.bindings k d.naming.name (length st.symbols) c x (and_left (k == c) (bytes_eq d.naming.name x) q.0) ∙ g.bound;
+          other = ap (λ s. meets (flags_or_none s) expression) (get-push st.symbols (new_symbol k d.naming) m.symbol (subst (IsBelow (length st.symbols)) g.bound (get_below (length st.symbols) st.bindings c x b.bindings))) ∙ g.other;
+        })
+      ]
+
+  none_more : (k : ℕ) (st : State) (d : Declaration) → is_own_name d ≡ true → NoneBinds c x st → NoneBinds c x (make st k d)
+  none_more k st d o e m a i = elim (among_more m (record { declaration = d; symbol = length st.symbols }) st.made a) [
+    | inl b ↦ e m b i
+    | inr q ↦ not_own m.declaration (subst (λ (n : Made). is_own_name n.declaration ≡ true) q o) i
+  ]
+
+  owns_keep : (s : OpenScope) (ds new : List Declaration) (st : State) → EachDeclared (IsOwnPlain s) new → EachDeclared IsOwnName new → IsFresh s.number st → (s.number ≡ c → NoneBinds c x st) → IsSound st → Keeps c x st → Keeps c x (run st (declares_all ds new))
+  owns_keep s ds [] st p o f e b h = h
+  owns_keep s ds (d ∷ new) st p o f e b h =
+      subst (λ st2. Keeps c x (run st2 (declares_all ds new))) (sym is_made)
+      (owns_keep s ds new (make st s.number d) p.1 o.1 (fresh_make s.number st d o.0 b f) (λ q. none_more s.number st d o.0 (e q)) (subst IsSound is_made (act_grows st (declares (placed ds d)) b).sound) (own_keeps s.number st d o.0 e b h))
+    where
+      is_made : act st (declares (placed ds d)) ≡ make st s.number d
+      is_made =
+          ap (λ e. act st (declares e)) (placed_plain d.how ds d p.0.0)
+          ∙ ap (λ how. declare_by how st d) p.0.0
+          ∙ ap (λ t. declare_in st t d (found st t d.naming.name)) p.0.1
+          ∙ ap (declare_in st s.number d) (f d.naming.name)
+
+  -- a scope that opens has nothing
+  within_fresh : (n : ℕ) (st : State) → IsWithin n st → IsFresh n st
+  within_fresh n st w y = ap (unless_expression (flags_of st)) (ap (λ e. or_else e (get st.remembered n y)) (by (get st.bindings n y) refl) ∙ rest (get st.remembered n y) refl)
+    where
+      not_below : below n n ≡ true → ⊥
+      not_below e = let l : n < n = (Decides-ltb n n).0 e in absurd (omega (arith, l))
+
+      by : (e : Option ℕ) → get st.bindings n y ≡ e → e ≡ None
+      by None g = refl
+      by (Some s) g = absurd (not_below (w.bindings (record { scope = n; name = y; symbol = s }) (get_among st.bindings n y s g)))
+
+      rest : (e : Option ℕ) → get st.remembered n y ≡ e → or_else None e ≡ None
+      rest None g = refl
+      rest (Some s) g = absurd (not_below (w.remembered (record { scope = n; name = y; symbol = s }) (get_among st.remembered n y s g)))
+
+  none_below : (n : ℕ) (st : State) → n ≡ c → MadeBelow n st → NoneBinds c x st
+  none_below n st e h m a i = absurd (omega (arith, h m a, i.target, e))
+
+  -- what a body takes over is no other scope's
+  take_keeps : (table : List (Option ℕ)) (a n : ℕ) (st : State) → Ready table st.made a n → MadeBelow n st → Keeps c x st → Keeps c x (act st (takes_over a n))
+  take_keeps table a n st r l h = record { bound_to = λ m k i. kept m k i; unremembered = h.unremembered }
+    where
+      kept : (m : Made) → Among m st.made → BindsIn c x m.declaration → IsBoundTo c x (act st (takes_over a n)) m
+      kept m k i =
+          let g : IsBoundTo c x st m = h.bound_to m k i in
+          record {
+            bound = get-take_over_other st.bindings a n c x not_clause not_body ∙ g.bound;
+            other = ap (λ f. meets f expression) (flags_taken (bound_by st.bindings a) st.symbols m.symbol) ∙ g.other;
+          }
+        where
+          not_clause : c ≡ a → ⊥
+          not_clause e =
+              let q : slice_get table a ≡ Some None = ap (slice_get table) (sym e ∙ sym i.target) ∙ r.targets m k ∙ ap Some i.no_clause in
+              let w : Some (Some n) ≡ Some None = sym r.clause ∙ q in absurd cc
+
+          not_body : c ≡ n → ⊥
+          not_body e = absurd (omega (arith, l m k, i.target, e))
+
+          flags_taken : (bs : Bindings) (ys : List Symbol) (y : ℕ) → flags_or_none (slice_get (rescoped ys bs n) y) ≡ flags_or_none (slice_get ys y)
+          flags_taken [] ys y = refl
+          flags_taken (e ∷ bs) ys y = flags_taken bs (update (in_scope n) ys e.1) y ∙ same_flags (in_scope n) ys e.1 y (λ z. refl)
+
+  body_kind : (p : Place) → is_catch_body p ≡ true → p.node.kind ≡ kind.BlockStatement
+  body_kind p h =
+      let b : is kind.BlockStatement p.node ≡ true = and_first (is kind.BlockStatement p.node) (same_role p.role role.Body) (and_first (is kind.BlockStatement p.node && same_role p.role role.Body) (parent_holds (is kind.CatchClause) p.path) h) in
+      kind_is p.node.kind kind.BlockStatement b
+
+  opened_keep : (k : AstType) (p : Place) (s : OpenScope) (ds : List Declaration) (st : State) → EachDeclared (IsOwnPlain s) (declared_inside k p s) → AllFree (declares_all ds (declared_inside k p s)) → IsFresh s.number st → (s.number ≡ c → NoneBinds c x st) → IsSound st → Keeps c x st
+      → Keeps c x (run st (declares_all ds (declared_inside k p s)))
+  opened_keep kind.Function p s ds st e f g n b h = owns_keep s ds (declared_inside kind.Function p s) st e (own_named p s) g n b h
+  opened_keep kind.Class p s ds st e f g n b h = declares_keep ds (declared_inside kind.Class p s) st (class_other p s) f b h
+  opened_keep kind.TSMappedType p s ds st e f g n b h = declares_keep ds (declared_inside kind.TSMappedType p s) st (key_other p s) f b h
+  opened_keep _ p s ds st e f g n b h = h
+
+  opening_keeps : (table : List (Option ℕ)) (ds : List Declaration) (n : ℕ) (p : Place) (s : OpenScope) (st : State) → s.number ≡ n → AllFree (events_of ds (opening p s)) → Orderly table st (events_of ds (opening p s)) → IsWithin n st → MadeBelow n st → IsSound st → Keeps c x st → Keeps c x (run st (events_of ds (opening p s)))
+  opening_keeps table ds n p s st q f o w l b h = by (is_catch_body p) refl f o
+    where
+      new : List Event
+      new = declares_all ds (declared_on_opening p s)
+
+      by : (t : Bool) → is_catch_body p ≡ t → AllFree (cond t (takes_over (innermost p.chain).number s.number ∷ []) [] ++ new) → Orderly table st (cond t (takes_over (innermost p.chain).number s.number ∷ []) [] ++ new) → Keeps c x (run st (cond t (takes_over (innermost p.chain).number s.number ∷ []) [] ++ new))
+      by true e g r = subst (λ k. Keeps c x (run (act st (takes_over (innermost p.chain).number s.number)) (declares_all ds (declared_inside k p s)))) (sym (body_kind p e)) (take_keeps table (innermost p.chain).number s.number st r.0 (λ m a. subst (λ k. m.declaration.route.target.number < k) (sym q) (l m a)) h)
+      by false e g r = opened_keep p.node.kind p s ds st (opened_plain p s) g (subst (λ k. IsFresh k st) (sym q) (within_fresh n st w)) (λ i. none_below n st (sym q ∙ i) l) b h
+
+  entering_keeps : (ds : List Declaration) (p : Place) (st : State) → AllFree (declares_all ds (declared_on_entering p)) → IsSound st → Keeps c x st → Keeps c x (run st (declares_all ds (declared_on_entering p)))
+  entering_keeps ds p st f b h = declares_keep ds (declared_on_entering p) st (entering_other p.node.kind p) f b h
+
+  step_keeps : (table : List (Option ℕ)) (ds : List Declaration) (stack : List ℕ) (seen : List (List ℕ)) (step : Step) (st : State) → IsNestedStep stack seen step → AllFree (events_of ds step) → Orderly table st (events_of ds step) → IsWithin (length seen) st → MadeBelow (length seen) st → IsSound st → Keeps c x st → Keeps c x (run st (events_of ds step))
+  step_keeps table ds stack seen (entering p) st k f o w l b h = entering_keeps ds p st f b h
+  step_keeps table ds stack seen (opening p s) st k f o w l b h = opening_keeps table ds (length seen) p s st (ap (λ (t : OpenScope). t.number) k.1) f o w l b h
+  step_keeps table ds stack seen (header_ending p s) st k f o w l b h = record { bound_to = h.bound_to; unremembered = h.unremembered }
+  step_keeps table ds stack seen (closing p s) st k f o w l b h = h
+  step_keeps table ds stack seen (leaving p) st k f o w l b h = h
+
+  taken_below : (n : ℕ) (p : Place) (s : OpenScope) (st : State) → MadeBelow n st → MadeBelow n (run st (taken_over p s))
+  taken_below n p s st h = by (is_catch_body p)
+    where
+      by : (t : Bool) → MadeBelow n (run st (cond t (takes_over (innermost p.chain).number s.number ∷ []) []))
+      by true = h
+      by false = h
+
+  step_below : (ds : List Declaration) (stack : List ℕ) (seen : List (List ℕ)) (step : Step) (ss : List Step) (st : State) → IsNestedStep stack seen step → AllGrounded (step ∷ ss) → MadeBelow (length seen) st → MadeBelow (length (seen_past seen step)) (run st (events_of ds step))
+  step_below ds stack seen (entering p) ss st k g h = by g.0
+    where
+      by : IsGrounded p → MadeBelow (length seen) (run st (declares_all ds (declared_on_entering p)))
+      by (inl v) = declares_below (length seen) p.chain ds (declared_on_entering p) st (entering_goes p.node.kind p v) (solid (length seen) p.chain v k.descends) h
+      by (inr e) = subst (λ new. MadeBelow (length seen) (run st (declares_all ds new))) (sym (root_declares_none p e)) h
+  step_below ds stack seen (opening p s) ss st k g h =
+      let number : s.number ≡ length seen = ap (λ (t : OpenScope). t.number) k.1 in
+      let n : ℕ = length (seen_past seen (opening p s)) in
+      let longer : n ≡ suc (length seen) = omega (arith, length-append seen (numbers p.chain ∷ [])) in
+      let down : Descends n (s ∷ p.chain) = (omega (arith, number, longer), subst (λ m. Descends m p.chain) (sym number) k.0.descends) in
+      subst (λ st2. MadeBelow n st2) (sym (run-append (taken_over p s) (declares_all ds (declared_on_opening p s)) st))
+      (declares_below n (s ∷ p.chain) ds (declared_on_opening p s) (run st (taken_over p s)) (opening_goes p.node.kind p s) down (taken_below n p s st (below_more (length seen) n st (omega (arith, longer)) h)))
+  step_below ds stack seen (header_ending p s) ss st k g h = h
+  step_below ds stack seen (closing p s) ss st k g h = h
+  step_below ds stack seen (leaving p) ss st k g h = h
+
+  steps_keep : (table : List (Option ℕ)) (ds : List Declaration) (stack : List ℕ) (seen : List (List ℕ)) (ss : List Step) (st : State) → AreNested stack seen ss → AllGrounded ss → AllFree (flat_map (events_of ds) ss) → Orderly table st (flat_map (events_of ds) ss) → IsWithin (length seen) st → MadeBelow (length seen) st → IsSound st → Keeps c x st
+      → Keeps c x (run st (flat_map (events_of ds) ss))
+  steps_keep table ds stack seen [] st k g f o w l b h = h
+  steps_keep table ds stack seen (step ∷ ss) st k g f o w l b h =
+      let es : List Event = events_of ds step in
+      let rest : List Event = flat_map (events_of ds) ss in
+      subst (Keeps c x) (sym (run-append es rest st))
+      (steps_keep table ds (open_past stack step) (seen_past seen step) ss (run st es) k.1 g.1 (free_right es rest f) (orderly_right table st es rest o) (within_step ds st stack seen step k.0 g.0 w) (step_below ds stack seen step ss st k.0 g l) (run_grows st es b).sound
+      (step_keeps table ds stack seen step st k.0 (free_left es rest f) (orderly_left table st es rest o) w l b h))
+
+pub one_symbol_each : (p : Tree) → first_fault p ≡ None → OneSymbolEach p
+one_symbol_each p h c x none m n a b i j =
+    let kept : Keeps c x (run start (events (steps p))) =
+    steps_keep c x (table_of p) (written_declarations (steps p)) [] [] (steps p) start (program_nested p) (all_grounded p h) (all_free c x (events (steps p)) none) (orderly_events p (has_form p h)) (record { bindings = λ e q. absurd q; remembered = λ e q. absurd q }) (λ e q. absurd q) start_is_sound (record { bound_to = λ e q. absurd q; unremembered = refl }) in
+    let e : Some m.symbol ≡ Some n.symbol = sym (kept.bound_to m a i).bound ∙ (kept.bound_to n b j).bound in
+    let w : m.symbol ≡ n.symbol = cc in
+    w

@@ -1,0 +1,371 @@
+-- A scope keeps the symbol of its name through what doesn't take the name from it.
+use Rattle.std.proofs.Common.{◌≡◌, ℕ, ◌<◌, List, [], ◌∷◌, ◌++◌, Option, Some, None, Bool, true, false, cond, ◌==◌, ◌&&◌, ◌||◌, ◌⊎◌, inl, inr, refl, sym, ap, subst, ◌∙◌, length, map, bytes_eq, arith}
+use Rattle.std.proofs.lemmas.Bool.{ne_eqb, and_left, and_right, or_parts}
+use Rattle.std.proofs.lemmas.Bool.Decides.{eqb_tells}
+use Rattle.semantic_syntax.specs.declared.symbol_flags.TheConstants.SymbolFlags as symbol
+use Rattle.semantic_syntax.specs.Members.{contains}
+use Rattle.semantic_syntax.specs.Sets.{meets, union}
+use Rattle.semantic_syntax.specs.Tables.{Name}
+use Rattle.semantic_model.specs.Binding.{Binding, get, put, remove, move}
+use Rattle.semantic_model.specs.Declaration.{How, plain, hoisted, moved, caught, Declaration, stands_in}
+use Rattle.semantic_model.specs.Entries.{Among}
+use Rattle.semantic_model.specs.Event.{Event, declares, takes_over, ends_header}
+use Rattle.semantic_model.specs.Fold.{State, Made, make, found, or_else, unless_expression, update, redeclared, united, note_symbol, against, declare_in, chosen, flags_of, flags_or_none, new_symbol}
+use Rattle.semantic_model.specs.Hoist.{PassedSymbol, passed_symbol, passed_symbol_or, counts, asked_symbols, against_all, remember, remembering, move_symbol, hoist_by, move_out, declare_by, act}
+use Rattle.semantic_model.specs.Place.{OpenScope}
+use Rattle.semantic_model.proofs.fold.Orders.{Adds, adds}
+use Rattle.semantic_model.proofs.lists.BindingLaws.{same_key, same_key_tells, get-put_same, get-put_other, get-remove_other}
+use Rattle.semantic_model.proofs.lists.Bounds.{IsSound, get_below}
+use Rattle.semantic_model.proofs.lists.Members.{among_more}
+use Rattle.semantic_model.proofs.lists.SymbolLaws.{get-last}
+use Rattle.semantic_model.proofs.once.ListedUnder.{name_tells}
+use Rattle.semantic_model.proofs.once.UseLists.{IsBelow}
+use Rattle.binding_laws.specs.SeenDeclarations.{is_own_name}
+use Rattle.binding_laws.specs.OneSymbol.{takes_by, Stays, BindsIn}
+use Rattle.binding_laws.proofs.Growing.{Grown, meets_neither, more_flags, grown_act}
+
+abbrev pub expression : ℕ
+expression = symbol.FunctionExpression.bits
+
+module _ (c : ℕ) (x : Name) where
+  -- the scope binds the name to the symbol of the declaration, which is no own name's
+  pub record IsBoundTo (st : State) (m : Made) : Type 0 where
+    pub bound : get st.bindings c x ≡ Some m.symbol
+    pub other : meets (flags_of st m.symbol) expression ≡ false
+
+  pub record Keeps (st : State) : Type 0 where
+    pub bound_to : (m : Made) → Among m st.made → BindsIn c x m.declaration → IsBoundTo st m
+    pub unremembered : get st.remembered c x ≡ None
+
+  -- another scope or name
+  abbrev Off : ℕ → Name → Type 0
+  Off k y = same_key k y c x ≡ false
+
+  off_scope : (k : ℕ) (y : Name) → (k ≡ c → ⊥) → Off k y
+  off_scope k y n = and_left (k == c) (bytes_eq y x) (ne_eqb k c n)
+
+  off_name : (k : ℕ) (y : Name) → bytes_eq y x ≡ false → Off k y
+  off_name k y e = and_right (k == c) (bytes_eq y x) e
+
+  abbrev AllOff : Name → List OpenScope → Type 0
+  AllOff y [] = Unit {0}
+  AllOff y (s ∷ ss) = Off s.number y × AllOff y ss
+
+  record Unchanged (st new : State) : Type 0 where
+    bindings : get new.bindings c x ≡ get st.bindings c x
+    remembered : get new.remembered c x ≡ get st.remembered c x
+
+  then_unchanged : (a b d : State) → Unchanged a b → Unchanged b d → Unchanged a d
+  then_unchanged a b d h k = record { bindings = k.bindings ∙ h.bindings; remembered = k.remembered ∙ h.remembered }
+
+  declare_off : (st : State) (t : ℕ) (d : Declaration) (o : Option ℕ) → Off t d.naming.name → Unchanged st (declare_in st t d o)
+  declare_off st t d None h = record { bindings = get-put_other st.bindings t d.naming.name (length st.symbols) c x h; remembered = refl }
+  declare_off st t d (Some s) h = record { bindings = refl; remembered = refl }
+
+  remember_off : (bs : List Binding) (cs : List OpenScope) (y : Name) (s : ℕ) → AllOff y cs → get (remember bs cs y s) c x ≡ get bs c x
+  remember_off bs [] y s h = refl
+  remember_off bs (k ∷ cs) y s h = remember_off (put bs k.number y s) cs y s h.1 ∙ get-put_other bs k.number y s c x h.0
+
+  remembering_off : (st : State) (cs : List OpenScope) (y : Name) (s : ℕ) → AllOff y cs → Unchanged st (remembering st cs y s)
+  remembering_off st cs y s h = record { bindings = refl; remembered = remember_off st.remembered cs y s h }
+
+  put_off : (bs : List Binding) (a t : ℕ) (y : Name) (s : ℕ) → Off a y → Off t y → get (put (remove bs a y) t y s) c x ≡ get bs c x
+  put_off bs a t y s h k = get-put_other (remove bs a y) t y s c x k ∙ get-remove_other bs a y c x h
+
+  move_off : (bs : List Binding) (a t : ℕ) (y : Name) → Off a y → Off t y → get (move bs a t y) c x ≡ get bs c x
+  move_off bs a t y h k = by (get bs a y)
+    where
+      by : (o : Option ℕ) → get (elim o [ None ↦ bs | Some s ↦ put (remove bs a y) t y s ]) c x ≡ get bs c x
+      by None = refl
+      by (Some s) = put_off bs a t y s h k
+
+  -- no declaration that binds it is there yet
+  abbrev pub NoneBinds : State → Type 0
+  NoneBinds st = (m : Made) → Among m st.made → BindsIn c x m.declaration → ⊥
+
+  none_bound : (st : State) → Keeps st → get st.bindings c x ≡ None → NoneBinds st
+  none_bound st h e m a b = let q : None ≡ Some m.symbol = sym e ∙ (h.bound_to m a b).bound in absurd cc
+
+  bound_within : (st : State) (m : Made) → IsSound st → IsBoundTo st m → m.symbol < length st.symbols
+  bound_within st m b h = subst (IsBelow (length st.symbols)) h.bound (get_below (length st.symbols) st.bindings c x b.bindings)
+
+  bound_grown : (flags : ℕ) (st new : State) (m : Made) → Grown flags st new → meets flags expression ≡ false → get new.bindings c x ≡ get st.bindings c x → IsSound st → IsBoundTo st m → IsBoundTo new m
+  bound_grown flags st new m g n e b h = record {
+    bound = e ∙ h.bound;
+    other = elim (g.each m.symbol (bound_within st m b h)) [
+      | inl q ↦ ap (λ f. meets f expression) q ∙ h.other
+      | inr q ↦ ap (λ f. meets f expression) q ∙ meets_neither (flags_of st m.symbol) flags expression h.other n
+    ];
+  }
+
+  -- one more declaration that doesn't bind it
+  binds_more : (st new : State) (d : Declaration) (P : Made → Type 0) → Adds st.made d new.made → (BindsIn c x d → ⊥) → ((m : Made) → Among m st.made → BindsIn c x m.declaration → P m) → (m : Made) → Among m new.made → BindsIn c x m.declaration → P m
+  binds_more st new d P w n h m a i = elim (among_more m (record { declaration = d; symbol = w.symbol }) st.made (subst (Among m) w.adds a)) [
+    | inl k ↦ h m k i
+    | inr q ↦ absurd (n (subst (λ (k : Made). BindsIn c x k.declaration) (sym q) i))
+  ]
+
+  unchanged_keeps : (st new : State) (d : Declaration) → Unchanged st new → Grown d.naming.flags st new → is_own_name d ≡ false → Adds st.made d new.made → (BindsIn c x d → ⊥) → IsSound st → Keeps st → Keeps new
+  unchanged_keeps st new d u g n w f b h = record {
+    bound_to = binds_more st new d (IsBoundTo new) w f (λ m a i. bound_grown d.naming.flags st new m g n u.bindings b (h.bound_to m a i));
+    unremembered = u.remembered ∙ h.unremembered;
+  }
+
+  -- nothing binds it, and what comes doesn't either
+  empty_keeps : (st new : State) (d : Declaration) → Adds st.made d new.made → (BindsIn c x d → ⊥) → NoneBinds st → get new.remembered c x ≡ None → Keeps new
+  empty_keeps st new d w f e r = record { bound_to = λ m a i. absurd (binds_more st new d (λ k. ⊥) w f e m a i); unremembered = r }
+
+  -- declared in the scope itself
+  here_keeps : (st : State) (d : Declaration) (t : ℕ) → t ≡ c → d.naming.name ≡ x → is_own_name d ≡ false → IsSound st → Keeps st → Keeps (declare_in st t d (found st t d.naming.name))
+  here_keeps st d t et ey n b h = subst (λ k. Keeps (declare_in st k d (found st k d.naming.name))) (sym et) (subst (λ o. Keeps (declare_in st c d o)) (sym is_found) (by (get st.bindings c x) refl))
+    where
+      or_none : (o : Option ℕ) → or_else o None ≡ o
+      or_none None = refl
+      or_none (Some s) = refl
+
+      is_found : found st c d.naming.name ≡ unless_expression (flags_of st) (get st.bindings c x)
+      is_found =
+          ap (λ y. unless_expression (flags_of st) (or_else (get st.bindings c y) (get st.remembered c y))) ey
+          ∙ ap (λ o. unless_expression (flags_of st) (or_else (get st.bindings c x) o)) h.unremembered
+          ∙ ap (unless_expression (flags_of st)) (or_none (get st.bindings c x))
+
+      anew : NoneBinds st → Keeps (declare_in st c d None)
+      anew e = record {
+        bound_to = λ m a i. elim (among_more m (record { declaration = d; symbol = length st.symbols }) st.made a) [
+          | inl k ↦ absurd (e m k i)
+          | inr q ↦ subst (IsBoundTo (make st c d)) q (record {
+            bound = ap (λ y. get (put st.bindings c d.naming.name (length st.symbols)) c y) (sym ey) ∙ get-put_same st.bindings c d.naming.name (length st.symbols);
+            other = ap (λ o. meets (flags_or_none o) expression) (get-last st.symbols (new_symbol c d.naming)) ∙ n;
+          })
+        ];
+        unremembered = h.unremembered;
+      }
+
+      joined : (s : ℕ) → get st.bindings c x ≡ Some s → meets (flags_of st s) expression ≡ false → Keeps (declare_in st c d (Some s))
+      joined s g o = record {
+        bound_to = λ m a i. elim (among_more m (record { declaration = d; symbol = s }) st.made a) [
+          | inl k ↦ again m (h.bound_to m k i).bound
+          | inr q ↦ again m (g ∙ ap (λ (k : Made). Some k.symbol) q)
+        ];
+        unremembered = h.unremembered;
+      }
+        where
+          within : s < length st.symbols
+          within = subst (IsBelow (length st.symbols)) g (get_below (length st.symbols) st.bindings c x b.bindings)
+
+          again : (m : Made) → get st.bindings c x ≡ Some m.symbol → IsBoundTo (declare_in st c d (Some s)) m
+          again m k =
+              let e : Some s ≡ Some m.symbol = sym g ∙ k in
+              let i : s ≡ m.symbol = cc in
+              record {
+                bound = k;
+                other = subst (λ r. meets (flags_of (declare_in st c d (Some s)) r) expression ≡ false) i
+                    (ap (λ f. meets f expression) (more_flags (λ y. united d.naming.flags (redeclared d.naming y)) d.naming.flags st.symbols s (λ y. refl) within) ∙ meets_neither (flags_of st s) d.naming.flags expression o n);
+              }
+
+      either : (s : ℕ) (t : Bool) → get st.bindings c x ≡ Some s → meets (flags_of st s) expression ≡ t → Keeps (declare_in st c d (cond t None (Some s)))
+      either s true g q = anew (λ m a i.
+          let k : IsBoundTo st m = h.bound_to m a i in
+          let e : Some s ≡ Some m.symbol = sym g ∙ k.bound in
+          let j : s ≡ m.symbol = cc in
+          let w : true ≡ false = sym q ∙ ap (λ r. meets (flags_of st r) expression) j ∙ k.other in absurd cc)
+      either s false g q = joined s g q
+
+      by : (o : Option ℕ) → get st.bindings c x ≡ o → Keeps (declare_in st c d (unless_expression (flags_of st) o))
+      by None g = anew (none_bound st h g)
+      by (Some s) g = either s (meets (flags_of st s) expression) g refl
+
+  -- at its target, or off
+  at_target : (st : State) (d : Declaration) → (Unchanged st (declare_in st d.route.target.number d (found st d.route.target.number d.naming.name)) × (BindsIn c x d → ⊥)) ⊎ ((d.route.target.number ≡ c) × (d.naming.name ≡ x))
+  at_target st d = elim (same_key_tells d.route.target.number c d.naming.name x) [
+    | inl q ↦ inr (q.1, q.2)
+    | inr q ↦ inl (declare_off st d.route.target.number d (found st d.route.target.number d.naming.name) q.0, λ i. q.1 (i.target, i.named))
+  ]
+
+  -- what is passed lies off
+  passed_off : (y : Name) (cs : List OpenScope) → (y ≡ x → contains (map (λ s. s.number) cs) c ≡ false) → AllOff y cs
+  passed_off y [] h = tt
+  passed_off y (s ∷ ss) h = elim (name_tells y x) [
+    | inl q ↦ (let k : ((s.number == c) ≡ false) × (contains (map (λ t. t.number) ss) c ≡ false) = or_parts (s.number == c) (contains (map (λ t. t.number) ss) c) (h q.1) in (and_left (s.number == c) (bytes_eq y x) k.0, passed_off y ss (λ e. k.1)))
+    | inr q ↦ (off_name s.number y q.0, passed_off y ss (λ e. absurd (q.1 e)))
+  ]
+
+  -- the scope of the symbol that is passed is one of those
+  passed_in : (st : State) (y : Name) (cs : List OpenScope) (r : PassedSymbol) → AllOff y cs → passed_symbol st cs y ≡ Some r → Off r.scope y
+  passed_in st y [] r a e = absurd cc
+  passed_in st y (s ∷ ss) r a e = by (passed_in st y ss r a.1) (counts st (found st s.number y)) (found st s.number y) e
+    where
+      by : (passed_symbol st ss y ≡ Some r → Off r.scope y) → (t : Bool) (o : Option ℕ) → cond t (passed_symbol_or s.number o) (passed_symbol st ss y) ≡ Some r → Off r.scope y
+      by rest true None q = absurd cc
+      by rest true (Some z) q = let i : s.number ≡ r.scope = ap scope_or q in subst (λ k. Off k y) i a.0
+        where
+          scope_or : Option PassedSymbol → ℕ
+          scope_or None = s.number
+          scope_or (Some g) = g.scope
+      by rest false o q = rest q
+
+  against_off : (st : State) (d : Declaration) (ss : List ℕ) → Unchanged st (against_all st d ss)
+  against_off st d [] = record { bindings = refl; remembered = refl }
+  against_off st d (s ∷ ss) = then_unchanged st (against st d s) (against_all st d (s ∷ ss)) (record { bindings = refl; remembered = refl }) (against_off (against st d s) d ss)
+
+  against_keeps : (st : State) (d : Declaration) (ss : List ℕ) → IsSound st → Keeps st → IsSound (against_all st d ss) × Keeps (against_all st d ss)
+  against_keeps st d [] b h = (b, h)
+  against_keeps st d (s ∷ ss) b h = against_keeps (against st d s) d ss (record { bindings = b.bindings; remembered = b.remembered }) (record { bound_to = λ m a i. let k : IsBoundTo st m = h.bound_to m a i in record { bound = k.bound; other = k.other }; unremembered = h.unremembered })
+
+  remembering_keeps : (st : State) (cs : List OpenScope) (y : Name) (s : ℕ) → AllOff y cs → Keeps st → Keeps (remembering st cs y s)
+  remembering_keeps st cs y s h k = record {
+    bound_to = λ m a i. let g : IsBoundTo st m = k.bound_to m a i in record { bound = g.bound; other = g.other };
+    unremembered = remember_off st.remembered cs y s h ∙ k.unremembered;
+  }
+
+  -- what a declaration does to the name in the scope: nothing; something, but nothing binds it so far; or it binds it there
+  data Outcome (st : State) (d : Declaration) (new : State) : Type 0 where
+    same : Unchanged st new → (BindsIn c x d → ⊥) → Outcome st d new
+    empty : NoneBinds st → get new.remembered c x ≡ None → (BindsIn c x d → ⊥) → Outcome st d new
+    direct : Keeps new → Outcome st d new
+
+  -- where the target lacks the name
+  lacks : (st : State) (t : ℕ) (y : Name) → t ≡ c → y ≡ x → get st.bindings t y ≡ None → get st.bindings c x ≡ None
+  lacks st t y et ey e = ap (λ k. get st.bindings k x) (sym et) ∙ ap (λ z. get st.bindings t z) (sym ey) ∙ e
+
+  passes : (d : Declaration) (r : PassedSymbol) (st : State) (passed : List OpenScope) → d.how ≡ hoisted → d.route.passed ≡ passed → passed_symbol st passed d.naming.name ≡ Some r → BindsIn c x d → ⊥
+  passes d r st [] e p q i = absurd cc
+  passes d r st (s ∷ ss) e p q i = by i.stays
+    where
+      by : Stays d → ⊥
+      by (inl k) = let w : plain ≡ hoisted = sym k ∙ e in absurd cc
+      by (inr k) = let w : [] ≡ s ∷ ss = sym k.1 ∙ p in absurd cc
+
+  hoist_outcome : (st noted : State) (d : Declaration) (o : Option PassedSymbol) → d.how ≡ hoisted → passed_symbol noted d.route.passed d.naming.name ≡ o → AllOff d.naming.name d.route.passed → is_own_name d ≡ false → Unchanged st noted → IsSound noted → Keeps noted → Keeps st → Outcome st d (hoist_by noted d o)
+  hoist_outcome st noted d None e q a n u b h hs =
+      let t : ℕ = d.route.target.number in
+      let next : State = declare_in noted t d (found noted t d.naming.name) in
+      let z : ℕ = chosen noted (found noted t d.naming.name) in
+      elim (at_target noted d) [
+        | inl k ↦ same (then_unchanged st noted (hoist_by noted d None) u (then_unchanged noted next (hoist_by noted d None) k.0 (remembering_off next d.route.passed d.naming.name z a))) k.1
+        | inr k ↦ direct (remembering_keeps next d.route.passed d.naming.name z a (here_keeps noted d t k.0 k.1 n b h))
+      ]
+  hoist_outcome st noted d (Some r) e q a n u b h hs = elim (same_key_tells t c d.naming.name x) [
+    | inr k ↦ unmoved (away k.0 (get noted.bindings t d.naming.name))
+    | inl k ↦ by (get noted.bindings t d.naming.name) refl k.1 k.2
+  ]
+    where
+      t : ℕ
+      t = d.route.target.number
+
+      new : State
+      new = hoist_by noted d (Some r)
+
+      got : State
+      got = note_symbol (record noted { symbols = update (redeclared d.naming) noted.symbols r.symbol }) d r.symbol
+
+      went : Option ℕ → State
+      went o = move_symbol got r.scope t d.naming.name r.symbol o
+
+      nowhere : BindsIn c x d → ⊥
+      nowhere = passes d r noted d.route.passed e refl q
+
+      remembers : (o : Option ℕ) → (went o).remembered ≡ noted.remembered
+      remembers None = refl
+      remembers (Some z) = refl
+
+      recalled : get new.remembered c x ≡ get noted.remembered c x
+      recalled = remember_off (went (get noted.bindings t d.naming.name)).remembered d.route.passed d.naming.name r.symbol a ∙ ap (λ bs. get bs c x) (remembers (get noted.bindings t d.naming.name))
+
+      unmoved : get (went (get noted.bindings t d.naming.name)).bindings c x ≡ get noted.bindings c x → Outcome st d new
+      unmoved k = same (then_unchanged st noted new u (record { bindings = k; remembered = recalled })) nowhere
+
+      away : same_key t d.naming.name c x ≡ false → (o : Option ℕ) → get (went o).bindings c x ≡ get noted.bindings c x
+      away k None = put_off noted.bindings r.scope t d.naming.name r.symbol (passed_in noted d.naming.name d.route.passed r a q) k
+      away k (Some z) = refl
+
+      by : (o : Option ℕ) → get noted.bindings t d.naming.name ≡ o → t ≡ c → d.naming.name ≡ x → Outcome st d new
+      by (Some z) g i j = unmoved (ap (λ o. get (went o).bindings c x) g)
+      by None g i j = empty (none_bound st hs (sym u.bindings ∙ lacks noted t d.naming.name i j g)) (recalled ∙ h.unremembered) nowhere
+
+  -- a declaration that doesn't take the name from the scope
+  abbrev pub IsFree : Event → Type 0
+  IsFree (declares d) = d.naming.name ≡ x → takes_by d.how c d ≡ false
+  IsFree (takes_over a b) = Unit {0}
+  IsFree (ends_header b) = Unit {0}
+
+  off_unless : (k : ℕ) (y : Name) → (y ≡ x → (k == c) ≡ false) → Off k y
+  off_unless k y f = elim (name_tells y x) [ inl q ↦ and_left (k == c) (bytes_eq y x) (f q.1) | inr q ↦ off_name k y q.0 ]
+
+  not_staying : (d : Declaration) → (d.how ≡ plain → ⊥) → (d.how ≡ hoisted → ⊥) → BindsIn c x d → ⊥
+  not_staying d f g i = by i.stays
+    where
+      by : Stays d → ⊥
+      by (inl k) = f k
+      by (inr k) = g k.0
+
+  moved_outcome : (st : State) (d : Declaration) → d.how ≡ moved → same_key (stands_in d) d.naming.name c x ≡ false → Keeps st → Outcome st d (declare_by moved st d)
+  moved_outcome st d e k h = elim (same_key_tells t c d.naming.name x) [
+    | inr q ↦ unmoved (away q.0 (get st.bindings t d.naming.name))
+    | inl q ↦ by (get st.bindings t d.naming.name) refl q.1 q.2
+  ]
+    where
+      t : ℕ
+      t = d.route.target.number
+
+      next : State
+      next = declare_in st (stands_in d) d (found st (stands_in d) d.naming.name)
+
+      z : ℕ
+      z = chosen st (found st (stands_in d) d.naming.name)
+
+      out : Option ℕ → State
+      out o = move_out next (stands_in d) t d.naming.name z o
+
+      new : State
+      new = declare_by moved st d
+
+      first : Unchanged st next
+      first = declare_off st (stands_in d) d (found st (stands_in d) d.naming.name) k
+
+      nowhere : BindsIn c x d → ⊥
+      nowhere = not_staying d (λ i. let w : plain ≡ moved = sym i ∙ e in absurd cc) (λ i. let w : hoisted ≡ moved = sym i ∙ e in absurd cc)
+
+      remembers : (o : Option ℕ) → get (out o).remembered c x ≡ get next.remembered c x
+      remembers None = get-put_other next.remembered (stands_in d) d.naming.name z c x k
+      remembers (Some r) = refl
+
+      unmoved : get (out (get st.bindings t d.naming.name)).bindings c x ≡ get next.bindings c x → Outcome st d new
+      unmoved q = same (then_unchanged st next new first (record { bindings = q; remembered = remembers (get st.bindings t d.naming.name) })) nowhere
+
+      away : same_key t d.naming.name c x ≡ false → (o : Option ℕ) → get (out o).bindings c x ≡ get next.bindings c x
+      away q None = move_off next.bindings (stands_in d) t d.naming.name k q
+      away q (Some r) = refl
+
+      by : (o : Option ℕ) → get st.bindings t d.naming.name ≡ o → t ≡ c → d.naming.name ≡ x → Outcome st d new
+      by (Some r) g i j = unmoved (ap (λ o. get (out o).bindings c x) g)
+      by None g i j = empty (none_bound st h (lacks st t d.naming.name i j g)) (remembers (get st.bindings t d.naming.name) ∙ first.remembered ∙ h.unremembered) nowhere
+
+  -- conflicts that are noted change nothing that is found
+  same_passed : (st : State) (d : Declaration) (ss : List ℕ) (cs : List OpenScope) → passed_symbol (against_all st d ss) cs d.naming.name ≡ passed_symbol st cs d.naming.name
+  same_passed st d [] cs = refl
+  same_passed st d (s ∷ ss) cs = same_passed (against st d s) d ss cs ∙ noted cs
+    where
+      noted : (cs : List OpenScope) → passed_symbol (against st d s) cs d.naming.name ≡ passed_symbol st cs d.naming.name
+      noted [] = refl
+      noted (k ∷ ks) = ap (λ o. cond (counts st (found st k.number d.naming.name)) (passed_symbol_or k.number (found st k.number d.naming.name)) o) (noted ks)
+
+  outcome : (how : How) (st : State) (d : Declaration) → d.how ≡ how → (d.naming.name ≡ x → takes_by how c d ≡ false) → is_own_name d ≡ false → IsSound st → Keeps st → Outcome st d (declare_by how st d)
+  outcome plain st d e f n b h = elim (at_target st d) [ inl k ↦ same k.0 k.1 | inr k ↦ direct (here_keeps st d d.route.target.number k.0 k.1 n b h) ]
+  outcome caught st d e f n b h =
+      same (declare_off st d.route.target.number d None (off_unless d.route.target.number d.naming.name f))
+      (not_staying d (λ i. let w : plain ≡ caught = sym i ∙ e in absurd cc) (λ i. let w : hoisted ≡ caught = sym i ∙ e in absurd cc))
+  outcome moved st d e f n b h = moved_outcome st d e (off_unless (stands_in d) d.naming.name f) h
+  outcome hoisted st d e f n b h =
+      let ss : List ℕ = asked_symbols st d.route.passed d.naming.name in
+      let k : IsSound (against_all st d ss) × Keeps (against_all st d ss) = against_keeps st d ss b h in
+      hoist_outcome st (against_all st d ss) d (passed_symbol st d.route.passed d.naming.name) e (same_passed st d ss d.route.passed) (passed_off d.naming.name d.route.passed f) n (against_off st d ss) k.0 k.1 h
+
+  -- so the scope keeps it
+  pub declared_keeps : (st : State) (d : Declaration) → IsFree (declares d) → is_own_name d ≡ false → IsSound st → Keeps st → Keeps (act st (declares d))
+  declared_keeps st d f n b h = by (outcome d.how st d refl f n b h)
+    where
+      by : Outcome st d (act st (declares d)) → Keeps (act st (declares d))
+      by (same u i) = unchanged_keeps st (act st (declares d)) d u (grown_act st d) n (adds st d) i b h
+      by (empty e r i) = empty_keeps st (act st (declares d)) d (adds st d) i e r
+      by (direct k) = k

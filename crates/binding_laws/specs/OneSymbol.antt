@@ -1,0 +1,38 @@
+-- Which declarations of one name in one scope have one symbol.
+use Rattle.std.specs.Prelude.{◌≡◌, ℕ, ◌==◌, List, [], Bool, false, Option, None, ◌⊎◌, map}
+use Rattle.semantic_syntax.specs.Members.{contains}
+use Rattle.semantic_syntax.specs.Tables.{Name}
+use Rattle.semantic_tree.specs.Tree.{Tree}
+use Rattle.semantic_model.specs.Declaration.{Declaration, How, plain, hoisted, moved, caught, stands_in}
+use Rattle.semantic_model.specs.Entries.{Among}
+use Rattle.semantic_model.specs.Event.{events, declarations}
+use Rattle.semantic_model.specs.Fold.{Made}
+use Rattle.semantic_model.specs.Step.{steps}
+use Rattle.binding_laws.specs.SeenDeclarations.{declared, is_own_name}
+
+-- whether it takes its name from the scope: a `var` that passes it, a block function that moves out of it, a catch name, which is always new
+abbrev pub takes_by : How → ℕ → Declaration → Bool
+takes_by plain c d = false
+takes_by hoisted c d = contains (map (λ s. s.number) d.route.passed) c
+takes_by moved c d = stands_in d == c
+takes_by caught c d = d.route.target.number == c
+
+-- no declaration of the program takes the name from the scope
+abbrev pub NoneTakes : Tree → ℕ → Name → Type 0
+NoneTakes p c x = (d : Declaration) → Among d (declarations (events (steps p))) → d.naming.name ≡ x → takes_by d.how c d ≡ false
+
+-- it reaches past no scope for its symbol, as `let`, classes, imports and types, parameters, and a `var` at the top of its function
+abbrev pub Stays : Declaration → Type 0
+Stays d = (d.how ≡ plain) ⊎ ((d.how ≡ hoisted) × (d.route.passed ≡ []))
+
+-- it binds the name in the scope, which is no catch clause's, and is no function expression's own name
+pub record BindsIn (c : ℕ) (x : Name) (d : Declaration) : Type 0 where
+  pub stays : Stays d
+  pub target : d.route.target.number ≡ c
+  pub no_clause : d.route.target.body ≡ None
+  pub named : d.naming.name ≡ x
+  pub other : is_own_name d ≡ false
+
+-- all such declarations of one name in one scope have one symbol, unless another one takes the name from there
+abbrev pub OneSymbolEach : Tree → Type 0
+OneSymbolEach p = (c : ℕ) (x : Name) → NoneTakes p c x → (m n : Made) → Among m (declared p) → Among n (declared p) → BindsIn c x m.declaration → BindsIn c x n.declaration → m.symbol ≡ n.symbol
