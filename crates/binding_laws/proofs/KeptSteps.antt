@@ -44,10 +44,10 @@ use Rattle.walk_model.proofs.places.Grounds.{IsGrounded, AllGrounded, all_ground
 use Rattle.walk_model.proofs.places.Nested.{Descends, AreNested, IsNestedStep, open_past, seen_past}
 use Rattle.walk_model.proofs.places.Routes.{grounded, GoesOut, AllGoOut, entering_goes, opening_goes, placed_goes, target_below}
 use Rattle.binding_laws.specs.SeenDeclarations.{declared, is_own_name}
-use Rattle.binding_laws.specs.OneSymbol.{takes_by, NoneTakes, BindsIn, OneSymbolEach}
+use Rattle.binding_laws.specs.OneSymbol.{takes_by, NoneTakes, BindsIn, OneSymbolEach, ConflictsAreTold}
 use Rattle.binding_laws.proofs.CutEvents.{IsOwnPlain, placed_other, placed_plain}
 use Rattle.binding_laws.proofs.CutSteps.{opened_plain}
-use Rattle.binding_laws.proofs.KeptSymbols.{expression, IsBoundTo, Keeps, NoneBinds, IsFree, declared_keeps}
+use Rattle.binding_laws.proofs.KeptSymbols.{expression, IsBoundTo, Keeps, NoneBinds, IsFree, told_push, declared_keeps}
 use Rattle.binding_laws.proofs.OwnNames.{AllOther, IsOwnName, entering_other, own_named, class_other, key_other}
 use Rattle.binding_laws.proofs.Growing.{same_flags}
 
@@ -128,15 +128,19 @@ module _ (c : ℕ) (x : Name) where
 
   -- what an own name leaves
   own_keeps : (k : ℕ) (st : State) (d : Declaration) → is_own_name d ≡ true → (k ≡ c → NoneBinds c x st) → IsSound st → Keeps c x st → Keeps c x (make st k d)
-  own_keeps k st d o e b h = record { bound_to = λ m a i. by m i (among_more m (record { declaration = d; symbol = length st.symbols }) st.made a); unremembered = h.unremembered }
+  own_keeps k st d o e b h = record { bound_to = λ m a i. by m i (among_more m (record { declaration = d; symbol = length st.symbols }) st.made a); unremembered = h.unremembered; told = told_push c x st.made (record { declaration = d; symbol = length st.symbols }) st.conflicts h.told (λ m a i j q. absurd (not_own d o j)) }
     where
+      old_symbol : (m : Made) → IsBoundTo c x st m → slice_get (st.symbols ++ new_symbol k d.naming ∷ []) m.symbol ≡ slice_get st.symbols m.symbol
+      old_symbol m g = get-push st.symbols (new_symbol k d.naming) m.symbol (subst (IsBelow (length st.symbols)) g.bound (get_below (length st.symbols) st.bindings c x b.bindings))
+
       by : (m : Made) → BindsIn c x m.declaration → Among m st.made ⊎ (record { declaration = d; symbol = length st.symbols } ≡ m) → IsBoundTo c x (make st k d) m
       by m i (inr q) = absurd (not_own m.declaration (subst (λ (n : Made). is_own_name n.declaration ≡ true) q o) i)
       by m i (inl a) = elim (eqb_tells k c) [
         | inl q ↦ absurd (e q.1 m a i)
         | inr q ↦ (let g : IsBoundTo c x st m = h.bound_to m a i in record {
           bound = get-put_other st.bindings k d.naming.name (length st.symbols) c x (and_left (k == c) (bytes_eq d.naming.name x) q.0) ∙ g.bound;
-          other = ap (λ s. meets (flags_or_none s) expression) (get-push st.symbols (new_symbol k d.naming) m.symbol (subst (IsBelow (length st.symbols)) g.bound (get_below (length st.symbols) st.bindings c x b.bindings))) ∙ g.other;
+          other = ap (λ s. meets (flags_or_none s) expression) (old_symbol m g) ∙ g.other;
+          has = λ f v. ap (λ s. meets (flags_or_none s) f) (old_symbol m g) ∙ g.has f v;
         })
       ]
 
@@ -179,7 +183,7 @@ module _ (c : ℕ) (x : Name) where
 
   -- what a body takes over is no other scope's
   take_keeps : (table : List (Option ℕ)) (a n : ℕ) (st : State) → Ready table st.made a n → MadeBelow n st → Keeps c x st → Keeps c x (act st (takes_over a n))
-  take_keeps table a n st r l h = record { bound_to = λ m k i. kept m k i; unremembered = h.unremembered }
+  take_keeps table a n st r l h = record { bound_to = λ m k i. kept m k i; unremembered = h.unremembered; told = h.told }
     where
       kept : (m : Made) → Among m st.made → BindsIn c x m.declaration → IsBoundTo c x (act st (takes_over a n)) m
       kept m k i =
@@ -187,6 +191,7 @@ module _ (c : ℕ) (x : Name) where
           record {
             bound = get-take_over_other st.bindings a n c x not_clause not_body ∙ g.bound;
             other = ap (λ f. meets f expression) (flags_taken (bound_by st.bindings a) st.symbols m.symbol) ∙ g.other;
+            has = λ f v. ap (λ b. meets b f) (flags_taken (bound_by st.bindings a) st.symbols m.symbol) ∙ g.has f v;
           }
         where
           not_clause : c ≡ a → ⊥
@@ -229,7 +234,7 @@ module _ (c : ℕ) (x : Name) where
   step_keeps : (table : List (Option ℕ)) (ds : List Declaration) (stack : List ℕ) (seen : List (List ℕ)) (step : Step) (st : State) → IsNestedStep stack seen step → AllFree (events_of ds step) → Orderly table st (events_of ds step) → IsWithin (length seen) st → MadeBelow (length seen) st → IsSound st → Keeps c x st → Keeps c x (run st (events_of ds step))
   step_keeps table ds stack seen (entering p) st k f o w l b h = entering_keeps ds p st f b h
   step_keeps table ds stack seen (opening p s) st k f o w l b h = opening_keeps table ds (length seen) p s st (ap (λ (t : OpenScope). t.number) k.1) f o w l b h
-  step_keeps table ds stack seen (header_ending p s) st k f o w l b h = record { bound_to = h.bound_to; unremembered = h.unremembered }
+  step_keeps table ds stack seen (header_ending p s) st k f o w l b h = record { bound_to = h.bound_to; unremembered = h.unremembered; told = h.told }
   step_keeps table ds stack seen (closing p s) st k f o w l b h = h
   step_keeps table ds stack seen (leaving p) st k f o w l b h = h
 
@@ -267,10 +272,18 @@ module _ (c : ℕ) (x : Name) where
       (steps_keep table ds (open_past stack step) (seen_past seen step) ss (run st es) k.1 g.1 (free_right es rest f) (orderly_right table st es rest o) (within_step ds st stack seen step k.0 g.0 w) (step_below ds stack seen step ss st k.0 g l) (run_grows st es b).sound
       (step_keeps table ds stack seen step st k.0 (free_left es rest f) (orderly_left table st es rest o) w l b h))
 
-pub one_symbol_each : (p : Tree) → first_fault p ≡ None → OneSymbolEach p
-one_symbol_each p h c x none m n a b i j =
-    let kept : Keeps c x (run start (events (steps p))) =
-    steps_keep c x (table_of p) (written_declarations (steps p)) [] [] (steps p) start (program_nested p) (all_grounded p h) (all_free c x (events (steps p)) none) (orderly_events p (has_form p h)) (record { bindings = λ e q. absurd q; remembered = λ e q. absurd q }) (λ e q. absurd q) start_is_sound (record { bound_to = λ e q. absurd q; unremembered = refl }) in
-    let e : Some m.symbol ≡ Some n.symbol = sym (kept.bound_to m a i).bound ∙ (kept.bound_to n b j).bound in
-    let w : m.symbol ≡ n.symbol = cc in
-    w
+module _ (p : Tree) where
+  end_keeps : first_fault p ≡ None → (c : ℕ) (x : Name) → NoneTakes p c x → Keeps c x (run start (events (steps p)))
+  end_keeps h c x none =
+      steps_keep c x (table_of p) (written_declarations (steps p)) [] [] (steps p) start (program_nested p) (all_grounded p h) (all_free c x (events (steps p)) none) (orderly_events p (has_form p h))
+      (record { bindings = λ e q. absurd q; remembered = λ e q. absurd q }) (λ e q. absurd q) start_is_sound (record { bound_to = λ e q. absurd q; unremembered = refl; told = λ m n f. absurd f })
+
+  pub one_symbol_each : first_fault p ≡ None → OneSymbolEach p
+  one_symbol_each h c x none m n a b i j =
+      let kept : Keeps c x (run start (events (steps p))) = end_keeps h c x none in
+      let e : Some m.symbol ≡ Some n.symbol = sym (kept.bound_to m a i).bound ∙ (kept.bound_to n b j).bound in
+      let w : m.symbol ≡ n.symbol = cc in
+      w
+
+  pub conflicts_are_told : first_fault p ≡ None → ConflictsAreTold p
+  conflicts_are_told h c x none = (end_keeps h c x none).told

@@ -1,5 +1,6 @@
 -- A scope keeps the symbol of its name through what doesn't take the name from it.
 use Rattle.std.proofs.Common.{◌≡◌, ℕ, ◌<◌, List, [], ◌∷◌, ◌++◌, Option, Some, None, Bool, true, false, cond, ◌==◌, ◌&&◌, ◌||◌, ◌⊎◌, inl, inr, refl, sym, ap, subst, ◌∙◌, length, map, bytes_eq, arith}
+use Rattle.std.specs.Prelude.{slice_get}
 use Rattle.std.proofs.lemmas.Bool.{ne_eqb, and_left, and_right, or_parts}
 use Rattle.std.proofs.lemmas.Bool.Decides.{eqb_tells}
 use Rattle.semantic_syntax.specs.declared.symbol_flags.TheConstants.SymbolFlags as symbol
@@ -10,19 +11,19 @@ use Rattle.semantic_model.specs.Binding.{Binding, get, put, remove, move}
 use Rattle.semantic_model.specs.Declaration.{How, plain, hoisted, moved, caught, Declaration, stands_in}
 use Rattle.semantic_model.specs.Entries.{Among}
 use Rattle.semantic_model.specs.Event.{Event, declares, takes_over, ends_header}
-use Rattle.semantic_model.specs.Fold.{State, Made, make, found, or_else, unless_expression, update, redeclared, united, note_symbol, against, declare_in, chosen, flags_of, flags_or_none, new_symbol}
+use Rattle.semantic_model.specs.Fold.{State, Made, Conflict, conflict_with, make, found, or_else, unless_expression, update, redeclared, united, note_symbol, against, declare_in, chosen, flags_of, flags_or_none, new_symbol}
 use Rattle.semantic_model.specs.Hoist.{PassedSymbol, passed_symbol, passed_symbol_or, counts, asked_symbols, against_all, remember, remembering, move_symbol, hoist_by, move_out, declare_by, act}
 use Rattle.semantic_model.specs.Place.{OpenScope}
 use Rattle.semantic_model.proofs.fold.Orders.{Adds, adds}
 use Rattle.semantic_model.proofs.lists.BindingLaws.{same_key, same_key_tells, get-put_same, get-put_other, get-remove_other}
 use Rattle.semantic_model.proofs.lists.Bounds.{IsSound, get_below}
-use Rattle.semantic_model.proofs.lists.Members.{among_more}
+use Rattle.semantic_model.proofs.lists.Members.{among_left, among_last, among_more}
 use Rattle.semantic_model.proofs.lists.SymbolLaws.{get-last}
 use Rattle.semantic_model.proofs.once.ListedUnder.{name_tells}
 use Rattle.semantic_model.proofs.once.UseLists.{IsBelow}
 use Rattle.binding_laws.specs.SeenDeclarations.{is_own_name}
-use Rattle.binding_laws.specs.OneSymbol.{takes_by, Stays, BindsIn}
-use Rattle.binding_laws.proofs.Growing.{Grown, meets_neither, more_flags, grown_act}
+use Rattle.binding_laws.specs.OneSymbol.{takes_by, Stays, BindsIn, Follows, IsTold}
+use Rattle.binding_laws.proofs.Growing.{Grown, KeepConflicts, meets_neither, meets_first, meets_second, entry_below, more_flags, grown_act, conflicts_stay}
 
 abbrev pub expression : ℕ
 expression = symbol.FunctionExpression.bits
@@ -32,10 +33,40 @@ module _ (c : ℕ) (x : Name) where
   pub record IsBoundTo (st : State) (m : Made) : Type 0 where
     pub bound : get st.bindings c x ≡ Some m.symbol
     pub other : meets (flags_of st m.symbol) expression ≡ false
+    pub has : (f : ℕ) → meets m.declaration.naming.flags f ≡ true → meets (flags_of st m.symbol) f ≡ true
+
+  -- conflicts among some declarations are told
+  abbrev pub AreTold : List Made → List Conflict → Type 0
+  AreTold ms ks = (m n : Made) → Follows m n ms → BindsIn c x m.declaration → BindsIn c x n.declaration → meets m.declaration.naming.flags n.declaration.naming.excluded ≡ true → IsTold n.declaration ks
 
   pub record Keeps (st : State) : Type 0 where
     pub bound_to : (m : Made) → Among m st.made → BindsIn c x m.declaration → IsBoundTo st m
     pub unremembered : get st.remembered c x ≡ None
+    pub told : AreTold st.made st.conflicts
+
+  told_later : (n : Made) (ks ls : List Conflict) → ((k : Conflict) → Among k ks → Among k ls) → IsTold n.declaration ks → IsTold n.declaration ls
+  told_later n ks ls f h = record { earlier = h.earlier; among = f _ h.among }
+
+  all_later : (ms : List Made) (ks ls : List Conflict) → ((k : Conflict) → Among k ks → Among k ls) → AreTold ms ks → AreTold ms ls
+  all_later ms ks ls f h m n o i j e = told_later n ks ls f (h m n o i j e)
+
+  follows_push : (m n k : Made) (ms : List Made) → Follows m n (ms ++ k ∷ []) → Follows m n ms ⊎ (Among m ms × (k ≡ n))
+  follows_push m n k [] (inl f) = absurd f.1
+  follows_push m n k [] (inr f) = absurd f
+  follows_push m n k (y ∷ ms) (inl f) = elim (among_more n k ms f.1) [ inl a ↦ inl (inl (f.0, a)) | inr q ↦ inr (inl f.0, q) ]
+  follows_push m n k (y ∷ ms) (inr f) = elim (follows_push m n k ms f) [ inl a ↦ inl (inr a) | inr q ↦ inr (inr q.0, q.1) ]
+
+  pub follows_first : (m n : Made) (ms : List Made) → Follows m n ms → Among m ms
+  follows_first m n [] f = absurd f
+  follows_first m n (y ∷ ms) (inl f) = inl f.0
+  follows_first m n (y ∷ ms) (inr f) = inr (follows_first m n ms f)
+
+  -- one more declaration, which is told if it conflicts
+  pub told_push : (ms : List Made) (k : Made) (ks : List Conflict) → AreTold ms ks → ((m : Made) → Among m ms → BindsIn c x m.declaration → BindsIn c x k.declaration → meets m.declaration.naming.flags k.declaration.naming.excluded ≡ true → IsTold k.declaration ks) → AreTold (ms ++ k ∷ []) ks
+  told_push ms k ks h g m n f i j e = elim (follows_push m n k ms f) [
+    | inl a ↦ h m n a i j e
+    | inr q ↦ subst (λ (o : Made). IsTold o.declaration ks) q.1 (g m q.0 i (subst (λ (o : Made). BindsIn c x o.declaration) (sym q.1) j) (subst (λ (o : Made). meets m.declaration.naming.flags o.declaration.naming.excluded ≡ true) (sym q.1) e))
+  ]
 
   -- another scope or name
   abbrev Off : ℕ → Name → Type 0
@@ -96,6 +127,10 @@ module _ (c : ℕ) (x : Name) where
       | inl q ↦ ap (λ f. meets f expression) q ∙ h.other
       | inr q ↦ ap (λ f. meets f expression) q ∙ meets_neither (flags_of st m.symbol) flags expression h.other n
     ];
+    has = λ f k. elim (g.each m.symbol (bound_within st m b h)) [
+      | inl q ↦ ap (λ n. meets n f) q ∙ h.has f k
+      | inr q ↦ ap (λ n. meets n f) q ∙ meets_first (flags_of st m.symbol) flags f (h.has f k)
+    ];
   }
 
   -- one more declaration that doesn't bind it
@@ -105,15 +140,24 @@ module _ (c : ℕ) (x : Name) where
     | inr q ↦ absurd (n (subst (λ (k : Made). BindsIn c x k.declaration) (sym q) i))
   ]
 
-  unchanged_keeps : (st new : State) (d : Declaration) → Unchanged st new → Grown d.naming.flags st new → is_own_name d ≡ false → Adds st.made d new.made → (BindsIn c x d → ⊥) → IsSound st → Keeps st → Keeps new
-  unchanged_keeps st new d u g n w f b h = record {
+  -- where it doesn't bind the name
+  told_more : (st new : State) (d : Declaration) → Adds st.made d new.made → (BindsIn c x d → ⊥) → AreTold st.made new.conflicts → AreTold new.made new.conflicts
+  told_more st new d w f h = subst (λ ms. AreTold ms new.conflicts) (sym w.adds) (told_push st.made (record { declaration = d; symbol = w.symbol }) new.conflicts h (λ m a i j e. absurd (f j)))
+
+  unchanged_keeps : (st new : State) (d : Declaration) → Unchanged st new → Grown d.naming.flags st new → KeepConflicts st new → is_own_name d ≡ false → Adds st.made d new.made → (BindsIn c x d → ⊥) → IsSound st → Keeps st → Keeps new
+  unchanged_keeps st new d u g k n w f b h = record {
     bound_to = binds_more st new d (IsBoundTo new) w f (λ m a i. bound_grown d.naming.flags st new m g n u.bindings b (h.bound_to m a i));
     unremembered = u.remembered ∙ h.unremembered;
+    told = told_more st new d w f (all_later st.made st.conflicts new.conflicts k h.told);
   }
 
   -- nothing binds it, and what comes doesn't either
   empty_keeps : (st new : State) (d : Declaration) → Adds st.made d new.made → (BindsIn c x d → ⊥) → NoneBinds st → get new.remembered c x ≡ None → Keeps new
-  empty_keeps st new d w f e r = record { bound_to = λ m a i. absurd (binds_more st new d (λ k. ⊥) w f e m a i); unremembered = r }
+  empty_keeps st new d w f e r = record {
+    bound_to = λ m a i. absurd (binds_more st new d (λ k. ⊥) w f e m a i);
+    unremembered = r;
+    told = told_more st new d w f (λ m n o i j q. absurd (e m (follows_first m n st.made o) i));
+  }
 
   -- declared in the scope itself
   here_keeps : (st : State) (d : Declaration) (t : ℕ) → t ≡ c → d.naming.name ≡ x → is_own_name d ≡ false → IsSound st → Keeps st → Keeps (declare_in st t d (found st t d.naming.name))
@@ -136,32 +180,49 @@ module _ (c : ℕ) (x : Name) where
           | inr q ↦ subst (IsBoundTo (make st c d)) q (record {
             bound = ap (λ y. get (put st.bindings c d.naming.name (length st.symbols)) c y) (sym ey) ∙ get-put_same st.bindings c d.naming.name (length st.symbols);
             other = ap (λ o. meets (flags_or_none o) expression) (get-last st.symbols (new_symbol c d.naming)) ∙ n;
+            has = λ f k. ap (λ o. meets (flags_or_none o) f) (get-last st.symbols (new_symbol c d.naming)) ∙ k;
           })
         ];
         unremembered = h.unremembered;
+        told = told_push st.made (record { declaration = d; symbol = length st.symbols }) st.conflicts h.told (λ m a i j q. absurd (e m a i));
       }
 
       joined : (s : ℕ) → get st.bindings c x ≡ Some s → meets (flags_of st s) expression ≡ false → Keeps (declare_in st c d (Some s))
       joined s g o = record {
         bound_to = λ m a i. elim (among_more m (record { declaration = d; symbol = s }) st.made a) [
-          | inl k ↦ again m (h.bound_to m k i).bound
-          | inr q ↦ again m (g ∙ ap (λ (k : Made). Some k.symbol) q)
+          | inl k ↦ again m (h.bound_to m k i).bound (λ f w. meets_first (flags_of st s) d.naming.flags f (ap (λ r. meets (flags_of st r) f) (same_symbol m (h.bound_to m k i).bound) ∙ (h.bound_to m k i).has f w))
+          | inr q ↦ again m (g ∙ ap (λ (k : Made). Some k.symbol) q) (λ f w. meets_second (flags_of st s) d.naming.flags f (ap (λ (k : Made). meets k.declaration.naming.flags f) q ∙ w))
         ];
         unremembered = h.unremembered;
+        told = told_push st.made (record { declaration = d; symbol = s }) (declare_in st c d (Some s)).conflicts
+            (all_later st.made st.conflicts (declare_in st c d (Some s)).conflicts (λ k a. among_left k st.conflicts (conflict_with d.naming (slice_get st.symbols s)) a) h.told)
+            (λ m a i j q. telling m (h.bound_to m a i) q);
       }
         where
           within : s < length st.symbols
           within = subst (IsBelow (length st.symbols)) g (get_below (length st.symbols) st.bindings c x b.bindings)
 
-          again : (m : Made) → get st.bindings c x ≡ Some m.symbol → IsBoundTo (declare_in st c d (Some s)) m
-          again m k =
-              let e : Some s ≡ Some m.symbol = sym g ∙ k in
-              let i : s ≡ m.symbol = cc in
-              record {
-                bound = k;
-                other = subst (λ r. meets (flags_of (declare_in st c d (Some s)) r) expression ≡ false) i
-                    (ap (λ f. meets f expression) (more_flags (λ y. united d.naming.flags (redeclared d.naming y)) d.naming.flags st.symbols s (λ y. refl) within) ∙ meets_neither (flags_of st s) d.naming.flags expression o n);
-              }
+          same_symbol : (m : Made) → get st.bindings c x ≡ Some m.symbol → s ≡ m.symbol
+          same_symbol m k = let e : Some s ≡ Some m.symbol = sym g ∙ k in let i : s ≡ m.symbol = cc in i
+
+          joined_flags : flags_of (declare_in st c d (Some s)) s ≡ union (flags_of st s) d.naming.flags
+          joined_flags = more_flags (λ y. united d.naming.flags (redeclared d.naming y)) d.naming.flags st.symbols s (λ y. refl) within
+
+          telling : (m : Made) → IsBoundTo st m → meets m.declaration.naming.flags d.naming.excluded ≡ true → IsTold d (st.conflicts ++ conflict_with d.naming (slice_get st.symbols s))
+          telling m k q =
+              let (y, there) = entry_below st.symbols s within in
+              let met : meets y.flags.bits d.naming.excluded ≡ true =
+              ap (λ o. meets (flags_or_none o) d.naming.excluded) (sym there) ∙ ap (λ r. meets (flags_of st r) d.naming.excluded) (same_symbol m k.bound) ∙ k.has d.naming.excluded q in
+              let one : Conflict = record { name = d.naming.name; earlier = y.span; later = d.naming.span } in
+              let is_one : conflict_with d.naming (slice_get st.symbols s) ≡ one ∷ [] = ap (conflict_with d.naming) there ∙ ap (λ t. cond t (one ∷ []) []) met in
+              record { earlier = y.span; among = subst (λ ks. Among one (st.conflicts ++ ks)) (sym is_one) (among_last one st.conflicts) }
+
+          again : (m : Made) → get st.bindings c x ≡ Some m.symbol → ((f : ℕ) → meets m.declaration.naming.flags f ≡ true → meets (union (flags_of st s) d.naming.flags) f ≡ true) → IsBoundTo (declare_in st c d (Some s)) m
+          again m k w = record {
+            bound = k;
+            other = subst (λ r. meets (flags_of (declare_in st c d (Some s)) r) expression ≡ false) (same_symbol m k) (ap (λ f. meets f expression) joined_flags ∙ meets_neither (flags_of st s) d.naming.flags expression o n);
+            has = λ f v. subst (λ r. meets (flags_of (declare_in st c d (Some s)) r) f ≡ true) (same_symbol m k) (ap (λ a. meets a f) joined_flags ∙ w f v);
+          }
 
       either : (s : ℕ) (t : Bool) → get st.bindings c x ≡ Some s → meets (flags_of st s) expression ≡ t → Keeps (declare_in st c d (cond t None (Some s)))
       either s true g q = anew (λ m a i.
@@ -210,12 +271,13 @@ module _ (c : ℕ) (x : Name) where
 
   against_keeps : (st : State) (d : Declaration) (ss : List ℕ) → IsSound st → Keeps st → IsSound (against_all st d ss) × Keeps (against_all st d ss)
   against_keeps st d [] b h = (b, h)
-  against_keeps st d (s ∷ ss) b h = against_keeps (against st d s) d ss (record { bindings = b.bindings; remembered = b.remembered }) (record { bound_to = λ m a i. let k : IsBoundTo st m = h.bound_to m a i in record { bound = k.bound; other = k.other }; unremembered = h.unremembered })
+  against_keeps st d (s ∷ ss) b h = against_keeps (against st d s) d ss (record { bindings = b.bindings; remembered = b.remembered }) (record { bound_to = λ m a i. let k : IsBoundTo st m = h.bound_to m a i in record { bound = k.bound; other = k.other; has = k.has }; unremembered = h.unremembered; told = all_later st.made st.conflicts (against st d s).conflicts (λ k a. among_left k st.conflicts (conflict_with d.naming (slice_get st.symbols s)) a) h.told })
 
   remembering_keeps : (st : State) (cs : List OpenScope) (y : Name) (s : ℕ) → AllOff y cs → Keeps st → Keeps (remembering st cs y s)
   remembering_keeps st cs y s h k = record {
-    bound_to = λ m a i. let g : IsBoundTo st m = k.bound_to m a i in record { bound = g.bound; other = g.other };
+    bound_to = λ m a i. let g : IsBoundTo st m = k.bound_to m a i in record { bound = g.bound; other = g.other; has = g.has };
     unremembered = remember_off st.remembered cs y s h ∙ k.unremembered;
+    told = k.told;
   }
 
   -- what a declaration does to the name in the scope: nothing; something, but nothing binds it so far; or it binds it there
@@ -366,6 +428,6 @@ module _ (c : ℕ) (x : Name) where
   declared_keeps st d f n b h = by (outcome d.how st d refl f n b h)
     where
       by : Outcome st d (act st (declares d)) → Keeps (act st (declares d))
-      by (same u i) = unchanged_keeps st (act st (declares d)) d u (grown_act st d) n (adds st d) i b h
+      by (same u i) = unchanged_keeps st (act st (declares d)) d u (grown_act st d) (conflicts_stay st d) n (adds st d) i b h
       by (empty e r i) = empty_keeps st (act st (declares d)) d (adds st d) i e r
       by (direct k) = k

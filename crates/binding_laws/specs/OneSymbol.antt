@@ -1,12 +1,15 @@
--- Which declarations of one name in one scope have one symbol.
-use Rattle.std.specs.Prelude.{◌≡◌, ℕ, ◌==◌, List, [], Bool, false, Option, None, ◌⊎◌, map}
+-- Which declarations of one name in one scope have one symbol, and which of them conflict.
+use Rattle.std.specs.Prelude.{◌≡◌, ℕ, ◌==◌, List, [], ◌∷◌, Bool, true, false, Option, None, ◌⊎◌, map}
 use Rattle.semantic_syntax.specs.Members.{contains}
+use Rattle.semantic_syntax.specs.Sets.{meets}
 use Rattle.semantic_syntax.specs.Tables.{Name}
+use Rattle.semantic_syntax.specs.declared.spans.Span.{Span}
 use Rattle.semantic_tree.specs.Tree.{Tree}
 use Rattle.semantic_model.specs.Declaration.{Declaration, How, plain, hoisted, moved, caught, stands_in}
 use Rattle.semantic_model.specs.Entries.{Among}
 use Rattle.semantic_model.specs.Event.{events, declarations}
-use Rattle.semantic_model.specs.Fold.{Made}
+use Rattle.semantic_model.specs.Fold.{Made, Conflict, start}
+use Rattle.semantic_model.specs.Hoist.{run}
 use Rattle.semantic_model.specs.Step.{steps}
 use Rattle.binding_laws.specs.SeenDeclarations.{declared, is_own_name}
 
@@ -36,3 +39,17 @@ pub record BindsIn (c : ℕ) (x : Name) (d : Declaration) : Type 0 where
 -- all such declarations of one name in one scope have one symbol, unless another one takes the name from there
 abbrev pub OneSymbolEach : Tree → Type 0
 OneSymbolEach p = (c : ℕ) (x : Name) → NoneTakes p c x → (m n : Made) → Among m (declared p) → Among n (declared p) → BindsIn c x m.declaration → BindsIn c x n.declaration → m.symbol ≡ n.symbol
+
+-- n stands behind m in the list
+abbrev pub Follows : Made → Made → List Made → Type 0
+Follows m n [] = ⊥
+Follows m n (y ∷ ys) = ((y ≡ m) × Among n ys) ⊎ Follows m n ys
+
+-- among the conflicts is one of the declaration with an earlier one of its name
+pub record IsTold (d : Declaration) (conflicts : List Conflict) : Type 0 where
+  pub earlier : Span
+  pub among : Among (record { name = d.naming.name; earlier = earlier; later = d.naming.span }) conflicts
+
+-- of two such declarations the later one is a conflict if it excludes what the earlier one is
+abbrev pub ConflictsAreTold : Tree → Type 0
+ConflictsAreTold p = (c : ℕ) (x : Name) → NoneTakes p c x → (m n : Made) → Follows m n (declared p) → BindsIn c x m.declaration → BindsIn c x n.declaration → meets m.declaration.naming.flags n.declaration.naming.excluded ≡ true → IsTold n.declaration (run start (events (steps p))).conflicts
