@@ -53,7 +53,7 @@ not_both h k = let q : true ≡ false = sym h ∙ k in absurd cc
 opens_next : (stack : List ℕ) (seen : List (List ℕ)) (p : Place) (s : OpenScope) → IsNestedStep stack seen (opening p s) → s.number ≡ length seen
 opens_next stack seen p s k = ap (λ (o : OpenScope). o.number) k.1
 
-same_length : (fs : List ℕ) (seen : List (List ℕ)) (step : Step) → length fs ≡ length seen → length (flags_past fs step) ≡ length (seen_past seen step)
+pub same_length : (fs : List ℕ) (seen : List (List ℕ)) (step : Step) → length fs ≡ length seen → length (flags_past fs step) ≡ length (seen_past seen step)
 same_length fs seen (opening p s) e = omega (arith, e, length-append fs (s.flags ∷ []), length-append seen (numbers p.chain ∷ []))
 same_length fs seen (entering p) e = e
 same_length fs seen (header_ending p s) e = e

@@ -9,3 +9,6 @@ pub mod TiedOutward
 pub mod Growing
 pub mod KeptSymbols
 pub mod KeptSteps
+pub mod SymbolsAtNodes
+pub mod CatchNames
+pub mod VarScopes

@@ -1,10 +1,12 @@
 -- Which declarations of one name in one scope have one symbol, and which of them conflict.
-use Rattle.std.specs.Prelude.{◌≡◌, ℕ, ◌==◌, List, [], ◌∷◌, Bool, true, false, Option, None, ◌⊎◌, map}
+use Rattle.std.specs.Prelude.{◌≡◌, ℕ, ◌==◌, List, [], ◌∷◌, Bool, true, false, Option, Some, None, ◌⊎◌, map}
 use Rattle.semantic_syntax.specs.Members.{contains}
 use Rattle.semantic_syntax.specs.Sets.{meets}
 use Rattle.semantic_syntax.specs.Tables.{Name}
 use Rattle.semantic_syntax.specs.declared.spans.Span.{Span}
 use Rattle.semantic_tree.specs.Tree.{Tree}
+use Rattle.semantic_model.specs.Analysis.{analysis_of, symbol_at}
+use Rattle.semantic_model.specs.Binder.{is_var}
 use Rattle.semantic_model.specs.Declaration.{Declaration, How, plain, hoisted, moved, caught, stands_in}
 use Rattle.semantic_model.specs.Entries.{Among}
 use Rattle.semantic_model.specs.Event.{events, declarations}
@@ -39,6 +41,14 @@ pub record BindsIn (c : ℕ) (x : Name) (d : Declaration) : Type 0 where
 -- all such declarations of one name in one scope have one symbol, unless another one takes the name from there
 abbrev pub OneSymbolEach : Tree → Type 0
 OneSymbolEach p = (c : ℕ) (x : Name) → NoneTakes p c x → (m n : Made) → Among m (declared p) → Among n (declared p) → BindsIn c x m.declaration → BindsIn c x n.declaration → m.symbol ≡ n.symbol
+
+-- where `var` goes, as a function's scope or the program's, nothing takes the name away
+abbrev pub VarScopesKeepNames : Tree → Type 0
+VarScopesKeepNames p = (c : ℕ) (x : Name) (m : Made) → Among m (declared p) → BindsIn c x m.declaration → is_var m.declaration.route.target ≡ true → NoneTakes p c x
+
+-- the symbol of a declaration is what an analysis tells of its identifier
+abbrev pub SymbolsAreAtNodes : Tree → Type 0
+SymbolsAreAtNodes p = (m : Made) → Among m (declared p) → symbol_at (analysis_of p) m.declaration.naming.identifier ≡ Some m.symbol
 
 -- n stands behind m in the list
 abbrev pub Follows : Made → Made → List Made → Type 0
