@@ -1,10 +1,9 @@
 -- The events of a program are cut by the end of each header that holds a reference.
-use Rattle.std.proofs.Common.{◌≡◌, ℕ, ◌<◌, ◌≤◌, ◌==◌, List, [], ◌∷◌, ◌++◌, Option, Some, None, Bool, true, false, cond, ◌&&◌, ◌||◌, not, ◌⊎◌, inl, inr, refl, sym, ap, subst, ◌∙◌, length, flat_map, arith}
+use Rattle.std.proofs.Common.{◌≡◌, ℕ, ◌<◌, ◌≤◌, ◌==◌, List, [], ◌∷◌, Some, None, Bool, true, false, cond, ◌&&◌, ◌||◌, ◌⊎◌, inl, inr, refl, sym, ap, subst, ◌∙◌, length, flat_map, arith}
 use Rattle.std.specs.List.{cons_option}
 use Rattle.std.proofs.lemmas.Bool.{cases_Bool, ne_eqb, eq-eqb, or_parts}
 use Rattle.std.proofs.lemmas.Bool.Decides.{eqb_tells}
 use Rattle.std.proofs.lemmas.List.{length-append}
-use Rattle.semantic_kinds.specs.Kinds.{same_kind}
 use Rattle.semantic_kinds.specs.Roles.{same_role}
 use Rattle.semantic_kinds.specs.declared.kind.AstType.{AstType}
 use Rattle.semantic_kinds.specs.declared.kind.AstType.TheVariants as kind
@@ -19,9 +18,9 @@ use Rattle.semantic_model.specs.Entries.{Among}
 use Rattle.semantic_model.specs.Inside.{header_roles}
 use Rattle.semantic_model.specs.Place.{Place, OpenScope, innermost, parent_holds}
 use Rattle.semantic_model.specs.Reference.{Occurrence, reference_at, references}
-use Rattle.semantic_model.specs.Declaration.{Declaration, How, plain, first_with}
+use Rattle.semantic_model.specs.Declaration.{Declaration, plain, first_with}
 use Rattle.semantic_model.specs.Binder.{is_var, declared_by, declared_inside, declared_on_entering, declared_on_opening}
-use Rattle.semantic_model.specs.Event.{Event, takes_over, ends_header, is_catch_body, taken_over, declares_all, events_of, written_declarations, events}
+use Rattle.semantic_model.specs.Event.{takes_over, ends_header, is_catch_body, taken_over, declares_all, events_of, written_declarations, events}
 use Rattle.semantic_model.specs.Step.{Step, entering, opening, header_ending, closing, leaving, steps}
 use Rattle.semantic_model.proofs.form.Clauses.{kind_is}
 use Rattle.semantic_model.proofs.fold.EachDeclared.{EachDeclared, each_on_opening}

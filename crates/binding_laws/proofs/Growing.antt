@@ -1,7 +1,7 @@
 -- A declaration leaves the flags of each symbol, or adds its own.
-use Rattle.std.proofs.Common.{◌≡◌, ℕ, zero, suc, ◌<◌, List, [], ◌∷◌, ◌++◌, Option, Some, None, Bool, true, false, cond, not, ◌==◌, ◌⊎◌, inl, inr, refl, sym, ap, subst, ◌∙◌, length, option_map, arith}
+use Rattle.std.proofs.Common.{◌≡◌, ℕ, zero, suc, ◌<◌, List, [], ◌∷◌, Option, Some, None, Bool, true, false, cond, not, ◌==◌, ◌⊎◌, inl, inr, refl, sym, ap, subst, ◌∙◌, length, option_map, arith}
 use Rattle.std.specs.Prelude.{slice_get}
-use Rattle.std.specs.Int.RustNames.{bit_and, bit_or}
+use Rattle.std.specs.Int.RustNames.{bit_and}
 use Rattle.std.proofs.lemmas.Bool.{ne_eqb, eq-eqb}
 use Rattle.std.proofs.lemmas.Bool.Decides.{eqb_tells}
 use Rattle.std.proofs.lemmas.Nat.{and_assoc, and_comm, and_le_r, and_or_apart, and_or_self, or_comm}
@@ -27,7 +27,7 @@ meets_neither a b f h k = ap (λ n. not (n == 0)) (and_or_apart f a b (none b k)
 meets_more : (a x f : ℕ) → bit_and x a ≡ a → meets a f ≡ true → meets x f ≡ true
 meets_more a x f e h = elim (eqb_tells (bit_and x f) 0) [
   | inl q ↦ (let none : bit_and a f ≡ 0 = ap (λ n. bit_and n f) (sym e ∙ and_comm x a) ∙ and_assoc f a x ∙ ap (bit_and a) q.1 ∙ omega (arith, and_le_r a 0) in
-    let w : true ≡ false = sym h ∙ ap not (eq-eqb (bit_and a f) 0 none) in absurd cc)
+      let w : true ≡ false = sym h ∙ ap not (eq-eqb (bit_and a f) 0 none) in absurd cc)
   | inr q ↦ ap not q.0
 ]
 

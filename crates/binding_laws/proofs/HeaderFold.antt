@@ -1,5 +1,5 @@
 -- As a header ends, its scope binds what the declarations outside of its body bind.
-use Rattle.std.proofs.Common.{◌≡◌, ℕ, ◌<◌, ◌==◌, List, [], ◌∷◌, ◌++◌, Option, Some, None, Bool, true, false, cond, ◌&&◌, ◌||◌, ◌⊎◌, inl, inr, refl, sym, ap, subst, ◌∙◌, length, filter, fold, option_map, bytes_eq, arith}
+use Rattle.std.proofs.Common.{◌≡◌, ℕ, ◌<◌, ◌==◌, List, [], ◌∷◌, ◌++◌, Option, Some, None, Bool, true, false, cond, inl, inr, refl, sym, ap, subst, ◌∙◌, length, filter, option_map, bytes_eq, arith}
 use Rattle.std.specs.Prelude.{slice_get}
 use Rattle.std.proofs.lemmas.Bool.{ne_eqb, eq-eqb, and_from, and_left, and_right}
 use Rattle.std.proofs.lemmas.List.Sums.{fold-append}
@@ -8,9 +8,9 @@ use Rattle.semantic_syntax.specs.Lookup.{Seen}
 use Rattle.semantic_syntax.specs.Sets.{meets, union}
 use Rattle.semantic_syntax.specs.Tables.{Name, Symbol}
 use Rattle.semantic_model.specs.Binding.{get}
-use Rattle.semantic_model.specs.Declaration.{How, plain, caught, Declaration}
+use Rattle.semantic_model.specs.Declaration.{Declaration}
 use Rattle.semantic_model.specs.Event.{Event, declares, takes_over, ends_header}
-use Rattle.semantic_model.specs.Fold.{State, Made, start, make, declare_in, found, or_else, unless_expression, flags_of, flags_or_none, update, united, redeclared, new_symbol}
+use Rattle.semantic_model.specs.Fold.{State, Made, start, make, declare_in, found, or_else, unless_expression, flags_of, flags_or_none, united, redeclared, new_symbol}
 use Rattle.semantic_model.specs.Hoist.{act, run, declare_by}
 use Rattle.semantic_model.specs.Tie.{seen_as, until_end_of}
 use Rattle.semantic_model.proofs.fold.Changes.{Sound, Holds, HasName}

@@ -14,9 +14,9 @@ use Rattle.semantic_syntax.specs.Tables.{Name, Symbol, Bindings}
 use Rattle.semantic_tree.specs.Faults.{first_fault}
 use Rattle.semantic_tree.specs.Tree.{Tree}
 use Rattle.semantic_tree.specs.Views.{is}
-use Rattle.semantic_model.specs.Binder.{declared_by, declared_inside, declared_on_entering, declared_on_opening}
+use Rattle.semantic_model.specs.Binder.{declared_inside, declared_on_entering, declared_on_opening}
 use Rattle.semantic_model.specs.Binding.{get, put, bound_by}
-use Rattle.semantic_model.specs.Declaration.{How, plain, hoisted, Declaration}
+use Rattle.semantic_model.specs.Declaration.{Declaration}
 use Rattle.semantic_model.specs.Entries.{Among}
 use Rattle.semantic_model.specs.Event.{Event, declares, takes_over, ends_header, is_catch_body, taken_over, placed, declares_all, events_of, written_declarations, events, declarations}
 use Rattle.semantic_model.specs.Fold.{State, Made, start, make, found, or_else, unless_expression, declare_in, flags_of, flags_or_none, update, in_scope, new_symbol}
@@ -43,7 +43,7 @@ use Rattle.walk_model.proofs.headers.Frozen.{IsWithin, below, within_step}
 use Rattle.walk_model.proofs.places.Grounds.{IsGrounded, AllGrounded, all_grounded}
 use Rattle.walk_model.proofs.places.Nested.{Descends, AreNested, IsNestedStep, open_past, seen_past}
 use Rattle.walk_model.proofs.places.Routes.{grounded, GoesOut, AllGoOut, entering_goes, opening_goes, placed_goes, target_below}
-use Rattle.binding_laws.specs.SeenDeclarations.{declared, is_own_name}
+use Rattle.binding_laws.specs.SeenDeclarations.{is_own_name}
 use Rattle.binding_laws.specs.OneSymbol.{takes_by, NoneTakes, BindsIn, OneSymbolEach, ConflictsAreTold}
 use Rattle.binding_laws.proofs.CutEvents.{IsOwnPlain, placed_other, placed_plain}
 use Rattle.binding_laws.proofs.CutSteps.{opened_plain}

@@ -1,23 +1,22 @@
 -- Each reference is tied as the declarations round it tell.
-use Rattle.std.proofs.Common.{◌≡◌, ℕ, ◌<◌, List, [], ◌∷◌, Option, Some, None, Bool, true, false, cond, inl, inr, refl, sym, ap, subst, ◌∙◌, map, option_map, length, arith}
+use Rattle.std.proofs.Common.{◌≡◌, ℕ, ◌<◌, List, [], ◌∷◌, Option, Some, None, Bool, true, false, cond, inl, inr, refl, sym, ap, ◌∙◌, map, option_map, length, arith}
 use Rattle.std.proofs.lemmas.Option.{slice_get_within}
-use Rattle.semantic_syntax.specs.Lookup.{Seen, Asked, lookup}
-use Rattle.semantic_syntax.specs.Reading.{bound_in}
+use Rattle.semantic_syntax.specs.Lookup.{Seen, lookup}
 use Rattle.semantic_syntax.specs.Tables.{Name}
 use Rattle.semantic_tree.specs.Faults.{first_fault}
 use Rattle.semantic_tree.specs.Tree.{Tree}
 use Rattle.semantic_model.specs.Binding.{get}
 use Rattle.semantic_model.specs.Entries.{Among}
 use Rattle.semantic_model.specs.Event.{Event, events}
-use Rattle.semantic_model.specs.Fold.{State, start, flags_of}
+use Rattle.semantic_model.specs.Fold.{State, start}
 use Rattle.semantic_model.specs.Hoist.{run}
 use Rattle.semantic_model.specs.Place.{OpenScope}
-use Rattle.semantic_model.specs.Reference.{Occurrence, references}
+use Rattle.semantic_model.specs.Reference.{references}
 use Rattle.semantic_model.specs.Step.{steps}
 use Rattle.semantic_model.specs.TablesOf.{tables_of, scopes, evals}
-use Rattle.semantic_model.specs.Tie.{seen_as, answer, view_by, until_end_of, symbol_by}
+use Rattle.semantic_model.specs.Tie.{seen_as, answer, view_by, symbol_by}
 use Rattle.semantic_model.proofs.fits.Outwards.{bound_as, flags_at, scopes_length, reference_chain}
-use Rattle.semantic_model.proofs.fold.BodyChains.{InTable, AllInTable}
+use Rattle.semantic_model.proofs.fold.BodyChains.{AllInTable}
 use Rattle.semantic_model.proofs.fold.Changes.{sound_start}
 use Rattle.semantic_model.proofs.fold.Orders.{table_of, orderly_events}
 use Rattle.semantic_model.proofs.form.Shape.{has_form}
@@ -25,7 +24,6 @@ use Rattle.semantic_model.proofs.lists.Growth.{start_is_sound}
 use Rattle.semantic_model.proofs.lists.Members.{among_at}
 use Rattle.semantic_model.proofs.once.ReferencesStand.{entry_is}
 use Rattle.binding_laws.specs.SeenDeclarations.{bound_by_all, bound_before_body, with_flags, bound_in_end, asked_of, TiesAreOutward}
-use Rattle.binding_laws.proofs.CutEvents.{Cut}
 use Rattle.binding_laws.proofs.CutSteps.{WillAwait, cut_program, header_awaits}
 use Rattle.binding_laws.proofs.HeaderFold.{IsCutAt, cut_at, header_start}
 

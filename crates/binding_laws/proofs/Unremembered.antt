@@ -1,5 +1,5 @@
 -- An event that leaves a scope alone leaves what it remembers.
-use Rattle.std.proofs.Common.{◌≡◌, ℕ, ◌==◌, List, [], ◌∷◌, ◌&&◌, bytes_eq, Option, Some, None, Bool, true, false, refl, ap, ◌∙◌}
+use Rattle.std.proofs.Common.{◌≡◌, ℕ, ◌==◌, List, [], ◌∷◌, ◌&&◌, bytes_eq, Option, Some, None, Bool, false, refl, ap, ◌∙◌}
 use Rattle.semantic_syntax.specs.Tables.{Name}
 use Rattle.semantic_model.specs.Place.{OpenScope}
 use Rattle.semantic_model.specs.Binding.{Binding, get, put}

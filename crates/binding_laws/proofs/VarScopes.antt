@@ -1,39 +1,34 @@
 -- No declaration takes a name from a scope where `var` goes.
-use Rattle.std.proofs.Common.{◌≡◌, ℕ, zero, suc, ◌==◌, List, [], ◌∷◌, ◌++◌, Option, Some, None, Bool, true, false, cond, ◌||◌, ◌⊎◌, inl, inr, refl, sym, ap, subst, ◌∙◌, length, map, flat_map, if◌then◌else◌, arith}
+use Rattle.std.proofs.Common.{◌≡◌, ℕ, zero, suc, List, [], ◌∷◌, ◌++◌, Option, Some, None, Bool, true, false, cond, ◌||◌, inl, inr, refl, sym, ap, subst, ◌∙◌, length, map, flat_map, if◌then◌else◌, arith}
 use Rattle.std.specs.Prelude.{slice_get}
 use Rattle.std.proofs.lemmas.Bool.{ne_eqb, cases_Bool}
-use Rattle.std.proofs.lemmas.List.{length-append}
 use Rattle.semantic_kinds.specs.Kinds.{same_kind}
 use Rattle.semantic_kinds.specs.declared.kind.AstType.{AstType}
 use Rattle.semantic_kinds.specs.declared.kind.AstType.TheVariants as kind
 use Rattle.semantic_syntax.specs.Members.{contains}
 use Rattle.semantic_syntax.specs.Sets.{meets}
-use Rattle.semantic_syntax.specs.Tables.{Name}
 use Rattle.semantic_syntax.specs.declared.scope_flags.TheConstants.ScopeFlags as scope
 use Rattle.semantic_tree.specs.Faults.{first_fault}
 use Rattle.semantic_tree.specs.Tree.{Tree}
-use Rattle.semantic_model.specs.Binder.{is_var, is_block_function, declared_by, declared_on_entering, declared_inside, declared_on_opening}
+use Rattle.semantic_model.specs.Binder.{is_var, declared_by, declared_on_entering, declared_inside, declared_on_opening}
 use Rattle.semantic_model.specs.Declaration.{How, plain, hoisted, moved, caught, Declaration, Route, here, passed_before, first_with, route_from, outward_to, outward_past, stands_in, scope_it_stands_in}
 use Rattle.semantic_model.specs.Entries.{Among}
 use Rattle.semantic_model.specs.Event.{Event, declares, takes_over, ends_header, is_barred, staying, placed_by, placed, is_catch_body, taken_over, declares_all, events_of, written_declarations, events, declarations}
-use Rattle.semantic_model.specs.Fold.{Made, start}
-use Rattle.semantic_model.specs.Hoist.{run}
+use Rattle.semantic_model.specs.Fold.{start}
 use Rattle.semantic_model.specs.Place.{Place, OpenScope, innermost, outside}
 use Rattle.semantic_model.specs.Step.{Step, entering, opening, header_ending, closing, leaving, steps}
 use Rattle.semantic_model.proofs.fits.NothingInvented.{made_declared}
 use Rattle.semantic_model.proofs.fold.EachDeclared.{EachDeclared, each_on_entering, each_on_opening}
 use Rattle.semantic_model.proofs.form.Clauses.{kind_is}
 use Rattle.semantic_model.proofs.steps.EachStep.{EachStep}
-use Rattle.walk_model.specs.Walks.{numbers}
 use Rattle.walk_model.proofs.declares.Simulated.{program_nested, root_declares_none}
-use Rattle.walk_model.proofs.headers.Headed.{AreFlagged, AreHeaded, awaiting_past, flags_past, flags_after, flagged_later}
+use Rattle.walk_model.proofs.headers.Headed.{AreFlagged, AreHeaded, awaiting_past, flags_after, flagged_later}
 use Rattle.walk_model.proofs.headers.HeadedProgram.{program_headed}
 use Rattle.walk_model.proofs.places.Grounds.{IsGrounded, AllGrounded, all_grounded}
-use Rattle.walk_model.proofs.places.Nested.{AreNested, IsNestedStep, open_past, seen_past}
+use Rattle.walk_model.proofs.places.Nested.{AreNested, open_past, seen_past}
 use Rattle.walk_model.proofs.places.Routes.{grounded, HasVar, GoesOut, AllGoOut, entering_goes, placed_goes, not_var}
 use Rattle.walk_model.proofs.refers.HeaderEnds.{flagged_prefix}
-use Rattle.binding_laws.specs.OneSymbol.{takes_by, NoneTakes, BindsIn, VarScopesKeepNames}
-use Rattle.binding_laws.specs.SeenDeclarations.{declared}
+use Rattle.binding_laws.specs.OneSymbol.{takes_by, VarScopesKeepNames}
 use Rattle.binding_laws.proofs.CatchNames.{IsNotCaught, none_caught, IsCatchStep, catch_steps}
 use Rattle.binding_laws.proofs.CutEvents.{placed_plain}
 use Rattle.binding_laws.proofs.CutSteps.{same_length}
@@ -151,12 +146,14 @@ module _ (fs : List ℕ) where
   declares_way chain ds [] g f h k = tt
   declares_way chain ds (d ∷ new) g f h k =
       let there : Declaration = placed ds d in
-      let goes : GoesOut chain there = placed_goes chain d.how ds d g.0 in
-      (record {
-        flagged = flagged_prefix fs there.route.passed there.route.target goes.rest (subst (AreFlagged fs) (sym goes.is) f);
-        passing = placed_passing d.how ds d refl h.0;
-        clausal = placed_clausal d.how ds d k.0;
-      }, declares_way chain ds new g.1 f h.1 k.1)
+      let goes : GoesOut chain there = placed_goes chain d.how ds d g.0 in (
+        record {
+          flagged = flagged_prefix fs there.route.passed there.route.target goes.rest (subst (AreFlagged fs) (sym goes.is) f);
+          passing = placed_passing d.how ds d refl h.0;
+          clausal = placed_clausal d.how ds d k.0;
+        },
+        declares_way chain ds new g.1 f h.1 k.1,
+      )
 
   solid_flagged : (chain : List OpenScope) → HasVar chain → AreFlagged fs chain → AreFlagged fs (grounded chain)
   solid_flagged [] v h = absurd (v refl)
