@@ -1,7 +1,7 @@
 -- The declarations of one name in one scope have one symbol.
 use Rattle.std.proofs.Common.{◌≡◌, ℕ, suc, ◌<◌, ◌≤◌, List, [], ◌∷◌, ◌++◌, Option, Some, None, Bool, true, false, cond, ◌&&◌, ◌==◌, bytes_eq, ◌⊎◌, inl, inr, refl, sym, ap, subst, ◌∙◌, length, flat_map, arith}
 use Rattle.std.specs.Prelude.{slice_get}
-use Rattle.std.proofs.lemmas.Bool.{and_left, and_right}
+use Rattle.std.proofs.lemmas.Bool.{and_left, and_right, cases_Bool}
 use Rattle.std.proofs.lemmas.Bool.Decides.{eqb_tells, Decides-ltb}
 use Rattle.std.proofs.lemmas.List.{length-append}
 use Rattle.semantic_kinds.specs.Roles.{same_role}
@@ -24,8 +24,10 @@ use Rattle.semantic_model.specs.Hoist.{rescoped, declare_by, act, run}
 use Rattle.semantic_model.specs.Place.{Place, OpenScope, innermost, parent_holds}
 use Rattle.semantic_model.specs.Step.{Step, entering, opening, header_ending, closing, leaving, steps}
 use Rattle.semantic_model.proofs.fold.EachDeclared.{EachDeclared}
-use Rattle.semantic_model.proofs.fold.Orders.{Adds, adds, table_of, orderly_events}
-use Rattle.semantic_model.proofs.fold.TakeOvers.{Ready, Orderly}
+use Rattle.semantic_model.proofs.alone.Homecoming.{takes, AllHomed, homed}
+use Rattle.semantic_model.proofs.alone.PlacesFollowed.{followed_program}
+use Rattle.semantic_model.proofs.fold.Declared.{AllEventsIn}
+use Rattle.semantic_model.proofs.fold.Orders.{Adds, adds, HasForm, table_of, root_body, steps_in, events_in}
 use Rattle.semantic_model.proofs.form.Clauses.{kind_is}
 use Rattle.semantic_model.proofs.form.Shape.{has_form}
 use Rattle.semantic_model.proofs.lists.BindingLaws.{same_key, get-put_same, get-put_other, get_among, get-take_over_other}
@@ -34,7 +36,6 @@ use Rattle.semantic_model.proofs.lists.Growth.{act_grows, run_grows, start_is_so
 use Rattle.semantic_model.proofs.lists.Members.{among_more}
 use Rattle.semantic_model.proofs.lists.SymbolLaws.{get-last, get-push}
 use Rattle.semantic_model.proofs.once.ListedUnder.{name_tells}
-use Rattle.semantic_model.proofs.once.TiedByName.{orderly_left, orderly_right}
 use Rattle.semantic_model.proofs.once.UseLists.{IsBelow}
 use Rattle.semantic_model.proofs.steps.Compose.{run-append}
 use Rattle.walk_model.specs.Walks.{numbers}
@@ -48,6 +49,7 @@ use Rattle.binding_laws.specs.OneSymbol.{takes_by, NoneTakes, BindsIn, OneSymbol
 use Rattle.binding_laws.proofs.CutEvents.{IsOwnPlain, placed_other, placed_plain}
 use Rattle.binding_laws.proofs.CutSteps.{opened_plain}
 use Rattle.binding_laws.proofs.KeptSymbols.{expression, IsBoundTo, Keeps, NoneBinds, IsFree, told_push, declared_keeps}
+use Rattle.binding_laws.proofs.Settled.{IsSettled, keeps_settled, settle_run, none_goes, never_taken, events_right, homed_right, takes_past}
 use Rattle.binding_laws.proofs.OwnNames.{AllOther, IsOwnName, entering_other, own_named, class_other, key_other}
 use Rattle.binding_laws.proofs.Growing.{same_flags}
 
@@ -182,23 +184,18 @@ module _ (c : ℕ) (x : Name) where
   none_below n st e h m a i = absurd (omega (arith, h m a, i.target, e))
 
   -- what a body takes over is no other scope's
-  take_keeps : (table : List (Option ℕ)) (a n : ℕ) (st : State) → Ready table st.made a n → MadeBelow n st → Keeps c x st → Keeps c x (act st (takes_over a n))
-  take_keeps table a n st r l h = record { bound_to = λ m k i. kept m k i; unremembered = h.unremembered; told = h.told }
+  take_keeps : (a n : ℕ) (st : State) → (a ≡ c → ⊥) → MadeBelow n st → Keeps c x st → Keeps c x (act st (takes_over a n))
+  take_keeps a n st r l h = record { bound_to = λ m k i. kept m k i; unremembered = h.unremembered; told = h.told }
     where
       kept : (m : Made) → Among m st.made → BindsIn c x m.declaration → IsBoundTo c x (act st (takes_over a n)) m
       kept m k i =
           let g : IsBoundTo c x st m = h.bound_to m k i in
           record {
-            bound = get-take_over_other st.bindings a n c x not_clause not_body ∙ g.bound;
+            bound = get-take_over_other st.bindings a n c x (λ e. r (sym e)) not_body ∙ g.bound;
             other = ap (λ f. meets f expression) (flags_taken (bound_by st.bindings a) st.symbols m.symbol) ∙ g.other;
             has = λ f v. ap (λ b. meets b f) (flags_taken (bound_by st.bindings a) st.symbols m.symbol) ∙ g.has f v;
           }
         where
-          not_clause : c ≡ a → ⊥
-          not_clause e =
-              let q : slice_get table a ≡ Some None = ap (slice_get table) (sym e ∙ sym i.target) ∙ r.targets m k ∙ ap Some i.no_clause in
-              let w : Some (Some n) ≡ Some None = sym r.clause ∙ q in absurd cc
-
           not_body : c ≡ n → ⊥
           not_body e = absurd (omega (arith, l m k, i.target, e))
 
@@ -218,25 +215,56 @@ module _ (c : ℕ) (x : Name) where
   opened_keep kind.TSMappedType p s ds st e f g n b h = declares_keep ds (declared_inside kind.TSMappedType p s) st (key_other p s) f b h
   opened_keep _ p s ds st e f g n b h = h
 
-  opening_keeps : (table : List (Option ℕ)) (ds : List Declaration) (n : ℕ) (p : Place) (s : OpenScope) (st : State) → s.number ≡ n → AllFree (events_of ds (opening p s)) → Orderly table st (events_of ds (opening p s)) → IsWithin n st → MadeBelow n st → IsSound st → Keeps c x st → Keeps c x (run st (events_of ds (opening p s)))
-  opening_keeps table ds n p s st q f o w l b h = by (is_catch_body p) refl f o
+  -- the body of another clause, or none
+  abbrev IsApart : Place → Type 0
+  IsApart p = is_catch_body p ≡ true → (innermost p.chain).number ≡ c → ⊥
+
+  opening_keeps : (ds : List Declaration) (n : ℕ) (p : Place) (s : OpenScope) (st : State) → IsApart p → s.number ≡ n → AllFree (events_of ds (opening p s)) → IsWithin n st → MadeBelow n st → IsSound st → Keeps c x st → Keeps c x (run st (events_of ds (opening p s)))
+  opening_keeps ds n p s st r q f w l b h = by (is_catch_body p) refl f
     where
       new : List Event
       new = declares_all ds (declared_on_opening p s)
 
-      by : (t : Bool) → is_catch_body p ≡ t → AllFree (cond t (takes_over (innermost p.chain).number s.number ∷ []) [] ++ new) → Orderly table st (cond t (takes_over (innermost p.chain).number s.number ∷ []) [] ++ new) → Keeps c x (run st (cond t (takes_over (innermost p.chain).number s.number ∷ []) [] ++ new))
-      by true e g r = subst (λ k. Keeps c x (run (act st (takes_over (innermost p.chain).number s.number)) (declares_all ds (declared_inside k p s)))) (sym (body_kind p e)) (take_keeps table (innermost p.chain).number s.number st r.0 (λ m a. subst (λ k. m.declaration.route.target.number < k) (sym q) (l m a)) h)
-      by false e g r = opened_keep p.node.kind p s ds st (opened_plain p s) g (subst (λ k. IsFresh k st) (sym q) (within_fresh n st w)) (λ i. none_below n st (sym q ∙ i) l) b h
+      by : (t : Bool) → is_catch_body p ≡ t → AllFree (cond t (takes_over (innermost p.chain).number s.number ∷ []) [] ++ new) → Keeps c x (run st (cond t (takes_over (innermost p.chain).number s.number ∷ []) [] ++ new))
+      by true e g =
+          subst (λ k. Keeps c x (run (act st (takes_over (innermost p.chain).number s.number)) (declares_all ds (declared_inside k p s)))) (sym (body_kind p e))
+          (take_keeps (innermost p.chain).number s.number st (r e) (λ m a. subst (λ k. m.declaration.route.target.number < k) (sym q) (l m a)) h)
+      by false e g = opened_keep p.node.kind p s ds st (opened_plain p s) g (subst (λ k. IsFresh k st) (sym q) (within_fresh n st w)) (λ i. none_below n st (sym q ∙ i) l) b h
 
   entering_keeps : (ds : List Declaration) (p : Place) (st : State) → AllFree (declares_all ds (declared_on_entering p)) → IsSound st → Keeps c x st → Keeps c x (run st (declares_all ds (declared_on_entering p)))
   entering_keeps ds p st f b h = declares_keep ds (declared_on_entering p) st (entering_other p.node.kind p) f b h
 
-  step_keeps : (table : List (Option ℕ)) (ds : List Declaration) (stack : List ℕ) (seen : List (List ℕ)) (step : Step) (st : State) → IsNestedStep stack seen step → AllFree (events_of ds step) → Orderly table st (events_of ds step) → IsWithin (length seen) st → MadeBelow (length seen) st → IsSound st → Keeps c x st → Keeps c x (run st (events_of ds step))
-  step_keeps table ds stack seen (entering p) st k f o w l b h = entering_keeps ds p st f b h
-  step_keeps table ds stack seen (opening p s) st k f o w l b h = opening_keeps table ds (length seen) p s st (ap (λ (t : OpenScope). t.number) k.1) f o w l b h
-  step_keeps table ds stack seen (header_ending p s) st k f o w l b h = record { bound_to = h.bound_to; unremembered = h.unremembered; told = h.told }
-  step_keeps table ds stack seen (closing p s) st k f o w l b h = h
-  step_keeps table ds stack seen (leaving p) st k f o w l b h = h
+  abbrev IsApartStep : Step → Type 0
+  IsApartStep (opening p s) = IsApart p
+  IsApartStep (entering p) = Unit {0}
+  IsApartStep (header_ending p s) = Unit {0}
+  IsApartStep (closing p s) = Unit {0}
+  IsApartStep (leaving p) = Unit {0}
+
+  -- the body of this clause
+  abbrev IsTaking : Step → Type 0
+  IsTaking (opening p s) = (is_catch_body p ≡ true) × ((innermost p.chain).number ≡ c)
+  IsTaking (entering p) = ⊥
+  IsTaking (header_ending p s) = ⊥
+  IsTaking (closing p s) = ⊥
+  IsTaking (leaving p) = ⊥
+
+  apart_or : (step : Step) → IsApartStep step ⊎ IsTaking step
+  apart_or (opening p s) = elim (cases_Bool (is_catch_body p)) [
+    | inr e ↦ inl (λ t i. let w : true ≡ false = sym t ∙ e in absurd cc)
+    | inl e ↦ elim (eqb_tells (innermost p.chain).number c) [ inl q ↦ inr (e, q.1) | inr q ↦ inl (λ t i. q.1 i) ]
+  ]
+  apart_or (entering p) = inl tt
+  apart_or (header_ending p s) = inl tt
+  apart_or (closing p s) = inl tt
+  apart_or (leaving p) = inl tt
+
+  step_keeps : (ds : List Declaration) (stack : List ℕ) (seen : List (List ℕ)) (step : Step) (st : State) → IsApartStep step → IsNestedStep stack seen step → AllFree (events_of ds step) → IsWithin (length seen) st → MadeBelow (length seen) st → IsSound st → Keeps c x st → Keeps c x (run st (events_of ds step))
+  step_keeps ds stack seen (entering p) st r k f w l b h = entering_keeps ds p st f b h
+  step_keeps ds stack seen (opening p s) st r k f w l b h = opening_keeps ds (length seen) p s st r (ap (λ (t : OpenScope). t.number) k.1) f w l b h
+  step_keeps ds stack seen (header_ending p s) st r k f w l b h = record { bound_to = h.bound_to; unremembered = h.unremembered; told = h.told }
+  step_keeps ds stack seen (closing p s) st r k f w l b h = h
+  step_keeps ds stack seen (leaving p) st r k f w l b h = h
 
   taken_below : (n : ℕ) (p : Place) (s : OpenScope) (st : State) → MadeBelow n st → MadeBelow n (run st (taken_over p s))
   taken_below n p s st h = by (is_catch_body p)
@@ -262,28 +290,72 @@ module _ (c : ℕ) (x : Name) where
   step_below ds stack seen (closing p s) ss st k g h = h
   step_below ds stack seen (leaving p) ss st k g h = h
 
-  steps_keep : (table : List (Option ℕ)) (ds : List Declaration) (stack : List ℕ) (seen : List (List ℕ)) (ss : List Step) (st : State) → AreNested stack seen ss → AllGrounded ss → AllFree (flat_map (events_of ds) ss) → Orderly table st (flat_map (events_of ds) ss) → IsWithin (length seen) st → MadeBelow (length seen) st → IsSound st → Keeps c x st
-      → Keeps c x (run st (flat_map (events_of ds) ss))
-  steps_keep table ds stack seen [] st k g f o w l b h = h
-  steps_keep table ds stack seen (step ∷ ss) st k g f o w l b h =
-      let es : List Event = events_of ds step in
-      let rest : List Event = flat_map (events_of ds) ss in
-      subst (Keeps c x) (sym (run-append es rest st))
-      (steps_keep table ds (open_past stack step) (seen_past seen step) ss (run st es) k.1 g.1 (free_right es rest f) (orderly_right table st es rest o) (within_step ds st stack seen step k.0 g.0 w) (step_below ds stack seen step ss st k.0 g l) (run_grows st es b).sound
-      (step_keeps table ds stack seen step st k.0 (free_left es rest f) (orderly_left table st es rest o) w l b h))
+  -- the clause's own body takes over
+  taken_settles : (table : List (Option ℕ)) (root : slice_get table 0 ≡ Some None) (ds : List Declaration) (stack : List ℕ) (seen : List (List ℕ)) (p : Place) (s : OpenScope) (ss : List Step) (st : State) → is_catch_body p ≡ true → (innermost p.chain).number ≡ c → AreNested stack seen (opening p s ∷ ss)
+      → AllEventsIn table root (flat_map (events_of ds) (opening p s ∷ ss)) → AllHomed (flat_map (events_of ds) (opening p s ∷ ss)) → Keeps c x st → IsSettled c x (run st (flat_map (events_of ds) (opening p s ∷ ss)))
+  taken_settles table root ds stack seen p s ss st e q k i o h = by (is_catch_body p) e i o
+    where
+      new : List Event
+      new = declares_all ds (declared_on_opening p s)
+
+      rest : List Event
+      rest = flat_map (events_of ds) ss
+
+      taken : State
+      taken = act st (takes_over (innermost p.chain).number s.number)
+
+      number : s.number ≡ length seen
+      number = ap (λ (t : OpenScope). t.number) k.0.1
+
+      less : s.number < length (seen_past seen (opening p s))
+      less = omega (arith, number, length-append seen (numbers p.chain ∷ []))
+
+      never : slice_get table c ≡ Some (Some s.number) → AllEventsIn table root rest → takes c (new ++ rest) ≡ false
+      never t j = takes_past c ds (declared_on_opening p s) rest ∙ never_taken table root c s.number ds (open_past stack (opening p s)) (seen_past seen (opening p s)) ss t less k.1 j
+
+      settled : IsSettled c x taken
+      settled = let g : IsSettled c x st = keeps_settled c x st h in record { same = g.same; told = g.told }
+
+      by : (y : Bool) → y ≡ true → AllEventsIn table root ((cond y (takes_over (innermost p.chain).number s.number ∷ []) [] ++ new) ++ rest) → AllHomed ((cond y (takes_over (innermost p.chain).number s.number ∷ []) [] ++ new) ++ rest)
+          → IsSettled c x (run st ((cond y (takes_over (innermost p.chain).number s.number ∷ []) [] ++ new) ++ rest))
+      by true z j g =
+          let t : slice_get table c ≡ Some (Some s.number) = ap (slice_get table) (sym q) ∙ j.0.0 in
+          settle_run c x (new ++ rest) taken (none_goes c x table root s.number (new ++ rest) t j.1 g (never t (events_right table root new rest j.1))) settled
+      by false z j g = absurd cc
+
+  steps_settle : (table : List (Option ℕ)) (root : slice_get table 0 ≡ Some None) (ds : List Declaration) (stack : List ℕ) (seen : List (List ℕ)) (ss : List Step) (st : State) → AreNested stack seen ss → AllGrounded ss → AllFree (flat_map (events_of ds) ss) → AllEventsIn table root (flat_map (events_of ds) ss) → AllHomed (flat_map (events_of ds) ss) → IsWithin (length seen) st → MadeBelow (length seen) st → IsSound st → Keeps c x st
+      → IsSettled c x (run st (flat_map (events_of ds) ss))
+  steps_settle table root ds stack seen [] st k g f i o w l b h = keeps_settled c x st h
+  steps_settle table root ds stack seen (step ∷ ss) st k g f i o w l b h = elim (apart_or step) [
+    | inl r ↦ subst (IsSettled c x) (sym (run-append es rest st))
+        (steps_settle table root ds (open_past stack step) (seen_past seen step) ss (run st es) k.1 g.1 (free_right es rest f) (events_right table root es rest i) (homed_right es rest o) (within_step ds st stack seen step k.0 g.0 w) (step_below ds stack seen step ss st k.0 g l) (run_grows st es b).sound
+        (step_keeps ds stack seen step st r k.0 (free_left es rest f) w l b h))
+    | inr r ↦ settles step r k i o
+  ]
+    where
+      es : List Event
+      es = events_of ds step
+
+      rest : List Event
+      rest = flat_map (events_of ds) ss
+
+      settles : (t : Step) → IsTaking t → AreNested stack seen (t ∷ ss) → AllEventsIn table root (flat_map (events_of ds) (t ∷ ss)) → AllHomed (flat_map (events_of ds) (t ∷ ss)) → IsSettled c x (run st (flat_map (events_of ds) (t ∷ ss)))
+      settles (opening p s) r k2 i2 o2 = taken_settles table root ds stack seen p s ss st r.0 r.1 k2 i2 o2 h
+      settles (entering p) r k2 i2 o2 = absurd r
+      settles (header_ending p s) r k2 i2 o2 = absurd r
+      settles (closing p s) r k2 i2 o2 = absurd r
+      settles (leaving p) r k2 i2 o2 = absurd r
 
 module _ (p : Tree) where
-  end_keeps : first_fault p ≡ None → (c : ℕ) (x : Name) → NoneTakes p c x → Keeps c x (run start (events (steps p)))
-  end_keeps h c x none =
-      steps_keep c x (table_of p) (written_declarations (steps p)) [] [] (steps p) start (program_nested p) (all_grounded p h) (all_free c x (events (steps p)) none) (orderly_events p (has_form p h))
-      (record { bindings = λ e q. absurd q; remembered = λ e q. absurd q }) (λ e q. absurd q) start_is_sound (record { bound_to = λ e q. absurd q; unremembered = refl; told = λ m n f. absurd f })
+  end_settled : first_fault p ≡ None → (c : ℕ) (x : Name) → NoneTakes p c x → IsSettled c x (run start (events (steps p)))
+  end_settled h c x none =
+      let f : HasForm p = has_form p h in
+      let ds : List Declaration = written_declarations (steps p) in
+      steps_settle c x (table_of p) (root_body p f) ds [] [] (steps p) start (program_nested p) (all_grounded p h) (all_free c x (events (steps p)) none) (events_in p f) (homed (table_of p) (root_body p f) ds (steps p) (steps_in p f) (followed_program p f))
+      (record { bindings = λ e q. absurd q; remembered = λ e q. absurd q }) (λ e q. absurd q) start_is_sound (record { bound_to = λ e q. absurd q; unremembered = refl; told = λ m n g. absurd g })
 
   pub one_symbol_each : first_fault p ≡ None → OneSymbolEach p
-  one_symbol_each h c x none m n a b i j =
-      let kept : Keeps c x (run start (events (steps p))) = end_keeps h c x none in
-      let e : Some m.symbol ≡ Some n.symbol = sym (kept.bound_to m a i).bound ∙ (kept.bound_to n b j).bound in
-      let w : m.symbol ≡ n.symbol = cc in
-      w
+  one_symbol_each h c x none m n a b i j = (end_settled h c x none).same m n a b i j
 
   pub conflicts_are_told : first_fault p ≡ None → ConflictsAreTold p
-  conflicts_are_told h c x none = (end_keeps h c x none).told
+  conflicts_are_told h c x none = (end_settled h c x none).told

@@ -46,7 +46,7 @@ module _ (c : ℕ) (x : Name) where
   told_later : (n : Made) (ks ls : List Conflict) → ((k : Conflict) → Among k ks → Among k ls) → IsTold n.declaration ks → IsTold n.declaration ls
   told_later n ks ls f h = record { earlier = h.earlier; among = f _ h.among }
 
-  all_later : (ms : List Made) (ks ls : List Conflict) → ((k : Conflict) → Among k ks → Among k ls) → AreTold ms ks → AreTold ms ls
+  pub all_later : (ms : List Made) (ks ls : List Conflict) → ((k : Conflict) → Among k ks → Among k ls) → AreTold ms ks → AreTold ms ls
   all_later ms ks ls f h m n o i j e = told_later n ks ls f (h m n o i j e)
 
   follows_push : (m n k : Made) (ms : List Made) → Follows m n (ms ++ k ∷ []) → Follows m n ms ⊎ (Among m ms × (k ≡ n))
@@ -140,7 +140,7 @@ module _ (c : ℕ) (x : Name) where
   ]
 
   -- where it doesn't bind the name
-  told_more : (st new : State) (d : Declaration) → Adds st.made d new.made → (BindsIn c x d → ⊥) → AreTold st.made new.conflicts → AreTold new.made new.conflicts
+  pub told_more : (st new : State) (d : Declaration) → Adds st.made d new.made → (BindsIn c x d → ⊥) → AreTold st.made new.conflicts → AreTold new.made new.conflicts
   told_more st new d w f h = subst (λ ms. AreTold ms new.conflicts) (sym w.adds) (told_push st.made (record { declaration = d; symbol = w.symbol }) new.conflicts h (λ m a i j e. absurd (f j)))
 
   unchanged_keeps : (st new : State) (d : Declaration) → Unchanged st new → Grown d.naming.flags st new → KeepConflicts st new → is_own_name d ≡ false → Adds st.made d new.made → (BindsIn c x d → ⊥) → IsSound st → Keeps st → Keeps new

@@ -8,6 +8,7 @@ pub mod HeaderFold
 pub mod TiedOutward
 pub mod Growing
 pub mod KeptSymbols
+pub mod Settled
 pub mod KeptSteps
 pub mod SymbolsAtNodes
 pub mod CatchNames

@@ -30,11 +30,10 @@ NoneTakes p c x = (d : Declaration) → Among d (declarations (events (steps p))
 abbrev pub Stays : Declaration → Type 0
 Stays d = (d.how ≡ plain) ⊎ ((d.how ≡ hoisted) × (d.route.passed ≡ []))
 
--- it binds the name in the scope, which is no catch clause's, and is no function expression's own name
+-- it binds the name in the scope, and is no function expression's own name
 pub record BindsIn (c : ℕ) (x : Name) (d : Declaration) : Type 0 where
   pub stays : Stays d
   pub target : d.route.target.number ≡ c
-  pub no_clause : d.route.target.body ≡ None
   pub named : d.naming.name ≡ x
   pub other : is_own_name d ≡ false
 
