@@ -13,3 +13,4 @@ pub mod KeptSteps
 pub mod SymbolsAtNodes
 pub mod CatchNames
 pub mod VarScopes
+pub mod OneSymbolEach

@@ -4,7 +4,7 @@ use Rattle.std.specs.Prelude.{slice_get}
 use Rattle.std.proofs.lemmas.Bool.{ne_eqb, or_parts}
 use Rattle.semantic_syntax.specs.Tables.{Name}
 use Rattle.semantic_model.specs.Binder.{declared_on_entering, declared_on_opening}
-use Rattle.semantic_model.specs.Declaration.{Declaration}
+use Rattle.semantic_model.specs.Declaration.{How, plain, hoisted, moved, caught, Declaration, stands_in}
 use Rattle.semantic_model.specs.Entries.{Among}
 use Rattle.semantic_model.specs.Event.{Event, declares, takes_over, ends_header, is_catch_body, declares_all, events_of}
 use Rattle.semantic_model.specs.Fold.{State, Made}
@@ -12,11 +12,12 @@ use Rattle.semantic_model.specs.Hoist.{act, run}
 use Rattle.semantic_model.specs.Place.{OpenScope, innermost}
 use Rattle.semantic_model.specs.Step.{Step, entering, opening, header_ending, closing, leaving}
 use Rattle.semantic_model.proofs.alone.Homecoming.{takes, AllHomed}
+use Rattle.semantic_model.proofs.fold.Actions.{StandsInBlock}
 use Rattle.semantic_model.proofs.fold.Declared.{AllEventsIn}
 use Rattle.semantic_model.proofs.fold.Orders.{Adds, adds}
 use Rattle.semantic_model.proofs.lists.Members.{among_more}
 use Rattle.walk_model.proofs.places.Nested.{AreNested, open_past, seen_past, seen_longer}
-use Rattle.binding_laws.specs.OneSymbol.{BindsIn}
+use Rattle.binding_laws.specs.OneSymbol.{first_scope, BindsIn}
 use Rattle.binding_laws.proofs.Growing.{conflicts_stay}
 use Rattle.binding_laws.proofs.KeptSymbols.{AreTold, Keeps, all_later, told_more}
 
@@ -66,13 +67,13 @@ module _ (table : List (Option ℕ)) (root : slice_get table 0 ≡ Some None) wh
   never_taken c b ds stack seen (closing p s ∷ ss) t l k i = never_taken c b ds (open_past stack (closing p s)) seen ss t l k.1 i
   never_taken c b ds stack seen (leaving p ∷ ss) t l k i = never_taken c b ds stack seen ss t l k.1 i
 
-module _ (c : ℕ) (x : Name) where
+module _ (block : Bool) (c : ℕ) (x : Name) where
   -- what was declared has one symbol, and its conflicts are told
   pub record IsSettled (st : State) : Type 0 where
     pub same : (m n : Made) → Among m st.made → Among n st.made → BindsIn c x m.declaration → BindsIn c x n.declaration → m.symbol ≡ n.symbol
-    pub told : AreTold c x st.made st.conflicts
+    pub told : AreTold block c x st.made st.conflicts
 
-  pub keeps_settled : (st : State) → Keeps c x st → IsSettled st
+  pub keeps_settled : (st : State) → Keeps block c x st → IsSettled st
   keeps_settled st h = record {
     same = λ m n a b i j.
         let e : Some m.symbol ≡ Some n.symbol = sym (h.bound_to m a i).bound ∙ (h.bound_to n b j).bound in
@@ -83,17 +84,17 @@ module _ (c : ℕ) (x : Name) where
   -- nothing is declared in the scope
   abbrev pub NoneGoes : List Event → Type 0
   NoneGoes [] = Unit {0}
-  NoneGoes (declares d ∷ es) = (d.route.target.number ≡ c → ⊥) × NoneGoes es
+  NoneGoes (declares d ∷ es) = (first_scope d.how d ≡ c → ⊥) × NoneGoes es
   NoneGoes (takes_over a b ∷ es) = NoneGoes es
   NoneGoes (ends_header a ∷ es) = NoneGoes es
 
-  settled_declare : (st : State) (d : Declaration) → (d.route.target.number ≡ c → ⊥) → IsSettled st → IsSettled (act st (declares d))
+  settled_declare : (st : State) (d : Declaration) → (first_scope d.how d ≡ c → ⊥) → IsSettled st → IsSettled (act st (declares d))
   settled_declare st d n h = record {
     same = λ m k a b i j. elim (earlier m a) [
       | inl a2 ↦ elim (earlier k b) [ inl b2 ↦ h.same m k a2 b2 i j | inr q ↦ absurd (out k q j) ]
       | inr q ↦ absurd (out m q i)
     ];
-    told = told_more c x st (act st (declares d)) d w (λ i. n i.target) (all_later c x st.made st.conflicts (act st (declares d)).conflicts (conflicts_stay st d) h.told);
+    told = told_more block c x st (act st (declares d)) d w (λ i. n i.scope) (all_later block c x st.made st.conflicts (act st (declares d)).conflicts (conflicts_stay st d) h.told);
   }
     where
       w : Adds st.made d (act st (declares d)).made
@@ -103,7 +104,7 @@ module _ (c : ℕ) (x : Name) where
       earlier m a = among_more m (record { declaration = d; symbol = w.symbol }) st.made (subst (Among m) w.adds a)
 
       out : (m : Made) → record { declaration = d; symbol = w.symbol } ≡ m → BindsIn c x m.declaration → ⊥
-      out m q i = n (subst (λ (k : Made). BindsIn c x k.declaration) (sym q) i).target
+      out m q i = n (subst (λ (k : Made). BindsIn c x k.declaration) (sym q) i).scope
 
   pub settle_run : (es : List Event) (st : State) → NoneGoes es → IsSettled st → IsSettled (run st es)
   settle_run [] st n h = h
@@ -114,12 +115,20 @@ module _ (c : ℕ) (x : Name) where
   -- behind the take-over
   pub none_goes : (table : List (Option ℕ)) (root : slice_get table 0 ≡ Some None) (b : ℕ) (es : List Event) → slice_get table c ≡ Some (Some b) → AllEventsIn table root es → AllHomed es → takes c es ≡ false → NoneGoes es
   none_goes table root b [] t i h n = tt
-  none_goes table root b (declares d ∷ es) t i h n = (apart, none_goes table root b es t i.1 h.1 n)
+  none_goes table root b (declares d ∷ es) t i h n = (apart d.how refl, none_goes table root b es t i.1 h.1 n)
     where
-      apart : d.route.target.number ≡ c → ⊥
-      apart e =
+      at_target : d.route.target.number ≡ c → ⊥
+      at_target e =
           let q : Some d.route.target.body ≡ Some (Some b) = sym i.0.target.entry ∙ ap (slice_get table) e ∙ t in
           let body : d.route.target.body ≡ Some b = cc in
           let w : true ≡ false = sym (h.0 b body) ∙ ap (λ k. takes k es) e ∙ n in absurd cc
+
+      apart : (how : How) → d.how ≡ how → first_scope how d ≡ c → ⊥
+      apart plain q e = at_target e
+      apart hoisted q e = at_target e
+      apart caught q e = at_target e
+      apart moved q e =
+          let k : slice_get table (stands_in d) ≡ Some None = subst (λ how. StandsInBlock table how d) q i.0.block in
+          let w : Some (Some b) ≡ Some None = sym t ∙ ap (slice_get table) (sym e) ∙ k in absurd cc
   none_goes table root b (takes_over a y ∷ es) t i h n = none_goes table root b es t i.1 h (or_parts (a == c) (takes c es) n).1
   none_goes table root b (ends_header a ∷ es) t i h n = none_goes table root b es t i.1 h n

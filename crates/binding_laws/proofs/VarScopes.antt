@@ -1,5 +1,5 @@
--- No declaration takes a name from a scope where `var` goes.
-use Rattle.std.proofs.Common.{◌≡◌, ℕ, zero, suc, List, [], ◌∷◌, ◌++◌, Option, Some, None, Bool, true, false, cond, ◌||◌, inl, inr, refl, sym, ap, subst, ◌∙◌, length, map, flat_map, if◌then◌else◌, arith}
+-- What reaches past scopes goes to one where `var` goes, and passes none.
+use Rattle.std.proofs.Common.{◌≡◌, ℕ, zero, suc, List, [], ◌∷◌, ◌++◌, Option, Some, None, Bool, true, false, cond, ◌||◌, ◌⊎◌, inl, inr, refl, sym, ap, subst, ◌∙◌, length, map, flat_map, if◌then◌else◌, arith}
 use Rattle.std.specs.Prelude.{slice_get}
 use Rattle.std.proofs.lemmas.Bool.{ne_eqb, cases_Bool}
 use Rattle.semantic_kinds.specs.Kinds.{same_kind}
@@ -26,7 +26,7 @@ use Rattle.walk_model.proofs.headers.Headed.{AreFlagged, AreHeaded, awaiting_pas
 use Rattle.walk_model.proofs.headers.HeadedProgram.{program_headed}
 use Rattle.walk_model.proofs.places.Grounds.{IsGrounded, AllGrounded, all_grounded}
 use Rattle.walk_model.proofs.places.Nested.{AreNested, open_past, seen_past}
-use Rattle.walk_model.proofs.places.Routes.{grounded, HasVar, GoesOut, AllGoOut, entering_goes, placed_goes, not_var}
+use Rattle.walk_model.proofs.places.Routes.{grounded, HasVar, GoesOut, AllGoOut, entering_goes, placed_goes, not_var, Leaves}
 use Rattle.walk_model.proofs.refers.HeaderEnds.{flagged_prefix}
 use Rattle.binding_laws.specs.OneSymbol.{takes_by, VarScopesKeepNames}
 use Rattle.binding_laws.proofs.CatchNames.{IsNotCaught, none_caught, IsCatchStep, catch_steps}
@@ -51,6 +51,44 @@ before_var (s ∷ ss) = by (is_var s) refl (before_var ss)
     by : (b : Bool) → is_var s ≡ b → NoneVar (passed_before is_var ss) → NoneVar (cond b [] (s ∷ passed_before is_var ss))
     by true e h = tt
     by false e h = (e, h)
+
+-- and comes to one
+abbrev IsReaching : How → Route → Type 0
+IsReaching hoisted r = (r.passed ≡ [] → ⊥) → is_var r.target ≡ true
+IsReaching moved r = (r.passed ≡ [] → ⊥) → is_var r.target ≡ true
+IsReaching _ r = Unit {0}
+
+first_is_var : (chain : List OpenScope) (t : OpenScope) → first_with is_var chain ≡ Some t → is_var t ≡ true
+first_is_var [] t e = absurd cc
+first_is_var (s ∷ ss) t e = by (is_var s) refl e (first_is_var ss t)
+  where
+    by : (b : Bool) → is_var s ≡ b → cond b (Some s) (first_with is_var ss) ≡ Some t → (first_with is_var ss ≡ Some t → is_var t ≡ true) → is_var t ≡ true
+    by true v q later = let i : s ≡ t = cc in subst (λ o. is_var o ≡ true) i v
+    by false v q later = later q
+
+route_reaching : (chain ss passed : List OpenScope) → (route_from chain passed (first_with is_var ss)).passed ≡ [] ⊎ (is_var (route_from chain passed (first_with is_var ss)).target ≡ true)
+route_reaching chain ss passed = by (first_with is_var ss) refl
+  where
+    by : (o : Option OpenScope) → first_with is_var ss ≡ o → (route_from chain passed o).passed ≡ [] ⊎ (is_var (route_from chain passed o).target ≡ true)
+    by None e = inl refl
+    by (Some t) e = inr (first_is_var ss t e)
+
+reaching : (r : Route) → r.passed ≡ [] ⊎ (is_var r.target ≡ true) → (r.passed ≡ [] → ⊥) → is_var r.target ≡ true
+reaching r (inl e) n = absurd (n e)
+reaching r (inr v) n = v
+
+past_reaching : (chain : List OpenScope) → IsReaching moved (outward_past is_var chain)
+past_reaching [] n = absurd (n refl)
+past_reaching (s ∷ ss) n = reaching (outward_past is_var (s ∷ ss)) (route_reaching (s ∷ ss) ss (s ∷ passed_before is_var ss)) n
+
+entering_reaching : (k : AstType) (p : Place) → EachDeclared (λ d. IsReaching d.how d.route) (declared_by k p)
+entering_reaching k p = each_on_entering (λ d. IsReaching d.how d.route) IsReaching (λ node row is_pure name h. h) k p (record {
+  at_home = tt;
+  when_caught = tt;
+  when_hoisted = λ e. reaching (outward_to is_var p.chain) (route_reaching p.chain p.chain (passed_before is_var p.chain));
+  when_moved = λ e s b. past_reaching p.chain;
+  when_inferred = tt;
+})
 
 outward_passing : (chain : List OpenScope) → IsPassing hoisted (outward_to is_var chain)
 outward_passing chain = by (first_with is_var chain)
@@ -108,6 +146,8 @@ module _ (fs : List ℕ) where
     flagged : AreFlagged fs (d.route.passed ++ d.route.target ∷ [])
     passing : IsPassing d.how d.route
     clausal : IsClausal d
+    reaches : IsReaching d.how d.route
+    leaves : Leaves d.how d.route.passed
 
   abbrev AllOnWay : List Event → Type 0
   AllOnWay [] = Unit {0}
@@ -142,17 +182,29 @@ module _ (fs : List ℕ) where
       by true = λ i. absurd cc
       by false = h
 
-  declares_way : (chain : List OpenScope) (ds new : List Declaration) → AllGoOut chain new → AreFlagged fs (grounded chain) → EachDeclared (λ d. IsPassing d.how d.route) new → EachDeclared IsClausal new → AllOnWay (declares_all ds new)
-  declares_way chain ds [] g f h k = tt
-  declares_way chain ds (d ∷ new) g f h k =
+  placed_reaching : (how : How) (ds : List Declaration) (d : Declaration) → d.how ≡ how → IsReaching how d.route → IsReaching (placed_by how ds d).how (placed_by how ds d).route
+  placed_reaching plain ds d e h = rw e tt
+  placed_reaching caught ds d e h = rw e tt
+  placed_reaching hoisted ds d e h = rw e h
+  placed_reaching moved ds d e h = by (is_barred ds d (outside d.route.passed))
+    where
+      by : (b : Bool) → IsReaching (if b then staying d else d).how (if b then staying d else d).route
+      by true = tt
+      by false = rw e h
+
+  declares_way : (chain : List OpenScope) (ds new : List Declaration) → AllGoOut chain new → AreFlagged fs (grounded chain) → EachDeclared (λ d. IsPassing d.how d.route) new → EachDeclared IsClausal new → EachDeclared (λ d. IsReaching d.how d.route) new → AllOnWay (declares_all ds new)
+  declares_way chain ds [] g f h k r = tt
+  declares_way chain ds (d ∷ new) g f h k r =
       let there : Declaration = placed ds d in
       let goes : GoesOut chain there = placed_goes chain d.how ds d g.0 in (
         record {
           flagged = flagged_prefix fs there.route.passed there.route.target goes.rest (subst (AreFlagged fs) (sym goes.is) f);
           passing = placed_passing d.how ds d refl h.0;
           clausal = placed_clausal d.how ds d k.0;
+          reaches = placed_reaching d.how ds d refl r.0;
+          leaves = goes.leaves;
         },
-        declares_way chain ds new g.1 f h.1 k.1,
+        declares_way chain ds new g.1 f h.1 k.1 r.1,
       )
 
   solid_flagged : (chain : List OpenScope) → HasVar chain → AreFlagged fs chain → AreFlagged fs (grounded chain)
@@ -161,13 +213,15 @@ module _ (fs : List ℕ) where
 
   entering_way : (ds : List Declaration) (p : Place) → IsGrounded p → AreFlagged fs p.chain → (p.node.kind ≡ kind.CatchParameter → is_var (innermost p.chain) ≡ false) → AllOnWay (declares_all ds (declared_on_entering p))
   entering_way ds p (inr e) f k = subst (λ new. AllOnWay (declares_all ds new)) (sym (root_declares_none p e)) tt
-  entering_way ds p (inl v) f k = declares_way p.chain ds (declared_on_entering p) (entering_goes p.node.kind p v) (solid_flagged p.chain v f) (entering_passing p.node.kind p) (entering_clausal p k)
+  entering_way ds p (inl v) f k = declares_way p.chain ds (declared_on_entering p) (entering_goes p.node.kind p v) (solid_flagged p.chain v f) (entering_passing p.node.kind p) (entering_clausal p k) (entering_reaching p.node.kind p)
 
   own_way : (s : OpenScope) (d : Declaration) → d.how ≡ plain → d.route ≡ here (s ∷ []) → slice_get fs s.number ≡ Some s.flags → IsOnWay d
   own_way s d e q f = record {
     flagged = subst (λ (r : Route). AreFlagged fs (r.passed ++ r.target ∷ [])) (sym q) (f, tt);
     passing = rw e tt;
     clausal = λ i. let w : plain ≡ caught = sym e ∙ i in absurd cc;
+    reaches = rw e tt;
+    leaves = rw e tt;
   }
 
   opened_way : (s : OpenScope) (ds new : List Declaration) → slice_get fs s.number ≡ Some s.flags → EachDeclared (λ d. (d.how ≡ plain) × (d.route ≡ here (s ∷ []))) new → AllOnWay (declares_all ds new)
@@ -235,21 +289,34 @@ module _ (fs : List ℕ) where
 
   takes_none : (how : How) (d : Declaration) (t : OpenScope) (c : ℕ) → d.how ≡ how → IsOnWay d → slice_get fs c ≡ Some t.flags → is_var t ≡ true → takes_by how c d ≡ false
   takes_none plain d t c e w k v = refl
+  takes_none moved d t c e w k v = refl
   takes_none hoisted d t c e w k v = passed_clear d.route.passed d.route.target t c (subst (λ how. IsPassing how d.route) e w.passing) w.flagged k v
-  takes_none moved d t c e w k v = ne_eqb (stands_in d) c (no_var (scope_it_stands_in d) t c (subst (λ how. IsPassing how d.route) e w.passing) (flagged_first d.route.passed d.route.target w.flagged) k v)
   takes_none caught d t c e w k v = ne_eqb d.route.target.number c (no_var d.route.target t c (w.clausal e) (flagged_last d.route.passed d.route.target w.flagged) k v)
 
-pub var_scopes_keep_names : (p : Tree) → first_fault p ≡ None → VarScopesKeepNames p
-var_scopes_keep_names p h c x m a i v d b n = takes_none fs d.how d m.declaration.route.target c refl (way_of fs (events (steps p)) d all b) flags v
-  where
-    fs : List ℕ
-    fs = flags_after [] (steps p)
+  -- where a block function begins, nothing comes from further in
+  none_comes : (f d : Declaration) → IsOnWay f → IsOnWay d → f.how ≡ moved → is_var d.route.target ≡ true → d.route.target.number ≡ stands_in f → ⊥
+  none_comes f d wf wd e v q = no_var (scope_it_stands_in f) d.route.target (stands_in f) (subst (λ how. IsPassing how f.route) e wf.passing) (flagged_first f.route.passed f.route.target wf.flagged)
+      (ap (slice_get fs) (sym q) ∙ flagged_last d.route.passed d.route.target wd.flagged) v refl
 
-    all : AllOnWay fs (events (steps p))
-    all = steps_way fs (written_declarations (steps p)) [] [] [] [] (steps p) refl (program_headed p h) (program_nested p) (all_grounded p h) (catch_steps p h) refl
+module _ (p : Tree) (h : first_fault p ≡ None) where
+  abbrev fs : List ℕ
+  fs = flags_after [] (steps p)
 
-    among : Among m.declaration (declarations (events (steps p)))
-    among = elim (made_declared m start (events (steps p)) a) [ inl k ↦ absurd k | inr k ↦ k ]
+  all : AllOnWay fs (events (steps p))
+  all = steps_way fs (written_declarations (steps p)) [] [] [] [] (steps p) refl (program_headed p h) (program_nested p) (all_grounded p h) (catch_steps p h) refl
 
-    flags : slice_get fs c ≡ Some m.declaration.route.target.flags
-    flags = ap (slice_get fs) (sym i.target) ∙ flagged_last fs m.declaration.route.passed m.declaration.route.target (way_of fs (events (steps p)) m.declaration all among).flagged
+  on_way : (d : Declaration) → Among d (declarations (events (steps p))) → IsOnWay fs d
+  on_way d a = way_of fs (events (steps p)) d all a
+
+  pub var_scopes_keep_names : VarScopesKeepNames p
+  var_scopes_keep_names x m a v d b n = takes_none fs d.how d m.declaration.route.target m.declaration.route.target.number refl (on_way d b) (flagged_last fs m.declaration.route.passed m.declaration.route.target (on_way m.declaration among).flagged) v
+    where
+      among : Among m.declaration (declarations (events (steps p)))
+      among = elim (made_declared m start (events (steps p)) a) [ inl k ↦ absurd k | inr k ↦ k ]
+
+  -- neither a `var` from further in nor another block function comes to the block of a block function
+  pub hoisted_apart : (f d : Declaration) → Among f (declarations (events (steps p))) → Among d (declarations (events (steps p))) → f.how ≡ moved → d.how ≡ hoisted → (d.route.passed ≡ [] → ⊥) → d.route.target.number ≡ stands_in f → ⊥
+  hoisted_apart f d a b e i n q = none_comes fs f d (on_way f a) (on_way d b) e (subst (λ how. IsReaching how d.route) i (on_way d b).reaches n) q
+
+  pub moved_apart : (f d : Declaration) → Among f (declarations (events (steps p))) → Among d (declarations (events (steps p))) → f.how ≡ moved → d.how ≡ moved → d.route.target.number ≡ stands_in f → ⊥
+  moved_apart f d a b e i q = none_comes fs f d (on_way f a) (on_way d b) e (subst (λ how. IsReaching how d.route) i (on_way d b).reaches (subst (λ how. Leaves how d.route.passed) i (on_way d b).leaves)) q

@@ -15,25 +15,30 @@ use Rattle.semantic_model.specs.Hoist.{run}
 use Rattle.semantic_model.specs.Step.{steps}
 use Rattle.binding_laws.specs.SeenDeclarations.{declared, is_own_name}
 
--- whether it takes its name from the scope: a `var` that passes it, a block function that moves out of it, a catch name, which is always new
+-- whether it takes its name from the scope: a `var` that passes it, a plain catch name, which is always new
 abbrev pub takes_by : How → ℕ → Declaration → Bool
 takes_by plain c d = false
 takes_by hoisted c d = contains (map (λ s. s.number) d.route.passed) c
-takes_by moved c d = stands_in d == c
+takes_by moved c d = false
 takes_by caught c d = d.route.target.number == c
 
 -- no declaration of the program takes the name from the scope
 abbrev pub NoneTakes : Tree → ℕ → Name → Type 0
 NoneTakes p c x = (d : Declaration) → Among d (declarations (events (steps p))) → d.naming.name ≡ x → takes_by d.how c d ≡ false
 
--- it reaches past no scope for its symbol, as `let`, classes, imports and types, parameters, and a `var` at the top of its function
-abbrev pub Stays : Declaration → Type 0
-Stays d = (d.how ≡ plain) ⊎ ((d.how ≡ hoisted) × (d.route.passed ≡ []))
+-- the scope in which it is declared first: the block of a block function, which may move then, and else its target
+abbrev pub first_scope : How → Declaration → ℕ
+first_scope moved d = stands_in d
+first_scope _ d = d.route.target.number
 
--- it binds the name in the scope, and is no function expression's own name
+-- no other scope is asked for its symbol, as of `let`, classes, functions, imports and types, parameters, and a `var` at the top of its function
+abbrev pub Stays : Declaration → Type 0
+Stays d = (d.how ≡ plain) ⊎ ((d.how ≡ moved) ⊎ ((d.how ≡ hoisted) × (d.route.passed ≡ [])))
+
+-- it declares the name in the scope, and is no function expression's own name
 pub record BindsIn (c : ℕ) (x : Name) (d : Declaration) : Type 0 where
   pub stays : Stays d
-  pub target : d.route.target.number ≡ c
+  pub scope : first_scope d.how d ≡ c
   pub named : d.naming.name ≡ x
   pub other : is_own_name d ≡ false
 
@@ -43,7 +48,7 @@ OneSymbolEach p = (c : ℕ) (x : Name) → NoneTakes p c x → (m n : Made) → 
 
 -- where `var` goes, as a function's scope or the program's, nothing takes the name away
 abbrev pub VarScopesKeepNames : Tree → Type 0
-VarScopesKeepNames p = (c : ℕ) (x : Name) (m : Made) → Among m (declared p) → BindsIn c x m.declaration → is_var m.declaration.route.target ≡ true → NoneTakes p c x
+VarScopesKeepNames p = (x : Name) (m : Made) → Among m (declared p) → is_var m.declaration.route.target ≡ true → NoneTakes p m.declaration.route.target.number x
 
 -- the symbol of a declaration is what an analysis tells of its identifier
 abbrev pub SymbolsAreAtNodes : Tree → Type 0

@@ -1,4 +1,4 @@
-use Rattle.binding_laws.proofs.KeptSteps.{one_symbol_each, conflicts_are_told}
+use Rattle.binding_laws.proofs.OneSymbolEach.{one_symbol_each, conflicts_are_told}
 use Rattle.binding_laws.proofs.VarScopes.{var_scopes_keep_names}
 use Rattle.binding_laws.proofs.laws.declarations_of_one_scope_have_one_symbol.Goals as goal
 
