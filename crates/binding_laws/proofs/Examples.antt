@@ -115,6 +115,13 @@ taken_twice =
     ∷ declares (codes "let") (codes "x")
     ∷ []) ∷ [])
 
+abbrev function : List ℕ → Forest
+function x = node role.Body kind.Function (codes "declaration") (name role.Id x ∷ node role.Params kind.FormalParameters (codes "formal") [] ∷ node role.Body kind.FunctionBody [] [] ∷ [])
+
+-- `{ function f() {} function f() {} } var f;`
+abbrev block_functions : Tree
+block_functions = script (block (function (codes "f") ∷ function (codes "f") ∷ []) ∷ declares (codes "var") (codes "f") ∷ [])
+
 -- what stands in the bodies isn't seen
 default_seen : seen default_sees_outside ≡ ties default_sees_outside
 default_seen = refl
@@ -161,3 +168,7 @@ past_tied = refl
 -- where a `var` of the name passes a scope, that may have two symbols
 taken_symbols : symbols taken_twice ≡ 0 ∷ 0 ∷ 1 ∷ 1 ∷ 1 ∷ []
 taken_symbols = refl
+
+-- functions of one block have one symbol, also once it has moved out
+function_symbols : symbols block_functions ≡ 0 ∷ 0 ∷ 0 ∷ []
+function_symbols = refl

@@ -1,5 +1,5 @@
 -- Which declarations of one name in one scope have one symbol, and which of them conflict.
-use Rattle.std.specs.Prelude.{◌≡◌, ℕ, ◌==◌, List, [], ◌∷◌, Bool, true, false, Some, None, ◌⊎◌, map}
+use Rattle.std.specs.Prelude.{◌≡◌, ℕ, ◌==◌, List, [], ◌∷◌, Bool, true, false, Some, ◌⊎◌, map}
 use Rattle.semantic_syntax.specs.Members.{contains}
 use Rattle.semantic_syntax.specs.Sets.{meets}
 use Rattle.semantic_syntax.specs.Tables.{Name}

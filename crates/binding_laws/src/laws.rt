@@ -20,8 +20,9 @@ pub fn declarations_have_the_symbols_of_their_nodes()
 
 /// The declarations of one name in one scope all have one symbol, where none asks another scope first: `let`, classes,
 /// imports and types, functions, also those that move out of their block then, and a `var` at the top of its function.
-/// Only a `var` that passes the scope may give it another. In a scope where `var` goes, as a function's, a module's or the
-/// program's, none does. Of two of them the later one is a conflict where it excludes what the earlier one is.
+/// Only a `var` that passes the scope may bring another there, or a plain catch name. In a scope where `var` goes, as a
+/// function's, a module's or the program's, none does. Of two of them the later one is a conflict where it excludes what
+/// the earlier one is.
 pub fn declarations_of_one_scope_have_one_symbol()
     ensures one { (p : Tree) → first_fault p ≡ None → OneSymbolEach p }
     ensures kept { (p : Tree) → first_fault p ≡ None → VarScopesKeepNames p }
