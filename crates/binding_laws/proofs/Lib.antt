@@ -1,0 +1,16 @@
+pub mod Examples
+pub mod OwnNames
+pub mod Matched
+pub mod CutEvents
+pub mod CutSteps
+pub mod Unremembered
+pub mod HeaderFold
+pub mod TiedOutward
+pub mod Growing
+pub mod KeptSymbols
+pub mod Settled
+pub mod KeptSteps
+pub mod SymbolsAtNodes
+pub mod CatchNames
+pub mod VarScopes
+pub mod OneSymbolEach

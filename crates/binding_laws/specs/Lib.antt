@@ -1,0 +1,2 @@
+pub mod SeenDeclarations
+pub mod OneSymbol
