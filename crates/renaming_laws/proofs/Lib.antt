@@ -1,0 +1,10 @@
+pub mod Sheds
+pub mod GoingBack
+pub mod Looks
+pub mod AlikeRows
+pub mod AlikeDeclarations
+pub mod Twins
+pub mod SameConflicts
+pub mod VarRows
+pub mod SameSymbols
+pub mod KeptConflicts

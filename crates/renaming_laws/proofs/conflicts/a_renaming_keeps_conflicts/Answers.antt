@@ -1,0 +1,5 @@
+use Rattle.renaming_laws.proofs.KeptConflicts.{conflicts_kept}
+use Rattle.renaming_laws.proofs.conflicts.a_renaming_keeps_conflicts.Goals as goal
+
+pub returns : goal.returns
+returns c = λ p q s y new h n there e states share. conflicts_kept p h n s y there new q e states share
