@@ -99,7 +99,7 @@ module _ (p : Tree) (faultless : first_fault p ≡ None) (numbered : IsNumbered 
   is_program = sym (has_form p faultless).root
 
   module _ (free : first_fixed (exported_names (steps p)) (bears_name (analysis_of p) s) (steps p) ≡ None) (same : Same p q) where
-    same_bearers : (id : ℕ) → id < node_count p.root → again id ≡ chosen id
+    pub same_bearers : (id : ℕ) → id < node_count p.root → again id ≡ chosen id
     same_bearers id h = λ i. is_symbol s (sym (same id h).symbol i) || is_symbol s (sym (same id h).tied i)
 
     agree : AgreeIn again chosen p.root.children
@@ -119,10 +119,12 @@ module _ (p : Tree) (faultless : first_fault p ≡ None) (numbered : IsNumbered 
         )
 
     back : renamed q (analysis_of q) s y.name ≡ written_out p s
-    back = λ i. record p { root = record p.root {
-      marks = sym (root_marks chosen p.root is_program) i;
-      children = comes_back again chosen y.name new p.root.children agree (have_text root_place p.root.kind p.root.children (λ here x a. inr a)) i;
-    } }
+    back = λ i. record p {
+      root = record p.root {
+        marks = sym (root_marks chosen p.root is_program) i;
+        children = comes_back again chosen y.name new p.root.children agree (have_text root_place p.root.kind p.root.children (λ here x a. inr a)) i;
+      };
+    }
 
   pub renamed_back : (r : Tree) → rename p s new ≡ Ok r → renamed r (analysis_of r) s y.name ≡ written_out p s
   renamed_back r e =

@@ -7,4 +7,12 @@ pub mod Twins
 pub mod SameConflicts
 pub mod VarRows
 pub mod SameSymbols
+pub mod Signed
+pub mod GoodRows
+pub mod DeclaredPairs
 pub mod KeptConflicts
+pub mod QuietNames
+pub mod Programs
+pub mod Rows
+pub mod BackAllowed
+pub mod AloneConflicts

@@ -102,17 +102,17 @@ stands_among before m all w = subst (Among m) (sym w.is) (among_right m before (
 abbrev pub symbols_in : List Made → List ℕ
 symbols_in ms = map (λ m. m.symbol) ms
 
--- at the same place of lists of the same symbols stands the same symbol
-same_place : (ms ns : List Made) (m n : Made) (us vs : List Made) → length ms ≡ length ns → symbols_in (ms ++ m ∷ us) ≡ symbols_in (ns ++ n ∷ vs) → m.symbol ≡ n.symbol
-same_place [] [] m n us vs h e = first m n (symbols_in us) (symbols_in vs) e
+-- at the same place of lists that tell the same stands what tells the same
+same_place : {A : Type 0} → (g h : Made → A) (ms ns : List Made) (m n : Made) (us vs : List Made) → length ms ≡ length ns → map g (ms ++ m ∷ us) ≡ map h (ns ++ n ∷ vs) → g m ≡ h n
+same_place g h [] [] m n us vs l e = first g h m n (map g us) (map h vs) e
   where
-    first : (m n : Made) (xs ys : List ℕ) → ◌≡◌ {A = List ℕ} (m.symbol ∷ xs) (n.symbol ∷ ys) → m.symbol ≡ n.symbol
-    first m n xs ys k = cc
-same_place [] (y ∷ ns) m n us vs h e = absurd (omega (arith, h))
-same_place (x ∷ ms) [] m n us vs h e = absurd (omega (arith, h))
-same_place (x ∷ ms) (y ∷ ns) m n us vs h e = same_place ms ns m n us vs (omega (arith, h)) (rest x.symbol y.symbol (symbols_in (ms ++ m ∷ us)) (symbols_in (ns ++ n ∷ vs)) e)
+    first : {A : Type 0} → (g h : Made → A) (m n : Made) (xs ys : List A) → ◌≡◌ {A = List A} (g m ∷ xs) (h n ∷ ys) → g m ≡ h n
+    first g h m n xs ys k = cc
+same_place g h [] (y ∷ ns) m n us vs l e = absurd (omega (arith, l))
+same_place g h (x ∷ ms) [] m n us vs l e = absurd (omega (arith, l))
+same_place g h (x ∷ ms) (y ∷ ns) m n us vs l e = same_place g h ms ns m n us vs (omega (arith, l)) (rest (g x) (h y) (map g (ms ++ m ∷ us)) (map h (ns ++ n ∷ vs)) e)
   where
-    rest : (a b : ℕ) (xs ys : List ℕ) → ◌≡◌ {A = List ℕ} (a ∷ xs) (b ∷ ys) → xs ≡ ys
+    rest : {A : Type 0} → (a b : A) (xs ys : List A) → ◌≡◌ {A = List A} (a ∷ xs) (b ∷ ys) → xs ≡ ys
     rest a b xs ys k = cc
 
 length_added : (ms : List Made) (m : Made) → length (ms ++ m ∷ []) ≡ suc (length ms)
@@ -121,43 +121,44 @@ length_added (x ∷ ms) m = omega (arith, length_added ms m)
 
 -- ---- the same conflicts
 
--- two conflicts of the same declaration with the same symbol
-pub record Twinned (F G : List Made) (c e : Conflict) : Type 0 where
-  pub made : Made
-  pub other : Made
-  pub among : Among made F
-  pub among_others : Among other G
-  pub symbol : made.symbol ≡ other.symbol
-  pub name : c.name ≡ made.declaration.naming.name
-  pub other_name : e.name ≡ other.declaration.naming.name
-  pub earlier : e.earlier ≡ c.earlier
-  pub later : e.later ≡ c.later
+module _ (F G : List Made) (now next : Made → Name) where
+  -- two conflicts of the same declaration with the same symbol
+  pub record Twinned (c e : Conflict) : Type 0 where
+    pub made : Made
+    pub other : Made
+    pub among : Among made F
+    pub symbol : made.symbol ≡ other.symbol
+    pub told : now made ≡ next other
+    pub name : c.name ≡ made.declaration.naming.name
+    pub other_name : e.name ≡ other.declaration.naming.name
+    pub earlier : e.earlier ≡ c.earlier
+    pub later : e.later ≡ c.later
 
-abbrev pub AllTwinned : (F G : List Made) → List Conflict → List Conflict → Type 0
-AllTwinned F G [] [] = Unit {0}
-AllTwinned F G (c ∷ cs) (e ∷ es) = Twinned F G c e × AllTwinned F G cs es
-AllTwinned F G _ _ = ⊥
+  abbrev pub AllTwinned : List Conflict → List Conflict → Type 0
+  AllTwinned [] [] = Unit {0}
+  AllTwinned (c ∷ cs) (e ∷ es) = Twinned c e × AllTwinned cs es
+  AllTwinned _ _ = ⊥
 
-twinned_append : (F G : List Made) (cs es ds fs : List Conflict) → AllTwinned F G cs es → AllTwinned F G ds fs → AllTwinned F G (cs ++ ds) (es ++ fs)
-twinned_append F G [] [] ds fs h i = i
-twinned_append F G [] (e ∷ es) ds fs h i = absurd h
-twinned_append F G (c ∷ cs) [] ds fs h i = absurd h
-twinned_append F G (c ∷ cs) (e ∷ es) ds fs h i = (h.0, twinned_append F G cs es ds fs h.1 i)
+  twinned_append : (cs es ds fs : List Conflict) → AllTwinned cs es → AllTwinned ds fs → AllTwinned (cs ++ ds) (es ++ fs)
+  twinned_append [] [] ds fs h i = i
+  twinned_append [] (e ∷ es) ds fs h i = absurd h
+  twinned_append (c ∷ cs) [] ds fs h i = absurd h
+  twinned_append (c ∷ cs) (e ∷ es) ds fs h i = (h.0, twinned_append cs es ds fs h.1 i)
 
-conflicts_twinned : (F G : List Made) (m k : Made) → Among m F → Among k G → m.symbol ≡ k.symbol → unnamed m.declaration.naming ≡ unnamed k.declaration.naming → (y z : Option Symbol) → option_map look y ≡ option_map look z → AllTwinned F G (conflict_with m.declaration.naming y) (conflict_with k.declaration.naming z)
-conflicts_twinned F G m k a b s n None None e = tt
-conflicts_twinned F G m k a b s n None (Some z) e = absurd (no_look (look z) e)
-conflicts_twinned F G m k a b s n (Some y) None e = absurd (no_look (look y) (sym e))
-conflicts_twinned F G m k a b s n (Some y) (Some z) e =
-    let same : look y ≡ look z = some_look (look y) (look z) e in
-    let tests : meets y.flags.bits m.declaration.naming.excluded ≡ meets z.flags.bits k.declaration.naming.excluded = λ i. meets (same i).1 (n i).excluded in
-    go (meets y.flags.bits m.declaration.naming.excluded) (meets z.flags.bits k.declaration.naming.excluded) tests (ap (λ (l : Look). l.0) same)
-  where
-    go : (t u : Bool) → t ≡ u → y.span ≡ z.span → AllTwinned F G (cond t (record { name = m.declaration.naming.name; earlier = y.span; later = m.declaration.naming.span } ∷ []) []) (cond u (record { name = k.declaration.naming.name; earlier = z.span; later = k.declaration.naming.span } ∷ []) [])
-    go true true q p = (record { made = m; other = k; among = a; among_others = b; symbol = s; name = refl; other_name = refl; earlier = sym p; later = ap (λ (x : Naming). x.span) (sym n) }, tt)
-    go true false q p = absurd cc
-    go false true q p = absurd cc
-    go false false q p = tt
+  conflicts_twinned : (m k : Made) → Among m F → m.symbol ≡ k.symbol → now m ≡ next k → unnamed m.declaration.naming ≡ unnamed k.declaration.naming → (y z : Option Symbol) → option_map look y ≡ option_map look z → AllTwinned (conflict_with m.declaration.naming y) (conflict_with k.declaration.naming z)
+  conflicts_twinned m k a s t n None None e = tt
+  conflicts_twinned m k a s t n None (Some z) e = absurd (no_look (look z) e)
+  conflicts_twinned m k a s t n (Some y) None e = absurd (no_look (look y) (sym e))
+  conflicts_twinned m k a s t n (Some y) (Some z) e =
+      let same : look y ≡ look z = some_look (look y) (look z) e in
+      let tests : meets y.flags.bits m.declaration.naming.excluded ≡ meets z.flags.bits k.declaration.naming.excluded = λ i. meets (same i).1 (n i).excluded in
+      go (meets y.flags.bits m.declaration.naming.excluded) (meets z.flags.bits k.declaration.naming.excluded) tests (ap (λ (l : Look). l.0) same)
+    where
+      go : (b c : Bool) → b ≡ c → y.span ≡ z.span → AllTwinned (cond b (record { name = m.declaration.naming.name; earlier = y.span; later = m.declaration.naming.span } ∷ []) []) (cond c (record { name = k.declaration.naming.name; earlier = z.span; later = k.declaration.naming.span } ∷ []) [])
+      go true true q p = (record { made = m; other = k; among = a; symbol = s; told = t; name = refl; other_name = refl; earlier = sym p; later = ap (λ (x : Naming). x.span) (sym n) }, tt)
+      go true false q p = absurd cc
+      go false true q p = absurd cc
+      go false false q p = tt
 
 -- ---- step by step
 
@@ -184,7 +185,7 @@ in_block_if how st d e h k = ap (λ w. passes_some w d.route.passed) e ∙ go d.
     go [] q = absurd cc
     go (c ∷ cs) q = refl
 
-module _ (F G : List Made) (share : ShareFlags F) where
+module _ (F G : List Made) (now next : Made → Name) (share : ShareFlags F) where
   -- both states have the same spans and flags, and have told the same
   record Level (st sw : State) : Type 0 where
     left : IsSound st
@@ -192,7 +193,7 @@ module _ (F G : List Made) (share : ShareFlags F) where
     same : looks st.symbols ≡ looks sw.symbols
     many : length st.made ≡ length sw.made
     covered : Covered F (looks st.symbols)
-    told : AllTwinned F G st.conflicts sw.conflicts
+    told : AllTwinned F G now next st.conflicts sw.conflicts
 
   looks_at : (ys zs : List Symbol) (r : ℕ) → looks ys ≡ looks zs → option_map look (slice_get ys r) ≡ option_map look (slice_get zs r)
   looks_at ys zs r e = sym (slice_get-map look ys r) ∙ ap (λ ls. slice_get ls r) e ∙ slice_get-map look zs r
@@ -208,7 +209,7 @@ module _ (F G : List Made) (share : ShareFlags F) where
     other_row : IsVarRow e
     symbol : gets d.how st d ≡ gets e.how sw e
     among : Among (record { declaration = d; symbol = gets d.how st d }) F
-    among_others : Among (record { declaration = e; symbol = gets e.how sw e }) G
+    names : now (record { declaration = d; symbol = gets d.how st d }) ≡ next (record { declaration = e; symbol = gets e.how sw e })
 
   looks_left : (st sw : State) (d e : Declaration) → Level st sw → Step st sw d e → looks (act st (declares d)).symbols ≡ joined (gets d.how st d) d.naming (looks st.symbols)
   looks_left st sw d e w t =
@@ -223,13 +224,13 @@ module _ (F G : List Made) (share : ShareFlags F) where
           subst (λ n. union l.1 n ≡ l.1) (ap (λ (x : Naming). x.flags) t.twin.naming)
           (w.covered (record { declaration = d; symbol = gets d.how st d }) t.among (t.twin.in_block ∙ v) l ((λ i. slice_get (w.same i) (t.symbol i)) ∙ q))
 
-  told_next : (st sw : State) (d e : Declaration) → Level st sw → Step st sw d e → AllTwinned F G (act st (declares d)).conflicts (act sw (declares e)).conflicts
+  told_next : (st sw : State) (d e : Declaration) → Level st sw → Step st sw d e → AllTwinned F G now next (act st (declares d)).conflicts (act sw (declares e)).conflicts
   told_next st sw d e w t =
       let r : ℕ = gets d.how st d in
       let q : ℕ = gets e.how sw e in
-      subst₂ (AllTwinned F G) (sym (tells_by d.how st d t.row)) (sym (tells_by e.how sw e t.other_row))
-      (twinned_append F G st.conflicts sw.conflicts (conflict_with d.naming (slice_get st.symbols r)) (conflict_with e.naming (slice_get sw.symbols q)) w.told
-      (conflicts_twinned F G (record { declaration = d; symbol = r }) (record { declaration = e; symbol = q }) t.among t.among_others t.symbol t.twin.naming
+      subst₂ (AllTwinned F G now next) (sym (tells_by d.how st d t.row)) (sym (tells_by e.how sw e t.other_row))
+      (twinned_append F G now next st.conflicts sw.conflicts (conflict_with d.naming (slice_get st.symbols r)) (conflict_with e.naming (slice_get sw.symbols q)) w.told
+      (conflicts_twinned F G now next (record { declaration = d; symbol = r }) (record { declaration = e; symbol = q }) t.among t.symbol t.names t.twin.naming
       (slice_get st.symbols r) (slice_get sw.symbols q) (looks_at st.symbols sw.symbols r w.same ∙ ap (λ n. option_map look (slice_get sw.symbols n)) t.symbol)))
 
   next_level : (st sw : State) (d e : Declaration) → Level st sw → Step st sw d e → Level (act st (declares d)) (act sw (declares e))
@@ -259,37 +260,37 @@ module _ (F G : List Made) (share : ShareFlags F) where
         told = w.told;
       }
 
-  all_told : (es fs : List Event) (st sw : State) → TwinEvents es fs → AreVarRows es → AreVarRows fs → Level st sw → (run st es).made ≡ F → (run sw fs).made ≡ G → symbols_in F ≡ symbols_in G → AllTwinned F G (run st es).conflicts (run sw fs).conflicts
-  all_told [] [] st sw t h k w f g e = w.told
-  all_told [] (y ∷ fs) st sw t h k w f g e = absurd t
-  all_told (x ∷ es) [] st sw t h k w f g e = absurd t
-  all_told (declares d ∷ es) (declares c ∷ fs) st sw t h k w f g e =
+  all_told : (es fs : List Event) (st sw : State) → TwinEvents es fs → AreVarRows es → AreVarRows fs → Level st sw → (run st es).made ≡ F → (run sw fs).made ≡ G → symbols_in F ≡ symbols_in G → map now F ≡ map next G → AllTwinned F G now next (run st es).conflicts (run sw fs).conflicts
+  all_told [] [] st sw t h k w f g e o = w.told
+  all_told [] (y ∷ fs) st sw t h k w f g e o = absurd t
+  all_told (x ∷ es) [] st sw t h k w f g e o = absurd t
+  all_told (declares d ∷ es) (declares c ∷ fs) st sw t h k w f g e o =
       let m : Made = record { declaration = d; symbol = gets d.how st d } in
       let n : Made = record { declaration = c; symbol = gets c.how sw c } in
       let a : Stands st.made m F = subst (Stands st.made m) f (stands st d es) in
       let b : Stands sw.made n G = subst (Stands sw.made n) g (stands sw c fs) in
-      let next : Step st sw d c = record {
+      let turn : Step st sw d c = record {
         twin = t.0;
         row = h.0;
         other_row = k.0;
-        symbol = same_place st.made sw.made m n a.behind b.behind w.many (ap symbols_in (sym a.is) ∙ e ∙ ap symbols_in b.is);
+        symbol = same_place (λ k. k.symbol) (λ k. k.symbol) st.made sw.made m n a.behind b.behind w.many (ap symbols_in (sym a.is) ∙ e ∙ ap symbols_in b.is);
         among = stands_among st.made m F a;
-        among_others = stands_among sw.made n G b;
+        names = same_place now next st.made sw.made m n a.behind b.behind w.many (ap (map now) (sym a.is) ∙ o ∙ ap (map next) b.is);
       } in
-      all_told es fs (act st (declares d)) (act sw (declares c)) t.1 h.1 k.1 (next_level st sw d c w next) f g e
-  all_told (takes_over c b ∷ es) (takes_over c' b' ∷ fs) st sw t h k w f g e =
-      all_told es fs (act st (takes_over c b)) (act sw (takes_over c' b')) t.1 h k (taken_level st sw c b c' b' w) f g e
-  all_told (ends_header c ∷ es) (ends_header c' ∷ fs) st sw t h k w f g e = all_told es fs st sw t.1 h k w f g e
-  all_told (_ ∷ es) (_ ∷ fs) st sw t h k w f g e = absurd t.0
+      all_told es fs (act st (declares d)) (act sw (declares c)) t.1 h.1 k.1 (next_level st sw d c w turn) f g e o
+  all_told (takes_over c b ∷ es) (takes_over c' b' ∷ fs) st sw t h k w f g e o =
+      all_told es fs (act st (takes_over c b)) (act sw (takes_over c' b')) t.1 h k (taken_level st sw c b c' b' w) f g e o
+  all_told (ends_header c ∷ es) (ends_header c' ∷ fs) st sw t h k w f g e o = all_told es fs st sw t.1 h k w f g e o
+  all_told (_ ∷ es) (_ ∷ fs) st sw t h k w f g e o = absurd t.0
 
 -- of whole programs
-pub same_conflicts : (es fs : List Event) → TwinEvents es fs → AreVarRows es → AreVarRows fs → ShareFlags (run start es).made → symbols_in (run start es).made ≡ symbols_in (run start fs).made → AllTwinned (run start es).made (run start fs).made (run start es).conflicts (run start fs).conflicts
-same_conflicts es fs t h k share e =
-    all_told (run start es).made (run start fs).made share es fs start start t h k (record {
+pub same_conflicts : (es fs : List Event) (now next : Made → Name) → TwinEvents es fs → AreVarRows es → AreVarRows fs → ShareFlags (run start es).made → symbols_in (run start es).made ≡ symbols_in (run start fs).made → map now (run start es).made ≡ map next (run start fs).made → AllTwinned (run start es).made (run start fs).made now next (run start es).conflicts (run start fs).conflicts
+same_conflicts es fs now next t h k share e o =
+    all_told (run start es).made (run start fs).made now next share es fs start start t h k (record {
       left = start_is_sound;
       right = start_is_sound;
       same = refl;
       many = refl;
       covered = λ m a v l q. absurd (no_look l q);
       told = tt;
-    }) refl refl e
+    }) refl refl e o

@@ -63,7 +63,7 @@ among_times (b ∷ bs) id s (inl e) = let first : cond {A = ℕ} (b.node == id) 
 among_times (b ∷ bs) id s (inr a) = omega (arith, among_times bs id s a)
 
 -- the number of a node that stands there once
-number_there : (bs : List Belongs) (id s : ℕ) → times id (map (λ b. b.node) bs) ≤ 1 → Among (record { node = id; number = s }) bs → number_of bs id ≡ Some s
+pub number_there : (bs : List Belongs) (id s : ℕ) → times id (map (λ b. b.node) bs) ≤ 1 → Among (record { node = id; number = s }) bs → number_of bs id ≡ Some s
 number_there [] id s h a = absurd a
 number_there (b ∷ bs) id s h (inl e) =
     ap (λ (x : Belongs). cond (x.node == id) (Some x.number) (number_of bs id)) e ∙ ap (λ t. cond t (Some s) (number_of bs id)) (eq-eqb id id refl)
@@ -72,18 +72,27 @@ number_there (b ∷ bs) id s h (inr a) = elim (eqb_tells b.node id) [
   | inr q ↦ (let first : cond {A = ℕ} (b.node == id) 1 0 ≡ 0 = rw q.0 refl in ap (λ t. cond t (Some b.number) (number_of bs id)) q.0 ∙ number_there bs id s (omega (arith, first, h)) a)
 ]
 
+-- the ids of a numbered program
+pub id_within : (p : Tree) → IsNumbered p.root → (x : Node) → Among x (nodes_from p.root) → x.node_id < node_count p.root
+id_within p h x (inl e) = let first : 0 ≡ p.root.node_id = ap (λ n. n.node_id) h in let here : p.root.node_id ≡ x.node_id = ap (λ n. n.node_id) e in omega (arith, first, here)
+id_within p h x (inr b) = let (low, high) = ids_between 1 p.root.children x (ap (λ n. n.children) h) b in omega (arith, high)
+
+-- what is made is of a node, and that has the symbol
+pub made_of_node : (p : Tree) (m : Made) → Among m (made_in p) → IsOf (nodes_from p.root) m.declaration
+made_of_node p m a = elim (made_declared m start (events (steps p)) a) [ inl k ↦ absurd k | inr k ↦ declaration_of p m.declaration k ]
+
+pub symbol_there : (p : Tree) → first_fault p ≡ None → IsNumbered p.root → (m : Made) → Among m (made_in p) → symbol_at (analysis_of p) m.declaration.naming.identifier ≡ Some m.symbol
+symbol_there p h n m a =
+    number_there (map belonging (made_in p)) m.declaration.naming.identifier m.symbol (symbols_times m.declaration.naming.identifier p h n) (belongs_made m (made_in p) a)
+
 module _ (p q : Tree) (faultless : first_fault p ≡ None) (numbered : IsNumbered p.root) (same : Same p q) where
   -- what is made has a node of the program
   inside : (m : Made) → Among m (made_in p) → m.declaration.naming.identifier < node_count p.root
-  inside m a = elim (made_declared m start (events (steps p)) a) [ inl k ↦ absurd k | inr k ↦ by (declaration_of p m.declaration k) ]
+  inside m a = by (made_of_node p m a)
     where
-      within : (x : Node) → Among x (nodes_from p.root) → x.node_id < node_count p.root
-      within x (inl e) = let first : 0 ≡ p.root.node_id = ap (λ n. n.node_id) numbered in let here : p.root.node_id ≡ x.node_id = ap (λ n. n.node_id) e in omega (arith, first, here)
-      within x (inr b) = let (low, high) = ids_between 1 p.root.children x (ap (λ n. n.children) numbered) b in omega (arith, high)
-
       by : IsOf (nodes_from p.root) m.declaration → m.declaration.naming.identifier < node_count p.root
-      by (of_name x w e f) = subst (λ n. n < node_count p.root) (sym e) (within x w.among)
-      by (of_member x w k e) = subst (λ n. n < node_count p.root) (sym e) (within x w)
+      by (of_name x w e f) = subst (λ n. n < node_count p.root) (sym e) (id_within p numbered x w.among)
+      by (of_member x w k e) = subst (λ n. n < node_count p.root) (sym e) (id_within p numbered x w)
 
   module _ (paired : Paired (made_in p) (made_in q)) where
     same_symbol : (m n : Made) → Among m (made_in p) → Among n (made_in q) → unnamed m.declaration.naming ≡ unnamed n.declaration.naming → m.symbol ≡ n.symbol
@@ -92,7 +101,7 @@ module _ (p q : Tree) (faultless : first_fault p ≡ None) (numbered : IsNumbere
         let id' : id ≡ n.declaration.naming.identifier = ap (λ (x : Naming). x.identifier) e in
         let once : times id (map (λ b. b.node) (map belonging (made_in p))) ≤ 1 = symbols_times id p faultless numbered in
         let once' : times id (map (λ b. b.node) (map belonging (made_in q))) ≤ 1 = subst (λ ns. times id ns ≤ 1) (same_nodes (made_in p) (made_in q) paired) once in
-        let there : symbol_at (analysis_of p) id ≡ Some m.symbol = number_there (map belonging (made_in p)) id m.symbol once (belongs_made m (made_in p) a) in
+        let there : symbol_at (analysis_of p) id ≡ Some m.symbol = symbol_there p faultless numbered m a in
         let there' : symbol_at (analysis_of q) id ≡ Some n.symbol = number_there (map belonging (made_in q)) id n.symbol once' (subst (λ x. Among (record { node = x; number = n.symbol }) (map belonging (made_in q))) (sym id') (belongs_made n (made_in q) b)) in
         some_is m.symbol n.symbol (sym there ∙ (same id (inside m a)).symbol ∙ there')
 

@@ -236,6 +236,34 @@ first_states (closing x s) (closing y t) xs ys w e = (refl, e)
 first_states (leaving x) (leaving y) xs ys w e = (refl, e)
 first_states _ _ xs ys w e = absurd w
 
+-- where no namespace is, there is none among the other steps
+pub no_states : (xs ys : List Step) → TwinSteps nameless xs ys → namespace_states xs ≡ [] → namespace_states ys ≡ []
+no_states [] [] w e = refl
+no_states [] (y ∷ ys) w e = absurd w
+no_states (x ∷ xs) [] w e = absurd w
+no_states (entering x ∷ xs) (entering y ∷ ys) w e = go (same_kind x.node.kind kind.TSNamespaceDeclaration) refl (no_states xs ys w.1)
+  where
+    sx : InstanceState
+    sx = instance_state x.node x.path (nodes_around x.node x.path)
+
+    sy : InstanceState
+    sy = instance_state y.node y.path (nodes_around y.node y.path)
+
+    of_left : (b : Bool) → cons_option (cond b (Some sx) None) (namespace_states xs) ≡ [] → (b ≡ false) × (namespace_states xs ≡ [])
+    of_left true h = absurd cc
+    of_left false h = (refl, h)
+
+    go : (b : Bool) → same_kind x.node.kind kind.TSNamespaceDeclaration ≡ b → (namespace_states xs ≡ [] → namespace_states ys ≡ []) → namespace_states (entering y ∷ ys) ≡ []
+    go b k more =
+        let (f, rest) = of_left b (subst (λ t. cons_option (cond t (Some sx) None) (namespace_states xs) ≡ []) k e) in
+        let k' : same_kind y.node.kind kind.TSNamespaceDeclaration ≡ false = ap (λ j. same_kind j kind.TSNamespaceDeclaration) (sym (same_kinds nameless x y w.0)) ∙ k ∙ f in
+        subst (λ t. cons_option (cond t (Some sy) None) (namespace_states ys) ≡ []) (sym k') (more rest)
+no_states (opening x s ∷ xs) (opening y t ∷ ys) w e = no_states xs ys w.1 e
+no_states (header_ending x s ∷ xs) (header_ending y t ∷ ys) w e = no_states xs ys w.1 e
+no_states (closing x s ∷ xs) (closing y t ∷ ys) w e = no_states xs ys w.1 e
+no_states (leaving x ∷ xs) (leaving y ∷ ys) w e = no_states xs ys w.1 e
+no_states (_ ∷ xs) (_ ∷ ys) w e = absurd w.0
+
 pub all_step_twins : (ds es : List Declaration) (xs ys : List Step) → TwinSteps nameless xs ys → namespace_states xs ≡ namespace_states ys → TwinEvents (flat_map (events_of ds) xs) (flat_map (events_of es) ys)
 all_step_twins ds es [] [] w e = tt
 all_step_twins ds es [] (y ∷ ys) w e = absurd w

@@ -1,3 +1,4 @@
 pub mod WrittenOut
 pub mod InBlocks
 pub mod KeptConflicts
+pub mod AskedNames
