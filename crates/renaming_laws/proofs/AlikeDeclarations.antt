@@ -13,7 +13,7 @@ use Rattle.semantic_kinds.specs.declared.mark.Mark.TheVariants as mark
 use Rattle.semantic_kinds.specs.declared.role.Role.TheVariants as role
 use Rattle.semantic_tree.specs.Views.{is, has, children_of}
 use Rattle.semantic_model.specs.Names.{bound_names, names_at}
-use Rattle.semantic_model.specs.Namespace.{InstanceState, non_instantiated, const_enum_only, instantiated, instance_state, nodes_around}
+use Rattle.semantic_model.specs.Namespace.{InstanceState, non_instantiated, const_enum_only, instantiated}
 use Rattle.semantic_model.specs.Place.{Place, OpenScope, parent_holds}
 use Rattle.semantic_model.specs.Declaration.{plain, here, outward_to}
 use Rattle.semantic_model.specs.Binder.{Row, declare, declare_here, ids, marked_ambient, is_conditional, is_statement, function_row, own_function_row, class_row, import_flags, imports, enums, member_names, named_member, member_named, members, namespace_row, type_parameter_route, type_parameter_row, declared_by, declared_on_entering, declared_inside, declared_on_opening}

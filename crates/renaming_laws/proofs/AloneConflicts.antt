@@ -1,5 +1,5 @@
 -- Where a name is a symbol's alone, and another is used nowhere, all conflicts stay, with the two names swapped.
-use Rattle.std.proofs.Common.{◌≡◌, ℕ, List, [], ◌∷◌, Bool, true, false, cond, if◌then◌else◌, Some, None, Ok, inl, inr, refl, sym, ap, subst, ◌∙◌, map, bytes_eq, codes}
+use Rattle.std.proofs.Common.{◌≡◌, ℕ, [], Bool, true, false, cond, if◌then◌else◌, Some, None, Ok, inl, inr, refl, sym, ap, subst, ◌∙◌, map, bytes_eq, codes}
 use Rattle.std.specs.Prelude.{slice_get}
 use Rattle.semantic_kinds.specs.declared.kind.AstType.{AstType}
 use Rattle.semantic_kinds.specs.declared.kind.AstType.TheVariants as kind
@@ -18,7 +18,7 @@ use Rattle.semantic_tree.specs.declared.swap.Setting.TheVariants.{Elsewhere}
 use Rattle.semantic_model.specs.Analysis.{analysis_of}
 use Rattle.semantic_model.specs.Event.{events}
 use Rattle.semantic_model.specs.Exported.{exported_names}
-use Rattle.semantic_model.specs.Fold.{Conflict, State, start}
+use Rattle.semantic_model.specs.Fold.{State, start}
 use Rattle.semantic_model.specs.Hoist.{run}
 use Rattle.semantic_model.specs.Step.{steps}
 use Rattle.semantic_model.specs.TablesOf.{tables_of}
@@ -32,7 +32,7 @@ use Rattle.program_laws.specs.Remarked.{remarked}
 use Rattle.program_laws.specs.SameAnalysis.{conflicts_of, HaveSameAnalysis}
 use Rattle.program_laws.proofs.TableMarks.{same_unmarked}
 use Rattle.rename_model.specs.Alone.{BelongsTo, IsUnused}
-use Rattle.rename_model.specs.Refusal.{first_fixed, is_bad_name, rename}
+use Rattle.rename_model.specs.Refusal.{first_fixed, rename}
 use Rattle.rename_model.specs.Renamed.{bears_name, renamed}
 use Rattle.rename_model.specs.WithName.{sheds, with_name_alone, with_name}
 use Rattle.rename_model.proofs.AloneNames.{stands_alone}

@@ -1,5 +1,5 @@
 -- The old name is never refused for a symbol that has got another.
-use Rattle.std.proofs.Common.{◌≡◌, ◌<◌, ℕ, ◌+◌, List, [], ◌∷◌, ◌++◌, Bool, true, false, ◌&&◌, ◌||◌, cond, Option, Some, None, Ok, inl, inr, refl, sym, ap, subst, ◌∙◌, map, flat_map, arith}
+use Rattle.std.proofs.Common.{◌≡◌, ◌<◌, ℕ, ◌+◌, List, [], ◌∷◌, ◌++◌, Bool, false, ◌&&◌, ◌||◌, cond, Some, None, Ok, inl, inr, refl, sym, ap, subst, ◌∙◌, map}
 use Rattle.std.specs.Prelude.{slice_get}
 use Rattle.semantic_kinds.specs.Roles.{same_role}
 use Rattle.semantic_kinds.specs.declared.kind.AstType.TheVariants as kind
@@ -34,7 +34,7 @@ use Rattle.program_laws.proofs.NameMarks.{names_same}
 use Rattle.program_laws.proofs.StepMarks.{remarked_steps, steps_same}
 use Rattle.program_laws.proofs.TableMarks.{same_unmarked}
 use Rattle.program_laws.proofs.Walked.{steps_within}
-use Rattle.rename_model.specs.Refusal.{is_bad_name, fixes_name, node_in, first_fixed, rename}
+use Rattle.rename_model.specs.Refusal.{is_bad_name, fixes_name, first_fixed, rename}
 use Rattle.rename_model.specs.Renamed.{bears_name, renamed}
 use Rattle.rename_model.specs.Same.{Same}
 use Rattle.rename_model.specs.WithName.{sheds, with_name}

@@ -1,5 +1,5 @@
 -- Where a symbol gets its old name back, the program comes back, but for marks.
-use Rattle.std.proofs.Common.{◌≡◌, ◌<◌, ℕ, ◌+◌, ◌-◌, [], ◌∷◌, Bool, true, false, ◌&&◌, ◌||◌, cond, Some, None, Ok, inl, inr, refl, sym, ap, subst, ◌∙◌, arith, bit_and}
+use Rattle.std.proofs.Common.{◌≡◌, ◌<◌, ℕ, ◌-◌, Bool, true, false, ◌||◌, cond, Some, None, Ok, inl, inr, refl, sym, ap, subst, ◌∙◌, arith, bit_and}
 use Rattle.std.specs.Prelude.{slice_get}
 use Rattle.std.proofs.lemmas.Nat.Bits.{bit_at_and, same_from_bits}
 use Rattle.semantic_kinds.specs.Marks.{mark_bit}
@@ -23,17 +23,17 @@ use Rattle.semantic_model.specs.Step.{steps}
 use Rattle.semantic_model.specs.TablesOf.{is_symbol, tables_of}
 use Rattle.semantic_model.proofs.form.Shape.{has_form}
 use Rattle.semantic_model.proofs.lists.Members.{among_left, among_right}
-use Rattle.program_laws.specs.ReadMarks.{without_mark, without_where, unmarked_tree}
+use Rattle.program_laws.specs.ReadMarks.{without_mark, without_where}
 use Rattle.program_laws.specs.Remarked.{remarked}
-use Rattle.program_laws.proofs.TreeNodes.{nodes_below, ids_between, placed_node}
+use Rattle.program_laws.proofs.TreeNodes.{nodes_below, ids_between}
 use Rattle.rename_model.specs.Refusal.{first_fixed, rename}
 use Rattle.rename_model.specs.Renamed.{bears_name, renamed}
 use Rattle.rename_model.specs.Same.{Same}
-use Rattle.rename_model.specs.WithName.{sheds, with_name, with_name_in}
+use Rattle.rename_model.specs.WithName.{sheds, with_name}
 use Rattle.rename_model.proofs.AloneNames.{is_of_symbol}
 use Rattle.rename_model.proofs.Refusals.{ends_renamed, none_means_free}
 use Rattle.renaming_laws.specs.WrittenOut.{written_out}
-use Rattle.renaming_laws.proofs.Sheds.{AgreeIn, bare_named, sheds_same, agree_same}
+use Rattle.renaming_laws.proofs.Sheds.{AgreeIn, bare_named, sheds_same}
 
 -- a mark that was taken can't be taken again
 taken_once : (b : ℕ) (k : ℕ) → bit_and (bit_and b k) k ≡ bit_and b k

@@ -1,5 +1,5 @@
 -- In a program of signed names each declaration tells by its name whether its node is chosen.
-use Rattle.std.proofs.Common.{◌≡◌, ℕ, List, [], ◌∷◌, ◌++◌, Bool, true, false, cond, if◌then◌else◌, inl, inr, refl, sym, ap, subst, ◌∙◌, map, flat_map}
+use Rattle.std.proofs.Common.{◌≡◌, ℕ, List, [], ◌∷◌, Bool, true, false, cond, if◌then◌else◌, inl, inr, refl, sym, ap, subst, ◌∙◌, map, flat_map}
 use Rattle.semantic_kinds.specs.declared.kind.AstType.{AstType}
 use Rattle.semantic_kinds.specs.declared.kind.AstType.TheVariants as kind
 use Rattle.semantic_kinds.specs.declared.mark.Mark.TheVariants as mark
@@ -10,13 +10,12 @@ use Rattle.semantic_syntax.specs.Tables.{Name}
 use Rattle.semantic_syntax.specs.declared.symbol_flags.TheConstants.SymbolFlags as symbol
 use Rattle.semantic_tree.specs.Views.{is, has, children_of}
 use Rattle.semantic_tree.specs.declared.node.Node.{Node}
-use Rattle.semantic_model.specs.Binder.{Row, declare, declare_here, ids, is_statement, marked_ambient, function_row, own_function_row, class_row, variable_row, variables_under, is_pure_declarator, parameter_excluded, parameters_under, catch_names, import_flags, enums, member_names, named_member, member_named, members, namespace_row, type_parameter_route, type_parameter_row, declared_by, declared_inside}
+use Rattle.semantic_model.specs.Binder.{Row, declare, declare_here, ids, is_statement, marked_ambient, function_row, own_function_row, class_row, variable_row, variables_under, is_pure_declarator, parameter_excluded, parameters_under, catch_names, import_flags, enums, member_names, named_member, member_named, namespace_row, type_parameter_route, type_parameter_row, declared_by, declared_inside}
 use Rattle.semantic_model.specs.Declaration.{Declaration, plain, caught, here}
 use Rattle.semantic_model.specs.Entries.{Among}
 use Rattle.semantic_model.specs.Names.{bound_names, bound_below, names_at}
 use Rattle.semantic_model.specs.Namespace.{InstanceState, non_instantiated, const_enum_only, instantiated, instance_state, nodes_around}
 use Rattle.semantic_model.specs.Place.{Place, OpenScope}
-use Rattle.semantic_model.proofs.form.Clauses.{kind_is}
 use Rattle.program_laws.proofs.DeclaredNodes.{among_map, among_flat, Binds, bound_of}
 use Rattle.program_laws.proofs.TreeNodes.{nodes_from, child_in}
 use Rattle.renaming_laws.proofs.Signed.{unsigned, given, Good, IsKept}

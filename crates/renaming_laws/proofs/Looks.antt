@@ -1,6 +1,6 @@
 -- What a declaration does to the symbol that it gets, and which conflicts it tells.
-use Rattle.std.proofs.Common.{◌≡◌, ℕ, zero, suc, ◌+◌, ◌<◌, ◌≤◌, ◌==◌, List, [], ◌∷◌, ◌++◌, Bool, true, false, not, cond, Option, Some, None, length, map, flat_map, inl, inr, ◌⊎◌, refl, sym, ap, subst, ◌∙◌, arith, bit_and, bit_or}
-use Rattle.std.specs.Prelude.{slice_get, option_map}
+use Rattle.std.proofs.Common.{◌≡◌, ℕ, zero, suc, ◌<◌, ◌≤◌, ◌==◌, List, [], ◌∷◌, ◌++◌, Bool, true, false, not, cond, Option, Some, None, length, map, flat_map, inl, inr, ◌⊎◌, refl, sym, ap, subst, ◌∙◌, arith, bit_and}
+use Rattle.std.specs.Prelude.{slice_get}
 use Rattle.std.proofs.lemmas.Bool.{cases_Bool, eqb-true}
 use Rattle.std.proofs.lemmas.List.{append_assoc, append-nil, length-map}
 use Rattle.std.proofs.lemmas.Nat.{and_assoc}
@@ -9,8 +9,8 @@ use Rattle.semantic_syntax.specs.declared.symbol_flags.TheConstants.SymbolFlags 
 use Rattle.semantic_syntax.specs.Sets.{meets, union}
 use Rattle.semantic_syntax.specs.Tables.{Name, Symbol, Bindings}
 use Rattle.semantic_model.specs.Declaration.{How, plain, hoisted, moved, caught, Declaration, stands_in}
-use Rattle.semantic_model.specs.Fold.{Conflict, Made, State, update, flags_or_none, flags_of, found, redeclared, united, in_scope, new_symbol, note_symbol, make, conflict_of, conflict_with, against, declare_in, chosen}
-use Rattle.semantic_model.specs.Hoist.{PassedSymbol, counts, passed_symbol, asked_symbols, against_all, remembering, move_symbol, hoist_by, hoist, move_out, declare_by, rescoped}
+use Rattle.semantic_model.specs.Fold.{Conflict, State, update, flags_or_none, flags_of, found, redeclared, united, in_scope, new_symbol, note_symbol, conflict_with, against, declare_in, chosen}
+use Rattle.semantic_model.specs.Hoist.{PassedSymbol, counts, passed_symbol, asked_symbols, against_all, move_symbol, hoist_by, hoist, move_out, declare_by, rescoped}
 use Rattle.semantic_model.specs.Binding.{get}
 use Rattle.semantic_model.specs.Naming.{Naming}
 use Rattle.semantic_model.specs.Place.{OpenScope}

@@ -1,5 +1,5 @@
 -- What renamings of small programs keep, and what they don't, by computation.
-use Rattle.std.proofs.Common.{◌≡◌, ℕ, List, [], ◌∷◌, Ok, codes, length, map, refl}
+use Rattle.std.proofs.Common.{◌≡◌, List, [], ◌∷◌, Ok, codes, map, refl}
 use Rattle.semantic_kinds.specs.MarkSets.{no_marks}
 use Rattle.semantic_syntax.specs.Tables.{Name}
 use Rattle.semantic_tree.specs.Tree.{Tree}

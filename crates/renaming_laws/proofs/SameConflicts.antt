@@ -1,11 +1,10 @@
 -- Events that differ in names alone, of which each declaration gets the same symbol, tell the same conflicts.
-use Rattle.std.proofs.Common.{◌≡◌, ℕ, zero, suc, ◌+◌, ◌<◌, ◌≤◌, List, [], ◌∷◌, ◌++◌, Bool, true, false, cond, Option, Some, None, inl, length, map, refl, sym, ap, subst, subst₂, ◌∙◌, arith, bit_or}
+use Rattle.std.proofs.Common.{◌≡◌, ℕ, zero, suc, ◌≤◌, List, [], ◌∷◌, ◌++◌, Bool, true, false, cond, Option, Some, None, inl, length, map, refl, sym, ap, subst, subst₂, ◌∙◌, arith, bit_or}
 use Rattle.std.specs.Int.{bit_at}
 use Rattle.std.specs.Prelude.{slice_get, option_map}
 use Rattle.std.proofs.lemmas.List.{append_assoc, append-nil, length-map}
 use Rattle.std.proofs.lemmas.Nat.Bits.{bit_at_or, same_from_bits}
 use Rattle.std.proofs.lemmas.Option.{slice_get-map}
-use Rattle.semantic_syntax.specs.declared.spans.Span.{Span}
 use Rattle.semantic_syntax.specs.declared.symbol_flags.TheConstants.SymbolFlags as symbol
 use Rattle.semantic_syntax.specs.Sets.{meets, union}
 use Rattle.semantic_syntax.specs.Tables.{Name, Symbol}
@@ -22,7 +21,7 @@ use Rattle.semantic_model.proofs.lists.Growth.{act_grows, start_is_sound}
 use Rattle.semantic_model.proofs.lists.Members.{among_right}
 use Rattle.renaming_laws.specs.InBlocks.{passes_some, is_var_in_block, ShareFlags}
 use Rattle.renaming_laws.proofs.Looks.{Look, look, looks, joined, gets, tells_by, HasFlagsOf, looks_by, made_by, rescoped_looks, gets_within, passed_kept}
-use Rattle.renaming_laws.proofs.Twins.{unnamed, Twin, TwinEvent, TwinEvents}
+use Rattle.renaming_laws.proofs.Twins.{unnamed, Twin, TwinEvents}
 
 -- ---- the flags of a `var` in a block
 

@@ -5,15 +5,12 @@ use Rattle.semantic_kinds.specs.Classes.{holds_kind}
 use Rattle.semantic_kinds.specs.MarkSets.{no_marks}
 use Rattle.semantic_kinds.specs.Roles.{same_role}
 use Rattle.semantic_kinds.specs.declared.kind.AstType.TheVariants as kind
-use Rattle.semantic_kinds.specs.declared.mark.Mark.TheVariants as mark
 use Rattle.semantic_kinds.specs.declared.role.Role.TheVariants as role
 use Rattle.semantic_syntax.specs.Tables.{Name}
 use Rattle.semantic_tree.specs.Forest.{Forest, nothing, tree}
 use Rattle.semantic_tree.specs.Nodes.{first_of}
 use Rattle.semantic_tree.specs.Views.{children_of, holds}
 use Rattle.semantic_tree.specs.declared.node.Node.{Node}
-use Rattle.program_laws.specs.ReadMarks.{without_where}
-use Rattle.program_laws.specs.Remarked.{remarked}
 use Rattle.rename_model.specs.WithName.{is_named_value, sheds, with_name_alone, with_name}
 
 -- the forest without texts and marks

@@ -1,6 +1,5 @@
 -- Programs that differ in names alone, with namespaces of the same states, have the same events but for names.
-use Rattle.std.proofs.Common.{◌≡◌, ℕ, List, [], ◌∷◌, ◌++◌, Option, Some, None, cond, Bool, true, false, ◌&&◌, if◌then◌else◌, refl, sym, ap, subst, ◌∙◌, map, flat_map}
-use Rattle.std.specs.Prelude.{filter_map}
+use Rattle.std.proofs.Common.{◌≡◌, List, [], ◌∷◌, ◌++◌, Option, Some, None, cond, Bool, true, false, ◌&&◌, if◌then◌else◌, refl, sym, ap, subst, ◌∙◌, flat_map}
 use Rattle.std.specs.List.{cons_option}
 use Rattle.semantic_kinds.specs.Kinds.{same_kind}
 use Rattle.semantic_kinds.specs.Roles.{same_role}
@@ -10,11 +9,11 @@ use Rattle.semantic_syntax.specs.Tables.{Name}
 use Rattle.semantic_tree.specs.Views.{is}
 use Rattle.semantic_model.specs.Binder.{declared_by, declared_on_entering, declared_on_opening, namespace_row}
 use Rattle.semantic_model.specs.Declaration.{How, plain, hoisted, moved, caught, Declaration}
-use Rattle.semantic_model.specs.Event.{Event, declares, takes_over, ends_header, written_declarations, is_barred, staying, placed_by, placed, is_catch_body, taken_over, declares_all, events_of, events}
+use Rattle.semantic_model.specs.Event.{Event, declares, takes_over, ends_header, written_declarations, is_barred, staying, placed_by, placed, taken_over, declares_all, events_of, events}
 use Rattle.semantic_model.specs.Namespace.{InstanceState, instance_state, nodes_around}
 use Rattle.semantic_model.specs.NamespaceStates.{state_at, namespace_states}
 use Rattle.semantic_model.specs.Naming.{Naming}
-use Rattle.semantic_model.specs.Place.{Place, OpenScope, innermost, outside, parent_holds}
+use Rattle.semantic_model.specs.Place.{Place, OpenScope, innermost, outside}
 use Rattle.semantic_model.specs.Step.{Step, entering, opening, header_ending, closing, leaving}
 use Rattle.semantic_model.proofs.form.Clauses.{kind_is}
 use Rattle.semantic_model.proofs.swapped.AlikeBinder.{renamed_declaration}

@@ -1,5 +1,5 @@
 -- Variables that stand in blocks.
-use Rattle.std.specs.Prelude.{◌≡◌, List, [], ◌∷◌, Bool, true, false}
+use Rattle.std.specs.Prelude.{◌≡◌, List, ◌∷◌, Bool, true, false}
 use Rattle.semantic_syntax.specs.Sets.{union}
 use Rattle.semantic_tree.specs.Tree.{Tree}
 use Rattle.semantic_model.specs.Declaration.{How, hoisted, Declaration}
