@@ -162,7 +162,7 @@ module _ (p : Tree) (faultless : first_fault p ≡ None) (numbered : IsNumbered 
     same_made = let keeps : KeepsRead shed = keeps_read (sheds chosen_here) in ap events (steps_same shed keeps p) ∙ events_same shed keeps (steps p)
 
     -- the events are the same, but for names
-    twin_events : namespace_states (steps q) ≡ namespace_states (steps p) → TwinEvents (events (steps p)) (events (steps q))
+    pub twin_events : namespace_states (steps q) ≡ namespace_states (steps p) → TwinEvents (events (steps p)) (events (steps q))
     twin_events e =
         let marks : HaveSameAnalysis unmarked p = same_unmarked (sheds chosen_here) mark.Shorthand p refl in
         subst (λ es. TwinEvents es (events (steps q))) same_made
@@ -231,10 +231,10 @@ module _ (p : Tree) (faultless : first_fault p ≡ None) (numbered : IsNumbered 
 
     -- ---- the names of what is made
 
-    abbrev now_named : Made → Name
+    abbrev pub now_named : Made → Name
     now_named m = cond (chosen_here m.declaration.naming.identifier) new m.declaration.naming.name
 
-    abbrev own_name : Made → Name
+    abbrev pub own_name : Made → Name
     own_name m = m.declaration.naming.name
 
     now_by_pairs : (ms : List Made) → map now_named ms ≡ map (λ (x : ℕ × Name). cond (chosen_here x.0) new x.1) (map made_pair ms)
@@ -249,7 +249,7 @@ module _ (p : Tree) (faultless : first_fault p ≡ None) (numbered : IsNumbered 
     told_by_signs [] h = refl
     told_by_signs (d ∷ ds) h = λ i. sym (h d (inl refl)) i ∷ told_by_signs ds (λ e a. h e (inr a)) i
 
-    names_now : map now_named (made_in p) ≡ map own_name (made_in q)
+    pub names_now : map now_named (made_in p) ≡ map own_name (made_in q)
     names_now =
         let signed_steps : List Step = steps signed_tree in
         let old : pairs (written_declarations (steps unmarked)) ≡ pairs (ren unsigned (written_declarations signed_steps)) = written_pairs unsigned signed_steps (steps unmarked) (subst (λ t. AlikeSteps unsigned signed_steps (steps t)) old_names (program_steps unsigned signed_tree)) in
@@ -260,7 +260,7 @@ module _ (p : Tree) (faultless : first_fault p ≡ None) (numbered : IsNumbered 
         ∙ ap (map (λ (x : ℕ × Name). x.1)) (sym (program_pairs q ∙ fresh)) ∙ sym (own_by_pairs (made_in q))
 
     -- a declaration of another symbol has no chosen node
-    chosen_is : (m : Made) → Among m (made_in p) → chosen_here m.declaration.naming.identifier ≡ (m.symbol == s)
+    pub chosen_is : (m : Made) → Among m (made_in p) → chosen_here m.declaration.naming.identifier ≡ (m.symbol == s)
     chosen_is m a = go (chosen_here id) refl (eqb_tells m.symbol s)
       where
         id : ℕ

@@ -16,3 +16,4 @@ pub mod Programs
 pub mod Rows
 pub mod BackAllowed
 pub mod AloneConflicts
+pub mod KeptSymbols

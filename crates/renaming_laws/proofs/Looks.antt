@@ -2,9 +2,8 @@
 use Rattle.std.proofs.Common.{◌≡◌, ℕ, zero, suc, ◌<◌, ◌≤◌, ◌==◌, List, [], ◌∷◌, ◌++◌, Bool, true, false, not, cond, Option, Some, None, length, map, flat_map, inl, inr, ◌⊎◌, refl, sym, ap, subst, ◌∙◌, arith, bit_and}
 use Rattle.std.specs.Prelude.{slice_get}
 use Rattle.std.proofs.lemmas.Bool.{cases_Bool, eqb-true}
-use Rattle.std.proofs.lemmas.List.{append_assoc, append-nil, length-map}
+use Rattle.std.proofs.lemmas.List.{append_assoc, append-nil}
 use Rattle.std.proofs.lemmas.Nat.{and_assoc}
-use Rattle.semantic_syntax.specs.declared.spans.Span.{Span}
 use Rattle.semantic_syntax.specs.declared.symbol_flags.TheConstants.SymbolFlags as symbol
 use Rattle.semantic_syntax.specs.Sets.{meets, union}
 use Rattle.semantic_syntax.specs.Tables.{Name, Symbol, Bindings}
@@ -16,21 +15,16 @@ use Rattle.semantic_model.specs.Naming.{Naming}
 use Rattle.semantic_model.specs.Place.{OpenScope}
 use Rattle.semantic_model.proofs.lists.Bounds.{IsSound, found_below}
 use Rattle.semantic_model.proofs.once.UseLists.{IsBelow}
+use Rattle.renaming_laws.specs.KeptDeclarations.{declared_as}
 
--- the span and the flags of a symbol
-abbrev pub Look : Type 0
-Look = Span × ℕ
+-- symbols without names and scopes
+abbrev pub looks : List Symbol → List Symbol
+looks ys = map declared_as ys
 
-abbrev pub look : Symbol → Look
-look y = (y.span, y.flags.bits)
-
-abbrev pub looks : List Symbol → List Look
-looks ys = map look ys
-
--- what a declaration makes of them: the symbol gets its flags, or is made
-abbrev pub joined : ℕ → Naming → List Look → List Look
-joined r n [] = (n.span, n.flags) ∷ []
-joined zero n (l ∷ ls) = (l.0, union l.1 n.flags) ∷ ls
+-- what a declaration makes of them: the symbol is declared once more and gets its flags, or is made
+abbrev pub joined : ℕ → Naming → List Symbol → List Symbol
+joined r n [] = declared_as (new_symbol 0 n) ∷ []
+joined zero n (l ∷ ls) = united n.flags (redeclared n l) ∷ ls
 joined (suc r) n (l ∷ ls) = l ∷ joined r n ls
 
 -- ---- the symbol that a declaration gets
@@ -149,19 +143,19 @@ tells_by caught st d e = declare_tells st d.route.target.number d None
 
 -- ---- spans and flags
 
-looks_push : (ys : List Symbol) (y : Symbol) (n : Naming) → look y ≡ (n.span, n.flags) → looks (ys ++ y ∷ []) ≡ joined (length ys) n (looks ys)
+looks_push : (ys : List Symbol) (y : Symbol) (n : Naming) → declared_as y ≡ declared_as (new_symbol 0 n) → looks (ys ++ y ∷ []) ≡ joined (length ys) n (looks ys)
 looks_push [] y n e = λ i. e i ∷ []
-looks_push (z ∷ ys) y n e = ap (λ ls. look z ∷ ls) (looks_push ys y n e)
+looks_push (z ∷ ys) y n e = ap (λ ls. declared_as z ∷ ls) (looks_push ys y n e)
 
-looks_kept : (f : Symbol → Symbol) → ((y : Symbol) → look (f y) ≡ look y) → (ys : List Symbol) (s : ℕ) → looks (update f ys s) ≡ looks ys
+looks_kept : (f : Symbol → Symbol) → ((y : Symbol) → declared_as (f y) ≡ declared_as y) → (ys : List Symbol) (s : ℕ) → looks (update f ys s) ≡ looks ys
 looks_kept f h [] s = refl
 looks_kept f h (y ∷ ys) zero = λ i. h y i ∷ looks ys
-looks_kept f h (y ∷ ys) (suc s) = ap (λ ls. look y ∷ ls) (looks_kept f h ys s)
+looks_kept f h (y ∷ ys) (suc s) = ap (λ ls. declared_as y ∷ ls) (looks_kept f h ys s)
 
 looks_united : (n : Naming) (ys : List Symbol) (s : ℕ) → s < length ys → looks (update (λ y. united n.flags (redeclared n y)) ys s) ≡ joined s n (looks ys)
 looks_united n [] s h = absurd (omega (arith, h))
 looks_united n (y ∷ ys) zero h = refl
-looks_united n (y ∷ ys) (suc s) h = ap (λ ls. look y ∷ ls) (looks_united n ys s (omega (arith, h)))
+looks_united n (y ∷ ys) (suc s) h = ap (λ ls. declared_as y ∷ ls) (looks_united n ys s (omega (arith, h)))
 
 declare_looks : (st : State) (c : ℕ) (d : Declaration) (o : Option ℕ) → IsBelow (length st.symbols) o → looks (declare_in st c d o).symbols ≡ joined (chosen st o) d.naming (looks st.symbols)
 declare_looks st c d None h = looks_push st.symbols (new_symbol c d.naming) d.naming refl
@@ -179,9 +173,15 @@ pub rescoped_looks : (ys : List Symbol) (bs : Bindings) (c : ℕ) → looks (res
 rescoped_looks ys [] c = refl
 rescoped_looks ys (b ∷ bs) c = rescoped_looks (update (in_scope c) ys b.1) bs c ∙ looks_kept (in_scope c) (λ y. refl) ys b.1
 
--- a symbol of a passed scope has the flags of the `var` that gets it
+-- a symbol that has all flags of a declaration is declared once more by it
+looks_redeclared : (n : Naming) (ys : List Symbol) (s : ℕ) → s < length ys → ((l : Symbol) → slice_get (looks ys) s ≡ Some l → union l.flags.bits n.flags ≡ l.flags.bits) → looks (update (redeclared n) ys s) ≡ joined s n (looks ys)
+looks_redeclared n [] s h k = absurd (omega (arith, h))
+looks_redeclared n (y ∷ ys) zero h k = λ i. record (redeclared n (declared_as y)) { flags = record { bits = sym (k (declared_as y) refl) i } } ∷ looks ys
+looks_redeclared n (y ∷ ys) (suc s) h k = ap (λ ls. declared_as y ∷ ls) (looks_redeclared n ys s (omega (arith, h)) k)
+
+-- so is a symbol of a passed scope by the `var` that gets it
 abbrev pub HasFlagsOf : State → Declaration → Type 0
-HasFlagsOf st d = (h : PassedSymbol) → passed_symbol st d.route.passed d.naming.name ≡ Some h → joined h.symbol d.naming (looks st.symbols) ≡ looks st.symbols
+HasFlagsOf st d = (h : PassedSymbol) → passed_symbol st d.route.passed d.naming.name ≡ Some h → looks (update (redeclared d.naming) st.symbols h.symbol) ≡ joined h.symbol d.naming (looks st.symbols)
 
 hoist_looks : (st : State) (d : Declaration) → d.naming.excluded ≡ symbol.FunctionScopedVariableExcludes.bits → IsSound st → HasFlagsOf st d → looks (hoist st d).symbols ≡ joined (gets hoisted st d) d.naming (looks st.symbols)
 hoist_looks st d e b has =
@@ -196,7 +196,7 @@ hoist_looks st d e b has =
         let w : State = noted st d (Some h) in
         let got : State = note_symbol (record w { symbols = update (redeclared d.naming) w.symbols h.symbol }) d h.symbol in
         move_symbol_looks got h.scope d.route.target.number d.naming.name h.symbol (get got.bindings d.route.target.number d.naming.name)
-        ∙ looks_kept (redeclared d.naming) (λ y. refl) st.symbols h.symbol ∙ sym (has h f)
+        ∙ has h f
 
 pub looks_by : (how : How) (st : State) (d : Declaration) → (how ≡ hoisted → (d.naming.excluded ≡ symbol.FunctionScopedVariableExcludes.bits) × HasFlagsOf st d) → IsSound st → looks (declare_by how st d).symbols ≡ joined (gets how st d) d.naming (looks st.symbols)
 looks_by plain st d e b = let t : ℕ = d.route.target.number in declare_looks st t d (found st t d.naming.name) (found_below (length st.symbols) st t d.naming.name b)
@@ -273,15 +273,7 @@ gets_within hoisted st d b = go (passed_symbol st d.route.passed d.naming.name) 
     go None e = below_next st (found st d.route.target.number d.naming.name) (found_below (length st.symbols) st d.route.target.number d.naming.name b)
     go (Some h) e = let l : h.symbol < length st.symbols = passed_below st d.route.passed d.naming.name b h e in omega (arith, l)
 
--- a symbol that has all flags of a declaration stays as it is
-joined_kept : (r : ℕ) (n : Naming) (ls : List Look) → r < length ls → ((l : Look) → slice_get ls r ≡ Some l → union l.1 n.flags ≡ l.1) → joined r n ls ≡ ls
-joined_kept r n [] h k = absurd (omega (arith, h))
-joined_kept zero n (l ∷ ls) h k = λ i. (l.0, k l refl i) ∷ ls
-joined_kept (suc r) n (l ∷ ls) h k = ap (λ xs. l ∷ xs) (joined_kept r n ls (omega (arith, h)) k)
-
--- so it is with a `var` that gets the symbol of a passed scope
-pub passed_kept : (st : State) (d : Declaration) → IsSound st → ((l : Look) → slice_get (looks st.symbols) (gets hoisted st d) ≡ Some l → union l.1 d.naming.flags ≡ l.1) → HasFlagsOf st d
+pub passed_kept : (st : State) (d : Declaration) → IsSound st → ((l : Symbol) → slice_get (looks st.symbols) (gets hoisted st d) ≡ Some l → union l.flags.bits d.naming.flags ≡ l.flags.bits) → HasFlagsOf st d
 passed_kept st d b k h e =
-    let l : h.symbol < length st.symbols = passed_below st d.route.passed d.naming.name b h e in
-    joined_kept h.symbol d.naming (looks st.symbols) (subst (λ n. h.symbol < n) (sym (length-map st.symbols look)) l)
-    (λ w f. k w (ap (λ o. slice_get (looks st.symbols) (passed_or st d o)) e ∙ f))
+    looks_redeclared d.naming st.symbols h.symbol (passed_below st d.route.passed d.naming.name b h e)
+    (λ l f. k l (ap (λ o. slice_get (looks st.symbols) (passed_or st d o)) e ∙ f))

@@ -12,44 +12,45 @@ use Rattle.semantic_model.specs.Binding.{bound_by}
 use Rattle.semantic_model.specs.Declaration.{How, hoisted, Declaration}
 use Rattle.semantic_model.specs.Entries.{Among}
 use Rattle.semantic_model.specs.Event.{Event, declares, takes_over, ends_header}
-use Rattle.semantic_model.specs.Fold.{Conflict, Made, State, conflict_with, start}
+use Rattle.semantic_model.specs.Fold.{Conflict, Made, State, redeclared, united, new_symbol, conflict_with, start}
 use Rattle.semantic_model.specs.Hoist.{PassedSymbol, passed_symbol, act, run}
 use Rattle.semantic_model.specs.Naming.{Naming}
 use Rattle.semantic_model.specs.Place.{OpenScope}
 use Rattle.semantic_model.proofs.lists.Bounds.{IsSound}
 use Rattle.semantic_model.proofs.lists.Growth.{act_grows, start_is_sound}
 use Rattle.semantic_model.proofs.lists.Members.{among_right}
+use Rattle.renaming_laws.specs.KeptDeclarations.{declared_as}
 use Rattle.renaming_laws.specs.InBlocks.{passes_some, is_var_in_block, ShareFlags}
-use Rattle.renaming_laws.proofs.Looks.{Look, look, looks, joined, gets, tells_by, HasFlagsOf, looks_by, made_by, rescoped_looks, gets_within, passed_kept}
+use Rattle.renaming_laws.proofs.Looks.{looks, joined, gets, tells_by, HasFlagsOf, looks_by, made_by, rescoped_looks, gets_within, passed_kept}
 use Rattle.renaming_laws.proofs.Twins.{unnamed, Twin, TwinEvents}
 
 -- ---- the flags of a `var` in a block
 
 -- each symbol of a `var` in a block has the flags of the `var`
-abbrev Covered : List Made → List Look → Type 0
-Covered F ls = (m : Made) → Among m F → is_var_in_block m.declaration ≡ true → (l : Look) → slice_get ls m.symbol ≡ Some l → union l.1 m.declaration.naming.flags ≡ l.1
+abbrev Covered : List Made → List Symbol → Type 0
+Covered F ls = (m : Made) → Among m F → is_var_in_block m.declaration ≡ true → (l : Symbol) → slice_get ls m.symbol ≡ Some l → union l.flags.bits m.declaration.naming.flags ≡ l.flags.bits
 
 -- an entry after a declaration: as it was, or that of its symbol
-data After (r : ℕ) (n : Naming) (ls : List Look) (j : ℕ) (l : Look) : Type 0 where
+data After (r : ℕ) (n : Naming) (ls : List Symbol) (j : ℕ) (l : Symbol) : Type 0 where
   as_before : slice_get ls j ≡ Some l → After r n ls j l
-  is_joined : (k : Look) → j ≡ r → slice_get ls r ≡ Some k → l.1 ≡ union k.1 n.flags → After r n ls j l
-  is_new : j ≡ r → l.1 ≡ n.flags → After r n ls j l
+  is_joined : (k : Symbol) → j ≡ r → slice_get ls r ≡ Some k → l.flags.bits ≡ union k.flags.bits n.flags → After r n ls j l
+  is_new : j ≡ r → l.flags.bits ≡ n.flags → After r n ls j l
 
-some_look : (k l : Look) → ◌≡◌ {A = Option Look} (Some k) (Some l) → k ≡ l
+some_look : (k l : Symbol) → ◌≡◌ {A = Option Symbol} (Some k) (Some l) → k ≡ l
 some_look k l e = cc
 
-no_look : (l : Look) → ◌≡◌ {A = Option Look} None (Some l) → ⊥
+no_look : (l : Symbol) → ◌≡◌ {A = Option Symbol} None (Some l) → ⊥
 no_look l e = cc
 
-later : (r : ℕ) (n : Naming) (ls : List Look) (j : ℕ) (x l : Look) → After r n ls j l → After (suc r) n (x ∷ ls) (suc j) l
+later : (r : ℕ) (n : Naming) (ls : List Symbol) (j : ℕ) (x l : Symbol) → After r n ls j l → After (suc r) n (x ∷ ls) (suc j) l
 later r n ls j x l (as_before e) = as_before e
 later r n ls j x l (is_joined k i e f) = is_joined k (ap suc i) e f
 later r n ls j x l (is_new i f) = is_new (ap suc i) f
 
-after_at : (r : ℕ) (n : Naming) (ls : List Look) (j : ℕ) (l : Look) → r ≤ length ls → slice_get (joined r n ls) j ≡ Some l → After r n ls j l
-after_at r n [] zero l h e = is_new (omega (arith, h)) (sym (ap (λ (k : Look). k.1) (some_look (n.span, n.flags) l e)))
+after_at : (r : ℕ) (n : Naming) (ls : List Symbol) (j : ℕ) (l : Symbol) → r ≤ length ls → slice_get (joined r n ls) j ≡ Some l → After r n ls j l
+after_at r n [] zero l h e = is_new (omega (arith, h)) (sym (ap (λ (k : Symbol). k.flags.bits) (some_look (declared_as (new_symbol 0 n)) l e)))
 after_at r n [] (suc j) l h e = absurd (no_look l e)
-after_at zero n (x ∷ ls) zero l h e = is_joined x refl refl (sym (ap (λ (k : Look). k.1) (some_look (x.0, union x.1 n.flags) l e)))
+after_at zero n (x ∷ ls) zero l h e = is_joined x refl refl (sym (ap (λ (k : Symbol). k.flags.bits) (some_look (united n.flags (redeclared n x)) l e)))
 after_at zero n (x ∷ ls) (suc j) l h e = as_before e
 after_at (suc r) n (x ∷ ls) zero l h e = as_before e
 after_at (suc r) n (x ∷ ls) (suc j) l h e = later r n ls j x l (after_at r n ls j l (omega (arith, h)) e)
@@ -58,14 +59,14 @@ after_at (suc r) n (x ∷ ls) (suc j) l h e = later r n ls j x l (after_at r n l
 absorbed : (a n m : ℕ) → union a m ≡ a → union (union a n) m ≡ union a n
 absorbed a n m h = same_from_bits (bit_or (bit_or a n) m) (bit_or a n) (λ i. let e : bit_at (bit_or a m) i ≡ bit_at a i = ap (λ b. bit_at b i) h in omega (arith, e, bit_at_or a m i, bit_at_or (bit_or a n) m i, bit_at_or a n i))
 
-covered_next : (F : List Made) (d : Declaration) (r : ℕ) (ls : List Look) → ShareFlags F → Among (record { declaration = d; symbol = r }) F → r ≤ length ls → Covered F ls → Covered F (joined r d.naming ls)
+covered_next : (F : List Made) (d : Declaration) (r : ℕ) (ls : List Symbol) → ShareFlags F → Among (record { declaration = d; symbol = r }) F → r ≤ length ls → Covered F ls → Covered F (joined r d.naming ls)
 covered_next F d r ls share a h c m b v l e = go (after_at r d.naming ls m.symbol l h e)
   where
-    go : After r d.naming ls m.symbol l → union l.1 m.declaration.naming.flags ≡ l.1
+    go : After r d.naming ls m.symbol l → union l.flags.bits m.declaration.naming.flags ≡ l.flags.bits
     go (as_before q) = c m b v l q
     go (is_joined k i q f) =
-        let had : union k.1 m.declaration.naming.flags ≡ k.1 = c m b v k (ap (slice_get ls) i ∙ q) in
-        ap (λ x. union x m.declaration.naming.flags) f ∙ absorbed k.1 d.naming.flags m.declaration.naming.flags had ∙ sym f
+        let had : union k.flags.bits m.declaration.naming.flags ≡ k.flags.bits = c m b v k (ap (slice_get ls) i ∙ q) in
+        ap (λ x. union x m.declaration.naming.flags) f ∙ absorbed k.flags.bits d.naming.flags m.declaration.naming.flags had ∙ sym f
     go (is_new i f) =
         ap (λ x. union x m.declaration.naming.flags) f ∙ share m (record { declaration = d; symbol = r }) b a v i ∙ sym f
 
@@ -144,14 +145,14 @@ module _ (F G : List Made) (now next : Made → Name) where
   twinned_append (c ∷ cs) [] ds fs h i = absurd h
   twinned_append (c ∷ cs) (e ∷ es) ds fs h i = (h.0, twinned_append cs es ds fs h.1 i)
 
-  conflicts_twinned : (m k : Made) → Among m F → m.symbol ≡ k.symbol → now m ≡ next k → unnamed m.declaration.naming ≡ unnamed k.declaration.naming → (y z : Option Symbol) → option_map look y ≡ option_map look z → AllTwinned (conflict_with m.declaration.naming y) (conflict_with k.declaration.naming z)
+  conflicts_twinned : (m k : Made) → Among m F → m.symbol ≡ k.symbol → now m ≡ next k → unnamed m.declaration.naming ≡ unnamed k.declaration.naming → (y z : Option Symbol) → option_map declared_as y ≡ option_map declared_as z → AllTwinned (conflict_with m.declaration.naming y) (conflict_with k.declaration.naming z)
   conflicts_twinned m k a s t n None None e = tt
-  conflicts_twinned m k a s t n None (Some z) e = absurd (no_look (look z) e)
-  conflicts_twinned m k a s t n (Some y) None e = absurd (no_look (look y) (sym e))
+  conflicts_twinned m k a s t n None (Some z) e = absurd (no_look (declared_as z) e)
+  conflicts_twinned m k a s t n (Some y) None e = absurd (no_look (declared_as y) (sym e))
   conflicts_twinned m k a s t n (Some y) (Some z) e =
-      let same : look y ≡ look z = some_look (look y) (look z) e in
-      let tests : meets y.flags.bits m.declaration.naming.excluded ≡ meets z.flags.bits k.declaration.naming.excluded = λ i. meets (same i).1 (n i).excluded in
-      go (meets y.flags.bits m.declaration.naming.excluded) (meets z.flags.bits k.declaration.naming.excluded) tests (ap (λ (l : Look). l.0) same)
+      let same : declared_as y ≡ declared_as z = some_look (declared_as y) (declared_as z) e in
+      let tests : meets y.flags.bits m.declaration.naming.excluded ≡ meets z.flags.bits k.declaration.naming.excluded = λ i. meets (same i).flags.bits (n i).excluded in
+      go (meets y.flags.bits m.declaration.naming.excluded) (meets z.flags.bits k.declaration.naming.excluded) tests (ap (λ (l : Symbol). l.span) same)
     where
       go : (b c : Bool) → b ≡ c → y.span ≡ z.span → AllTwinned (cond b (record { name = m.declaration.naming.name; earlier = y.span; later = m.declaration.naming.span } ∷ []) []) (cond c (record { name = k.declaration.naming.name; earlier = z.span; later = k.declaration.naming.span } ∷ []) [])
       go true true q p = (record { made = m; other = k; among = a; symbol = s; told = t; name = refl; other_name = refl; earlier = sym p; later = ap (λ (x : Naming). x.span) (sym n) }, tt)
@@ -171,9 +172,9 @@ AreVarRows (declares d ∷ es) = IsVarRow d × AreVarRows es
 AreVarRows (takes_over c b ∷ es) = AreVarRows es
 AreVarRows (ends_header c ∷ es) = AreVarRows es
 
-joined_twins : (r : ℕ) (n k : Naming) (ls : List Look) → unnamed n ≡ unnamed k → joined r n ls ≡ joined r k ls
-joined_twins r n k [] e = λ i. ((e i).span, (e i).flags) ∷ []
-joined_twins zero n k (l ∷ ls) e = λ i. (l.0, union l.1 (e i).flags) ∷ ls
+joined_twins : (r : ℕ) (n k : Naming) (ls : List Symbol) → unnamed n ≡ unnamed k → joined r n ls ≡ joined r k ls
+joined_twins r n k [] e = λ i. declared_as (new_symbol 0 (e i)) ∷ []
+joined_twins zero n k (l ∷ ls) e = λ i. united (e i).flags (redeclared (e i) l) ∷ ls
 joined_twins (suc r) n k (l ∷ ls) e = ap (λ xs. l ∷ xs) (joined_twins r n k ls e)
 
 -- a `var` that finds a symbol on its way stands in a block
@@ -194,11 +195,11 @@ module _ (F G : List Made) (now next : Made → Name) (share : ShareFlags F) whe
     covered : Covered F (looks st.symbols)
     told : AllTwinned F G now next st.conflicts sw.conflicts
 
-  looks_at : (ys zs : List Symbol) (r : ℕ) → looks ys ≡ looks zs → option_map look (slice_get ys r) ≡ option_map look (slice_get zs r)
-  looks_at ys zs r e = sym (slice_get-map look ys r) ∙ ap (λ ls. slice_get ls r) e ∙ slice_get-map look zs r
+  looks_at : (ys zs : List Symbol) (r : ℕ) → looks ys ≡ looks zs → option_map declared_as (slice_get ys r) ≡ option_map declared_as (slice_get zs r)
+  looks_at ys zs r e = sym (slice_get-map declared_as ys r) ∙ ap (λ ls. slice_get ls r) e ∙ slice_get-map declared_as zs r
 
   -- a symbol that a `var` gets on its way has its flags
-  has_flags : (st : State) (d : Declaration) → IsSound st → d.how ≡ hoisted → (is_var_in_block d ≡ true → (l : Look) → slice_get (looks st.symbols) (gets d.how st d) ≡ Some l → union l.1 d.naming.flags ≡ l.1) → HasFlagsOf st d
+  has_flags : (st : State) (d : Declaration) → IsSound st → d.how ≡ hoisted → (is_var_in_block d ≡ true → (l : Symbol) → slice_get (looks st.symbols) (gets d.how st d) ≡ Some l → union l.flags.bits d.naming.flags ≡ l.flags.bits) → HasFlagsOf st d
   has_flags st d b f c h k = passed_kept st d b (λ l q. c (in_block_if d.how st d f h k) l (ap (λ w. slice_get (looks st.symbols) (gets w st d)) f ∙ q)) h k
 
   -- a declaration and its twin, which get the same symbol
@@ -218,9 +219,9 @@ module _ (F G : List Made) (now next : Made → Name) (share : ShareFlags F) whe
   looks_right st sw d e w t =
       looks_by e.how sw e (λ f. (t.other_row f, has_flags sw e w.right f (λ v l q. covers v l q))) w.right
     where
-      covers : is_var_in_block e ≡ true → (l : Look) → slice_get (looks sw.symbols) (gets e.how sw e) ≡ Some l → union l.1 e.naming.flags ≡ l.1
+      covers : is_var_in_block e ≡ true → (l : Symbol) → slice_get (looks sw.symbols) (gets e.how sw e) ≡ Some l → union l.flags.bits e.naming.flags ≡ l.flags.bits
       covers v l q =
-          subst (λ n. union l.1 n ≡ l.1) (ap (λ (x : Naming). x.flags) t.twin.naming)
+          subst (λ n. union l.flags.bits n ≡ l.flags.bits) (ap (λ (x : Naming). x.flags) t.twin.naming)
           (w.covered (record { declaration = d; symbol = gets d.how st d }) t.among (t.twin.in_block ∙ v) l ((λ i. slice_get (w.same i) (t.symbol i)) ∙ q))
 
   told_next : (st sw : State) (d e : Declaration) → Level st sw → Step st sw d e → AllTwinned F G now next (act st (declares d)).conflicts (act sw (declares e)).conflicts
@@ -230,7 +231,7 @@ module _ (F G : List Made) (now next : Made → Name) (share : ShareFlags F) whe
       subst₂ (AllTwinned F G now next) (sym (tells_by d.how st d t.row)) (sym (tells_by e.how sw e t.other_row))
       (twinned_append F G now next st.conflicts sw.conflicts (conflict_with d.naming (slice_get st.symbols r)) (conflict_with e.naming (slice_get sw.symbols q)) w.told
       (conflicts_twinned F G now next (record { declaration = d; symbol = r }) (record { declaration = e; symbol = q }) t.among t.symbol t.names t.twin.naming
-      (slice_get st.symbols r) (slice_get sw.symbols q) (looks_at st.symbols sw.symbols r w.same ∙ ap (λ n. option_map look (slice_get sw.symbols n)) t.symbol)))
+      (slice_get st.symbols r) (slice_get sw.symbols q) (looks_at st.symbols sw.symbols r w.same ∙ ap (λ n. option_map declared_as (slice_get sw.symbols n)) t.symbol)))
 
   next_level : (st sw : State) (d e : Declaration) → Level st sw → Step st sw d e → Level (act st (declares d)) (act sw (declares e))
   next_level st sw d e w t =
@@ -243,7 +244,7 @@ module _ (F G : List Made) (now next : Made → Name) (share : ShareFlags F) whe
         same = looks_left st sw d e w t ∙ (λ i. joined (t.symbol i) d.naming (w.same i)) ∙ joined_twins q d.naming e.naming (looks sw.symbols) t.twin.naming ∙ sym (looks_right st sw d e w t);
         many = ap length (made_by d.how st d) ∙ length_added st.made (record { declaration = d; symbol = r }) ∙ ap suc w.many
             ∙ sym (ap length (made_by e.how sw e) ∙ length_added sw.made (record { declaration = e; symbol = q }));
-        covered = subst (Covered F) (sym (looks_left st sw d e w t)) (covered_next F d r (looks st.symbols) share t.among (subst (λ n. r ≤ n) (sym (length-map st.symbols look)) within) w.covered);
+        covered = subst (Covered F) (sym (looks_left st sw d e w t)) (covered_next F d r (looks st.symbols) share t.among (subst (λ n. r ≤ n) (sym (length-map st.symbols declared_as)) within) w.covered);
         told = told_next st sw d e w t;
       }
 
@@ -259,11 +260,11 @@ module _ (F G : List Made) (now next : Made → Name) (share : ShareFlags F) whe
         told = w.told;
       }
 
-  all_told : (es fs : List Event) (st sw : State) → TwinEvents es fs → AreVarRows es → AreVarRows fs → Level st sw → (run st es).made ≡ F → (run sw fs).made ≡ G → symbols_in F ≡ symbols_in G → map now F ≡ map next G → AllTwinned F G now next (run st es).conflicts (run sw fs).conflicts
-  all_told [] [] st sw t h k w f g e o = w.told
-  all_told [] (y ∷ fs) st sw t h k w f g e o = absurd t
-  all_told (x ∷ es) [] st sw t h k w f g e o = absurd t
-  all_told (declares d ∷ es) (declares c ∷ fs) st sw t h k w f g e o =
+  all_levels : (es fs : List Event) (st sw : State) → TwinEvents es fs → AreVarRows es → AreVarRows fs → Level st sw → (run st es).made ≡ F → (run sw fs).made ≡ G → symbols_in F ≡ symbols_in G → map now F ≡ map next G → Level (run st es) (run sw fs)
+  all_levels [] [] st sw t h k w f g e o = w
+  all_levels [] (y ∷ fs) st sw t h k w f g e o = absurd t
+  all_levels (x ∷ es) [] st sw t h k w f g e o = absurd t
+  all_levels (declares d ∷ es) (declares c ∷ fs) st sw t h k w f g e o =
       let m : Made = record { declaration = d; symbol = gets d.how st d } in
       let n : Made = record { declaration = c; symbol = gets c.how sw c } in
       let a : Stands st.made m F = subst (Stands st.made m) f (stands st d es) in
@@ -276,20 +277,27 @@ module _ (F G : List Made) (now next : Made → Name) (share : ShareFlags F) whe
         among = stands_among st.made m F a;
         names = same_place now next st.made sw.made m n a.behind b.behind w.many (ap (map now) (sym a.is) ∙ o ∙ ap (map next) b.is);
       } in
-      all_told es fs (act st (declares d)) (act sw (declares c)) t.1 h.1 k.1 (next_level st sw d c w turn) f g e o
-  all_told (takes_over c b ∷ es) (takes_over c' b' ∷ fs) st sw t h k w f g e o =
-      all_told es fs (act st (takes_over c b)) (act sw (takes_over c' b')) t.1 h k (taken_level st sw c b c' b' w) f g e o
-  all_told (ends_header c ∷ es) (ends_header c' ∷ fs) st sw t h k w f g e o = all_told es fs st sw t.1 h k w f g e o
-  all_told (_ ∷ es) (_ ∷ fs) st sw t h k w f g e o = absurd t.0
+      all_levels es fs (act st (declares d)) (act sw (declares c)) t.1 h.1 k.1 (next_level st sw d c w turn) f g e o
+  all_levels (takes_over c b ∷ es) (takes_over c' b' ∷ fs) st sw t h k w f g e o =
+      all_levels es fs (act st (takes_over c b)) (act sw (takes_over c' b')) t.1 h k (taken_level st sw c b c' b' w) f g e o
+  all_levels (ends_header c ∷ es) (ends_header c' ∷ fs) st sw t h k w f g e o = all_levels es fs st sw t.1 h k w f g e o
+  all_levels (_ ∷ es) (_ ∷ fs) st sw t h k w f g e o = absurd t.0
 
 -- of whole programs
-pub same_conflicts : (es fs : List Event) (now next : Made → Name) → TwinEvents es fs → AreVarRows es → AreVarRows fs → ShareFlags (run start es).made → symbols_in (run start es).made ≡ symbols_in (run start fs).made → map now (run start es).made ≡ map next (run start fs).made → AllTwinned (run start es).made (run start fs).made now next (run start es).conflicts (run start fs).conflicts
-same_conflicts es fs now next t h k share e o =
-    all_told (run start es).made (run start fs).made now next share es fs start start t h k (record {
-      left = start_is_sound;
-      right = start_is_sound;
-      same = refl;
-      many = refl;
-      covered = λ m a v l q. absurd (no_look l q);
-      told = tt;
-    }) refl refl e o
+module _ (es fs : List Event) (now next : Made → Name) where
+  in_the_end : TwinEvents es fs → AreVarRows es → AreVarRows fs → (share : ShareFlags (run start es).made) → symbols_in (run start es).made ≡ symbols_in (run start fs).made → map now (run start es).made ≡ map next (run start fs).made → Level (run start es).made (run start fs).made now next share (run start es) (run start fs)
+  in_the_end t h k share e o =
+      all_levels (run start es).made (run start fs).made now next share es fs start start t h k (record {
+        left = start_is_sound;
+        right = start_is_sound;
+        same = refl;
+        many = refl;
+        covered = λ m a v l q. absurd (no_look l q);
+        told = tt;
+      }) refl refl e o
+
+  pub same_conflicts : TwinEvents es fs → AreVarRows es → AreVarRows fs → ShareFlags (run start es).made → symbols_in (run start es).made ≡ symbols_in (run start fs).made → map now (run start es).made ≡ map next (run start fs).made → AllTwinned (run start es).made (run start fs).made now next (run start es).conflicts (run start fs).conflicts
+  same_conflicts t h k share e o = (in_the_end t h k share e o).told
+
+  pub same_looks : TwinEvents es fs → AreVarRows es → AreVarRows fs → ShareFlags (run start es).made → symbols_in (run start es).made ≡ symbols_in (run start fs).made → map now (run start es).made ≡ map next (run start fs).made → looks (run start es).symbols ≡ looks (run start fs).symbols
+  same_looks t h k share e o = (in_the_end t h k share e o).same

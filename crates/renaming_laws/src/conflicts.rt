@@ -1,4 +1,4 @@
-//! Laws on the conflicts of declarations.
+//! Laws on declarations and their conflicts.
 ghost use Rattle.std.specs.Prelude.{◌≡◌, ℕ, [], Some, None, Ok, false, map, bytes_eq, codes, slice_get};
 ghost use Rattle.semantic_syntax.specs.Tables.{Name, Symbol};
 ghost use Rattle.semantic_tree.specs.Faults.{first_fault};
@@ -11,6 +11,7 @@ ghost use Rattle.program_laws.specs.SameAnalysis.{conflicts_of};
 ghost use Rattle.rename_model.specs.Alone.{BelongsTo, IsUnused};
 ghost use Rattle.rename_model.specs.Refusal.{rename};
 ghost use Rattle.renaming_laws.specs.InBlocks.{made_in, ShareFlags};
+ghost use Rattle.renaming_laws.specs.KeptDeclarations.{KeepsDeclarations};
 ghost use Rattle.renaming_laws.specs.KeptConflicts.{AreRenamedConflicts, with_other_name};
 
 /// A renaming keeps the conflicts of declarations: so many, in the same order, at the same places. Those of the symbol are told
@@ -24,6 +25,15 @@ pub fn a_renaming_keeps_conflicts()
     ensures without_namespaces { (p q : Tree) (s : ℕ) (y : Symbol) (new : Name) → first_fault p ≡ None → IsNumbered p.root → slice_get (tables_of p).symbols s ≡ Some y
         → rename p s new ≡ Ok q → namespace_states (steps p) ≡ [] → ShareFlags (made_in p)
         → AreRenamedConflicts p s new (conflicts_of p) (conflicts_of q) }
+{}
+
+/// Under the same conditions each symbol is declared as it was: at the same place, with the same flags and declarations. Its name
+/// is the new one where it is the renamed symbol, else the old one. What binds it may be another scope, as a block is that of
+/// a function which doesn't move where its name is taken.
+pub fn a_renaming_keeps_declarations()
+    ensures { (p q : Tree) (s : ℕ) (y : Symbol) (new : Name) → first_fault p ≡ None → IsNumbered p.root → slice_get (tables_of p).symbols s ≡ Some y
+        → rename p s new ≡ Ok q → namespace_states (steps q) ≡ namespace_states (steps p) → ShareFlags (made_in p)
+        → KeepsDeclarations p q s new }
 {}
 
 /// Where every node with the name of a symbol belongs to it, that name is neither `arguments` nor `eval`, and no node has the
