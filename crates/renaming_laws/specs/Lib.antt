@@ -1,0 +1,5 @@
+pub mod WrittenOut
+pub mod InBlocks
+pub mod KeptConflicts
+pub mod KeptDeclarations
+pub mod AskedNames

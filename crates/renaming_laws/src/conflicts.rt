@@ -1,0 +1,46 @@
+//! Laws on declarations and their conflicts.
+ghost use Rattle.std.specs.Prelude.{◌≡◌, ℕ, [], Some, None, Ok, false, map, bytes_eq, codes, slice_get};
+ghost use Rattle.semantic_syntax.specs.Tables.{Name, Symbol};
+ghost use Rattle.semantic_tree.specs.Faults.{first_fault};
+ghost use Rattle.semantic_tree.specs.Renamed.{swap};
+ghost use Rattle.semantic_tree.specs.Tree.{Tree, IsNumbered};
+ghost use Rattle.semantic_model.specs.NamespaceStates.{namespace_states};
+ghost use Rattle.semantic_model.specs.Step.{steps};
+ghost use Rattle.semantic_model.specs.TablesOf.{tables_of};
+ghost use Rattle.program_laws.specs.SameAnalysis.{conflicts_of};
+ghost use Rattle.rename_model.specs.Alone.{BelongsTo, IsUnused};
+ghost use Rattle.rename_model.specs.Refusal.{rename};
+ghost use Rattle.renaming_laws.specs.InBlocks.{made_in, ShareFlags};
+ghost use Rattle.renaming_laws.specs.KeptDeclarations.{KeepsDeclarations};
+ghost use Rattle.renaming_laws.specs.KeptConflicts.{AreRenamedConflicts, with_other_name};
+
+/// A renaming keeps the conflicts of declarations: so many, in the same order, at the same places. Those of the symbol are told
+/// with its new name, all others as they were. Namespaces have to keep their states, which they do where there are none, and
+/// a `var` that stands in a block must not share its symbol with a declaration that is no variable: there a program can lose
+/// or get a conflict.
+pub fn a_renaming_keeps_conflicts()
+    ensures kept { (p q : Tree) (s : ℕ) (y : Symbol) (new : Name) → first_fault p ≡ None → IsNumbered p.root → slice_get (tables_of p).symbols s ≡ Some y
+        → rename p s new ≡ Ok q → namespace_states (steps q) ≡ namespace_states (steps p) → ShareFlags (made_in p)
+        → AreRenamedConflicts p s new (conflicts_of p) (conflicts_of q) }
+    ensures without_namespaces { (p q : Tree) (s : ℕ) (y : Symbol) (new : Name) → first_fault p ≡ None → IsNumbered p.root → slice_get (tables_of p).symbols s ≡ Some y
+        → rename p s new ≡ Ok q → namespace_states (steps p) ≡ [] → ShareFlags (made_in p)
+        → AreRenamedConflicts p s new (conflicts_of p) (conflicts_of q) }
+{}
+
+/// Under the same conditions each symbol is declared as it was: at the same place, with the same flags and declarations. Its name
+/// is the new one where it is the renamed symbol, else the old one. What binds it may be another scope, as a block is that of
+/// a function which doesn't move where its name is taken.
+pub fn a_renaming_keeps_declarations()
+    ensures { (p q : Tree) (s : ℕ) (y : Symbol) (new : Name) → first_fault p ≡ None → IsNumbered p.root → slice_get (tables_of p).symbols s ≡ Some y
+        → rename p s new ≡ Ok q → namespace_states (steps q) ≡ namespace_states (steps p) → ShareFlags (made_in p)
+        → KeepsDeclarations p q s new }
+{}
+
+/// Where every node with the name of a symbol belongs to it, that name is neither `arguments` nor `eval`, and no node has the
+/// new name, all conflicts stay whatever else stands there, with the two names swapped.
+pub fn a_name_of_one_symbol_keeps_conflicts()
+    ensures { (p q : Tree) (s : ℕ) (y : Symbol) (new : Name) → first_fault p ≡ None → IsNumbered p.root → slice_get (tables_of p).symbols s ≡ Some y
+        → bytes_eq y.name (codes "arguments") ≡ false → bytes_eq y.name (codes "eval") ≡ false → BelongsTo p s y.name → IsUnused p new
+        → rename p s new ≡ Ok q
+        → conflicts_of q ≡ map (with_other_name (swap y.name new)) (conflicts_of p) }
+{}
