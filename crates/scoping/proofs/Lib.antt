@@ -26,3 +26,5 @@ pub mod Typeless
 pub mod Clones
 pub mod Ancestors
 pub mod Rising
+pub mod Apart
+pub mod PlainCounts

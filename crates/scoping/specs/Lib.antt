@@ -9,5 +9,6 @@ pub mod RowLending
 pub mod Numbering
 pub mod Left
 pub mod Redeclared
+pub mod Plain
 pub mod Kept
 pub mod Ancestry

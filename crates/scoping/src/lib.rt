@@ -10,6 +10,7 @@ pub mod name_table;
 pub mod node_map;
 pub mod node_tables;
 pub mod positions;
+pub mod redeclarations;
 pub mod reference_iterators;
 pub mod scope_iterators;
 pub mod scope_slots;

@@ -1,6 +1,7 @@
 //! A value for each of some nodes.
 ghost use Rattle.std.specs.Prelude.{◌≡◌, [], true, nat_eq, MatchOption, OnOk, OnErr};
-ghost use Rattle.std.specs.Map.{lookup};
+ghost use Rattle.std.specs.List.{IsDistinct};
+ghost use Rattle.std.specs.Map.{keys_of, lookup};
 ghost use Rattle.indexmap.specs.IndexMap.{insert_entry};
 ghost use Rattle.semantic_syntax.specs.NodeEntries.{AreRising, AreBefore, HasNone, IsPositionOf};
 
@@ -19,14 +20,16 @@ pub struct NodeMap<T> {
 }
 
 impl<T> Model for NodeMap<T> {
-    ghost use Rattle.std.specs.Prelude.{ℕ, List, ◌++◌};
+    ghost use Rattle.std.specs.Prelude.{ℕ, List, ◌++◌, nat_eq};
+    ghost use Rattle.std.specs.List.{IsDistinct};
+    ghost use Rattle.std.specs.Map.{keys_of};
     ghost use Rattle.semantic_syntax.specs.NodeEntries.{AreRising};
 
     ghost Value = { List (ℕ × T) };
 
     ghost view = { λ a. a.rising.items ++ a.late.entries };
 
-    ghost invariant = { λ a. AreRising a.rising.items };
+    ghost invariant = { λ a. (AreRising a.rising.items) × (IsDistinct nat_eq (keys_of (a.rising.items ++ a.late.entries))) };
 }
 
 /// Whether the node comes behind those of all entries, which rise.
@@ -60,6 +63,13 @@ impl<T: Copy> NodeMap<T> {
             rising: Vec::new(alloc),
             late: IndexMap::new(alloc),
         }
+    }
+
+    /// No node has two values.
+    pub fn attest(&self)
+        ensures { IsDistinct nat_eq (keys_of self.now) }
+    {
+        let _entries = &self.rising;
     }
 
     /// Makes room for so many more entries, as long as their nodes rise. All stays, whatever the answer.

@@ -1,6 +1,7 @@
 //! What belongs to each node.
 ghost use Rattle.std.specs.Prelude.{◌≡◌, [], nat_eq, OnOk, OnErr};
-ghost use Rattle.std.specs.Map.{lookup};
+ghost use Rattle.std.specs.List.{IsDistinct};
+ghost use Rattle.std.specs.Map.{keys_of, lookup};
 ghost use Rattle.indexmap.specs.IndexMap.{insert_entry};
 
 use crate::node_map::NodeMap;
@@ -35,6 +36,17 @@ impl NodeTables {
             symbols: NodeMap::new(alloc),
             references: NodeMap::new(alloc),
         }
+    }
+
+    /// No node has two scopes, symbols or references.
+    pub fn attest(&self)
+        ensures scopes { IsDistinct nat_eq (keys_of self.now.scopes) }
+        ensures symbols { IsDistinct nat_eq (keys_of self.now.symbols) }
+        ensures references { IsDistinct nat_eq (keys_of self.now.references) }
+    {
+        self.scopes.attest();
+        self.symbols.attest();
+        self.references.attest();
     }
 
     /// Makes room for so many more nodes that open a scope, declare a symbol, or are a reference. All stays, whatever the

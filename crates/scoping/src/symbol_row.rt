@@ -2,9 +2,11 @@
 ghost use Rattle.std.specs.Prelude.{◌≡◌, ◌++◌, [], ◌∷◌, None, Some, unwrap_or, OnOk, OnErr};
 ghost use Rattle.std.specs.Borrow.{sem};
 ghost use Rattle.scoping.specs.Row.{own_entry_of_row};
-ghost use Rattle.scoping.specs.Redeclared.{elsewhere, united, row_without_declaration};
+ghost use Rattle.scoping.specs.Plain.{plain_count};
+ghost use Rattle.scoping.specs.Redeclared.{united, row_without_declaration};
 ghost use Rattle.scoping.specs.RowLending.{LendsRowFlags};
 
+use crate::redeclarations::Redeclarations;
 use semantic_syntax::{NodeId, Redeclaration, ScopeId, Span, SymbolFlags};
 use std::alloc::{AllocError, Global};
 use std::marker::Model;
@@ -17,23 +19,15 @@ pub struct SymbolRow {
     flags: SymbolFlags,
     scope: ScopeId,
     node: NodeId,
-    redeclarations: Option<Vec<Redeclaration>>,
+    redeclarations: Option<Redeclarations>,
 }
 
 impl Model for SymbolRow {
-    ghost use Rattle.std.specs.Option.{option_map};
     ghost use Rattle.scoping.specs.Row.{Row};
 
     ghost Value = { Row };
 
-    ghost view = { λ a. record { name = a.name; span = a.span; flags = a.flags; scope = a.scope; node = a.node; redeclarations = option_map (λ v. v.items) a.redeclarations } };
-}
-
-/// Drops the declarations of the span.
-fn retain_elsewhere(list: &mut Vec<Redeclaration>, span: Span)
-    ensures { list.new.items ≡ elsewhere span list.old.items }
-{
-    list.retain(|entry| entry.span != span);
+    ghost view = { λ a. record { name = a.name; span = a.span; flags = a.flags; scope = a.scope; node = a.node; redeclarations = a.redeclarations } };
 }
 
 /// The flags of all of them.
@@ -113,6 +107,16 @@ impl SymbolRow {
         }
     }
 
+    /// How many of its redeclarations stand before the first async function or generator; all where there is none.
+    pub fn plain_redeclarations(&self) -> usize
+        ensures { result ≡ plain_count (unwrap_or self.now.redeclarations []) }
+    {
+        match &self.redeclarations {
+            Some(list) => list.plain(),
+            None => 0,
+        }
+    }
+
     /// Gives it the name of that number.
     pub fn set_name(&mut self, name: usize)
         ensures { self.new ≡ record self.old { name = name } }
@@ -167,7 +171,7 @@ impl SymbolRow {
             declaration: self.node,
             flags: self.flags,
         };
-        self.redeclarations = Some(vec![in alloc; own, added]?);
+        self.redeclarations = Some(Redeclarations::new(alloc, own, added)?);
         Ok(())
     }
 
@@ -176,16 +180,19 @@ impl SymbolRow {
     pub fn remove_declaration(&mut self, span: Span)
         ensures { self.new ≡ row_without_declaration self.old span }
     {
-        if let Some(list) = &mut self.redeclarations {
-            retain_elsewhere(list, span);
-            if let Some(first) = list.first() {
-                self.span = first.span;
-                self.node = first.declaration;
-                self.flags = united_flags(list);
-            }
-            if list.len() == 1 {
-                self.redeclarations = None;
-            }
+        let Some(list) = &mut self.redeclarations else {
+            return;
+        };
+        list.retain_elsewhere(span);
+        let left = list.as_slice();
+        let Some(first) = left.first() else {
+            return;
+        };
+        self.span = first.span;
+        self.node = first.declaration;
+        self.flags = united_flags(left);
+        if left.len() == 1 {
+            self.redeclarations = None;
         }
     }
 

@@ -7,6 +7,7 @@ ghost use Rattle.semantic_syntax.specs.Reading.{symbol_of, own_entry, redeclarat
 ghost use Rattle.std.specs.List.{range_with_len};
 ghost use Rattle.semantic_syntax.specs.Tables.{Symbol};
 ghost use Rattle.semantic_syntax.specs.Writing.{with_symbol, bound};
+ghost use Rattle.scoping.specs.Plain.{plain_count};
 ghost use Rattle.scoping.specs.Redeclared.{without_declaration};
 
 use super::Scoping;
@@ -99,6 +100,15 @@ impl Scoping {
         ensures { result.now ≡ redeclarations_of self.now symbol }
     {
         self.symbols[symbol.index()].redeclarations()
+    }
+
+    /// How many of the symbol's redeclarations stand before the first async function or generator; all where there is
+    /// none. It is kept, so nothing is searched.
+    pub fn plain_redeclarations(&self, symbol: SymbolId) -> usize
+        requires { symbol < length self.now.symbols }
+        ensures { result ≡ plain_count (redeclarations_of self.now symbol) }
+    {
+        self.symbols[symbol.index()].plain_redeclarations()
     }
 
     /// The names of all symbols.

@@ -8,7 +8,7 @@ pub returns-in-Some : goal.returns-in-Some
 returns-in-Some g c =
     let es = c.self.inside.rising.items in
     let position = subst (λ xs. IsPositionOf xs c.args.node c.in-Some.position) c.deref.ensures.value c.in-Some.ensures in
-    let found = lookup_at es c.self.invariant c.self.inside.late.entries c.args.node c.in-Some.position c.index.result.now position in
+    let found = lookup_at es c.self.invariant.0 c.self.inside.late.entries c.args.node c.in-Some.position c.index.result.now position in
     ap (λ (e : ℕ × g.row.T.Denot). Some e.1) c.index.ensures ∙ sym found ∙ ap (lookup (nat_eq c.args.node)) c.self.view_is
 
 pub returns-in-None : goal.returns-in-None
