@@ -22,7 +22,7 @@ use Rattle.semantic_model.proofs.lists.SymbolLaws.{get-last}
 use Rattle.semantic_model.proofs.once.ListedUnder.{name_tells}
 use Rattle.semantic_model.proofs.once.UseLists.{IsBelow}
 use Rattle.binding_laws.specs.SeenDeclarations.{is_own_name}
-use Rattle.binding_laws.specs.OneSymbol.{first_scope, Stays, BindsIn, Follows, IsTold}
+use Rattle.binding_laws.specs.OneSymbol.{first_scope, Stays, BindsIn, Follows, IsConflictTold}
 use Rattle.binding_laws.proofs.Growing.{Grown, KeepConflicts, meets_neither, meets_first, meets_second, entry_below, more_flags, same_flags, grown_act, conflicts_stay}
 
 abbrev pub expression : ℕ
@@ -49,14 +49,14 @@ module _ (block : Bool) (c : ℕ) (x : Name) where
 
   -- conflicts among some declarations are told
   abbrev pub AreTold : List Made → List Conflict → Type 0
-  AreTold ms ks = (m n : Made) → Follows m n ms → BindsIn c x m.declaration → BindsIn c x n.declaration → meets m.declaration.naming.flags n.declaration.naming.excluded ≡ true → IsTold n.declaration ks
+  AreTold ms ks = (m n : Made) → Follows m n ms → BindsIn c x m.declaration → BindsIn c x n.declaration → meets m.declaration.naming.flags n.declaration.naming.excluded ≡ true → IsConflictTold n.declaration ks
 
   pub record Keeps (st : State) : Type 0 where
     pub bound_to : (m : Made) → Among m st.made → BindsIn c x m.declaration → IsBoundTo st m
     pub bare : block ≡ false → get st.remembered c x ≡ None
     pub told : AreTold st.made st.conflicts
 
-  told_later : (n : Made) (ks ls : List Conflict) → ((k : Conflict) → Among k ks → Among k ls) → IsTold n.declaration ks → IsTold n.declaration ls
+  told_later : (n : Made) (ks ls : List Conflict) → ((k : Conflict) → Among k ks → Among k ls) → IsConflictTold n.declaration ks → IsConflictTold n.declaration ls
   told_later n ks ls f h = record { earlier = h.earlier; among = f _ h.among }
 
   pub all_later : (ms : List Made) (ks ls : List Conflict) → ((k : Conflict) → Among k ks → Among k ls) → AreTold ms ks → AreTold ms ls
@@ -74,10 +74,10 @@ module _ (block : Bool) (c : ℕ) (x : Name) where
   follows_first m n (y ∷ ms) (inr f) = inr (follows_first m n ms f)
 
   -- one more declaration, which is told if it conflicts
-  pub told_push : (ms : List Made) (k : Made) (ks : List Conflict) → AreTold ms ks → ((m : Made) → Among m ms → BindsIn c x m.declaration → BindsIn c x k.declaration → meets m.declaration.naming.flags k.declaration.naming.excluded ≡ true → IsTold k.declaration ks) → AreTold (ms ++ k ∷ []) ks
+  pub told_push : (ms : List Made) (k : Made) (ks : List Conflict) → AreTold ms ks → ((m : Made) → Among m ms → BindsIn c x m.declaration → BindsIn c x k.declaration → meets m.declaration.naming.flags k.declaration.naming.excluded ≡ true → IsConflictTold k.declaration ks) → AreTold (ms ++ k ∷ []) ks
   told_push ms k ks h g m n f i j e = elim (follows_push m n k ms f) [
     | inl a ↦ h m n a i j e
-    | inr q ↦ subst (λ (o : Made). IsTold o.declaration ks) q.1 (g m q.0 i (subst (λ (o : Made). BindsIn c x o.declaration) (sym q.1) j) (subst (λ (o : Made). meets m.declaration.naming.flags o.declaration.naming.excluded ≡ true) (sym q.1) e))
+    | inr q ↦ subst (λ (o : Made). IsConflictTold o.declaration ks) q.1 (g m q.0 i (subst (λ (o : Made). BindsIn c x o.declaration) (sym q.1) j) (subst (λ (o : Made). meets m.declaration.naming.flags o.declaration.naming.excluded ≡ true) (sym q.1) e))
   ]
 
   -- another scope or name
@@ -229,7 +229,7 @@ module _ (block : Bool) (c : ℕ) (x : Name) where
           joined_other : meets (flags_of (declare_in st c d (Some s)) s) expression ≡ false
           joined_other = ap (λ f. meets f expression) joined_flags ∙ meets_neither (flags_of st s) d.naming.flags expression (found_other st s g) n
 
-          telling : (m : Made) → IsBoundTo st m → meets m.declaration.naming.flags d.naming.excluded ≡ true → IsTold d (st.conflicts ++ conflict_with d.naming (slice_get st.symbols s))
+          telling : (m : Made) → IsBoundTo st m → meets m.declaration.naming.flags d.naming.excluded ≡ true → IsConflictTold d (st.conflicts ++ conflict_with d.naming (slice_get st.symbols s))
           telling m k q =
               let (y, there) = entry_below st.symbols s within in
               let met : meets y.flags.bits d.naming.excluded ≡ true =

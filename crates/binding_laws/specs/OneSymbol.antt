@@ -60,10 +60,10 @@ Follows m n [] = ⊥
 Follows m n (y ∷ ys) = ((y ≡ m) × Among n ys) ⊎ Follows m n ys
 
 -- among the conflicts is one of the declaration with an earlier one of its name
-pub record IsTold (d : Declaration) (conflicts : List Conflict) : Type 0 where
+pub record IsConflictTold (d : Declaration) (conflicts : List Conflict) : Type 0 where
   pub earlier : Span
   pub among : Among (record { name = d.naming.name; earlier = earlier; later = d.naming.span }) conflicts
 
 -- of two such declarations the later one is a conflict if it excludes what the earlier one is
 abbrev pub ConflictsAreTold : Tree → Type 0
-ConflictsAreTold p = (c : ℕ) (x : Name) → NoneTakes p c x → (m n : Made) → Follows m n (declared p) → BindsIn c x m.declaration → BindsIn c x n.declaration → meets m.declaration.naming.flags n.declaration.naming.excluded ≡ true → IsTold n.declaration (run start (events (steps p))).conflicts
+ConflictsAreTold p = (c : ℕ) (x : Name) → NoneTakes p c x → (m n : Made) → Follows m n (declared p) → BindsIn c x m.declaration → BindsIn c x n.declaration → meets m.declaration.naming.flags n.declaration.naming.excluded ≡ true → IsConflictTold n.declaration (run start (events (steps p))).conflicts
