@@ -13,7 +13,7 @@ use Rattle.semantic_model.specs.Reference.{references}
 use Rattle.semantic_model.specs.Step.{steps}
 use Rattle.semantic_model.specs.TablesOf.{tables_of}
 use Rattle.semantic_model.proofs.examples.SmallPrograms.{default_sees_outside, nested_headers, catch_pattern_with_arrow, arguments_outside, parameter_decorator}
-use Rattle.binding_laws.specs.SeenDeclarations.{declared, first_seen}
+use Rattle.binding_laws.specs.SeenDeclarations.{made_of, first_seen}
 
 abbrev seen : Tree → List (Option ℕ)
 seen p = map (first_seen p) (references (steps p))
@@ -22,7 +22,7 @@ abbrev ties : Tree → List (Option ℕ)
 ties p = map (λ r. r.symbol_id) (tables_of p).references
 
 abbrev symbols : Tree → List ℕ
-symbols p = map (λ m. m.symbol) (declared p)
+symbols p = map (λ m. m.symbol) (made_of p)
 
 abbrev all : List Forest → Forest
 all [] = nothing

@@ -25,7 +25,7 @@ use Rattle.semantic_model.proofs.once.UseLists.{IsBelow}
 use Rattle.walk_model.proofs.headers.Sides.{IsSided, ArePassedOn, act_sided}
 use Rattle.walk_model.proofs.headers.OtherSide.{Keeps, run_keeps, capped, capped_beyond, capped_sided}
 use Rattle.walk_model.proofs.headers.TouchedScopes.{Touches}
-use Rattle.binding_laws.specs.SeenDeclarations.{stands_before_body, is_before_body, alone, with_declaration, bound_by_all}
+use Rattle.binding_laws.specs.SeenDeclarations.{stands_before_body, is_before_body, seen_alone, with_declaration, bound_by_all}
 use Rattle.binding_laws.proofs.CutEvents.{is_scope, IsSimple, InHeader, IsBefore, IsBehind, AllBehind, Cut, no_end, ended, not_yet}
 use Rattle.binding_laws.proofs.Unremembered.{act_remembers}
 
@@ -44,7 +44,7 @@ abbrev seen_with : ℕ → ℕ → Option Seen
 seen_with y flags = Some (record { symbol = y; flags = flags })
 
 abbrev with_or : ℕ → ℕ → Made → Bool → Option Seen
-with_or y flags m t = Some (cond t (record { symbol = y; flags = flags }) (alone m))
+with_or y flags m t = Some (cond t (record { symbol = y; flags = flags }) (seen_alone m))
 
 module _ (c : ℕ) where
   -- the declarations of the name outside of the body, of those so far

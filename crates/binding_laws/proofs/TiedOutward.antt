@@ -23,7 +23,7 @@ use Rattle.semantic_model.proofs.form.Shape.{has_form}
 use Rattle.semantic_model.proofs.lists.Growth.{start_is_sound}
 use Rattle.semantic_model.proofs.lists.Members.{among_at}
 use Rattle.semantic_model.proofs.once.ReferencesStand.{entry_is}
-use Rattle.binding_laws.specs.SeenDeclarations.{bound_by_all, bound_before_body, with_flags, bound_in_end, asked_of, TiesAreOutward}
+use Rattle.binding_laws.specs.SeenDeclarations.{bound_by_all, bound_before_body, seen_with_flags, bound_in_end, asked_of, TiesAreOutward}
 use Rattle.binding_laws.proofs.CutSteps.{WillAwait, cut_program, header_awaits}
 use Rattle.binding_laws.proofs.HeaderFold.{IsCutAt, cut_at, header_start}
 
@@ -44,9 +44,9 @@ module _ (p : Tree) where
       k.header.bound x ∙ ap bound_by_all (sym (k.same x))
 
   end_answer : (c : ℕ) (x : Name) → c < length (scopes (steps p)) → answered false c x ≡ bound_in_end p c x
-  end_answer c x l = by (get final.bindings c x) ∙ ap (option_map (with_flags (tables_of p))) (sym (bound_as p c x l))
+  end_answer c x l = by (get final.bindings c x) ∙ ap (option_map (seen_with_flags (tables_of p))) (sym (bound_as p c x l))
     where
-      by : (o : Option ℕ) → seen_as final o ≡ option_map (with_flags (tables_of p)) o
+      by : (o : Option ℕ) → seen_as final o ≡ option_map (seen_with_flags (tables_of p)) o
       by None = refl
       by (Some s) = ap (λ flags. Some (record { symbol = s; flags = flags })) (sym (flags_at final.symbols s))
 

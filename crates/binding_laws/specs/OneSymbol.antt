@@ -13,7 +13,7 @@ use Rattle.semantic_model.specs.Event.{events, declarations}
 use Rattle.semantic_model.specs.Fold.{Made, Conflict, start}
 use Rattle.semantic_model.specs.Hoist.{run}
 use Rattle.semantic_model.specs.Step.{steps}
-use Rattle.binding_laws.specs.SeenDeclarations.{declared, is_own_name}
+use Rattle.binding_laws.specs.SeenDeclarations.{made_of, is_own_name}
 
 -- whether it takes its name from the scope: a `var` that passes it, a plain catch name, which is always new
 abbrev pub takes_by : How → ℕ → Declaration → Bool
@@ -44,15 +44,15 @@ pub record BindsIn (c : ℕ) (x : Name) (d : Declaration) : Type 0 where
 
 -- all such declarations of one name in one scope have one symbol, unless another one takes the name from there
 abbrev pub OneSymbolEach : Tree → Type 0
-OneSymbolEach p = (c : ℕ) (x : Name) → NoneTakes p c x → (m n : Made) → Among m (declared p) → Among n (declared p) → BindsIn c x m.declaration → BindsIn c x n.declaration → m.symbol ≡ n.symbol
+OneSymbolEach p = (c : ℕ) (x : Name) → NoneTakes p c x → (m n : Made) → Among m (made_of p) → Among n (made_of p) → BindsIn c x m.declaration → BindsIn c x n.declaration → m.symbol ≡ n.symbol
 
 -- where `var` goes, as a function's scope or the program's, nothing takes the name away
 abbrev pub VarScopesKeepNames : Tree → Type 0
-VarScopesKeepNames p = (x : Name) (m : Made) → Among m (declared p) → is_var m.declaration.route.target ≡ true → NoneTakes p m.declaration.route.target.number x
+VarScopesKeepNames p = (x : Name) (m : Made) → Among m (made_of p) → is_var m.declaration.route.target ≡ true → NoneTakes p m.declaration.route.target.number x
 
 -- the symbol of a declaration is what an analysis tells of its identifier
 abbrev pub SymbolsAreAtNodes : Tree → Type 0
-SymbolsAreAtNodes p = (m : Made) → Among m (declared p) → symbol_at (analysis_of p) m.declaration.naming.identifier ≡ Some m.symbol
+SymbolsAreAtNodes p = (m : Made) → Among m (made_of p) → symbol_at (analysis_of p) m.declaration.naming.identifier ≡ Some m.symbol
 
 -- n stands behind m in the list
 abbrev pub Follows : Made → Made → List Made → Type 0
@@ -66,4 +66,4 @@ pub record IsConflictTold (d : Declaration) (conflicts : List Conflict) : Type 0
 
 -- of two such declarations the later one is a conflict if it excludes what the earlier one is
 abbrev pub ConflictsAreTold : Tree → Type 0
-ConflictsAreTold p = (c : ℕ) (x : Name) → NoneTakes p c x → (m n : Made) → Follows m n (declared p) → BindsIn c x m.declaration → BindsIn c x n.declaration → meets m.declaration.naming.flags n.declaration.naming.excluded ≡ true → IsConflictTold n.declaration (run start (events (steps p))).conflicts
+ConflictsAreTold p = (c : ℕ) (x : Name) → NoneTakes p c x → (m n : Made) → Follows m n (made_of p) → BindsIn c x m.declaration → BindsIn c x n.declaration → meets m.declaration.naming.flags n.declaration.naming.excluded ≡ true → IsConflictTold n.declaration (run start (events (steps p))).conflicts

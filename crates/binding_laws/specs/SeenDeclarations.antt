@@ -18,8 +18,8 @@ use Rattle.semantic_model.specs.TablesOf.{tables_of}
 use Rattle.semantic_model.specs.Tie.{symbol_by}
 
 -- the declarations of a program in order, each with its symbol
-abbrev pub declared : Tree → List Made
-declared p = (run start (events (steps p))).made
+abbrev pub made_of : Tree → List Made
+made_of p = (run start (events (steps p))).made
 
 -- whether it declares the own name of a function expression
 abbrev pub is_own_name : Declaration → Bool
@@ -33,13 +33,13 @@ stands_before_body c d = d.route.target.number == c && (d.route.target.in_header
 abbrev pub is_before_body : ℕ → Name → Made → Bool
 is_before_body c x m = stands_before_body c m.declaration && bytes_eq m.declaration.naming.name x
 
-abbrev pub alone : Made → Seen
-alone m = record { symbol = m.symbol; flags = m.declaration.naming.flags }
+abbrev pub seen_alone : Made → Seen
+seen_alone m = record { symbol = m.symbol; flags = m.declaration.naming.flags }
 
 -- one more declaration: it adds its flags to its symbol, or hides another symbol
 abbrev pub with_declaration : Option Seen → Made → Option Seen
-with_declaration None m = Some (alone m)
-with_declaration (Some s) m = Some (cond (s.symbol == m.symbol) (record s { flags = union s.flags m.declaration.naming.flags }) (alone m))
+with_declaration None m = Some (seen_alone m)
+with_declaration (Some s) m = Some (cond (s.symbol == m.symbol) (record s { flags = union s.flags m.declaration.naming.flags }) (seen_alone m))
 
 -- the symbol that declarations of one name bind in a scope, with the flags that they give to it
 abbrev pub bound_by_all : List Made → Option Seen
@@ -47,14 +47,14 @@ bound_by_all ms = fold with_declaration None ms
 
 -- what the scope binds the name to by the declarations that don't stand in its body
 abbrev pub bound_before_body : Tree → ℕ → Name → Option Seen
-bound_before_body p c x = bound_by_all (filter (is_before_body c x) (declared p))
+bound_before_body p c x = bound_by_all (filter (is_before_body c x) (made_of p))
 
-abbrev pub with_flags : Tables → ℕ → Seen
-with_flags t s = record { symbol = s; flags = symbol_flags t s }
+abbrev pub seen_with_flags : Tables → ℕ → Seen
+seen_with_flags t s = record { symbol = s; flags = symbol_flags t s }
 
 -- what the scope binds the name to in the end
 abbrev pub bound_in_end : Tree → ℕ → Name → Option Seen
-bound_in_end p c x = option_map (with_flags (tables_of p)) (bound_in (tables_of p) c x)
+bound_in_end p c x = option_map (seen_with_flags (tables_of p)) (bound_in (tables_of p) c x)
 
 -- a scope round a reference, and what that sees of it
 abbrev pub asked_of : Tree → Name → OpenScope → Asked

@@ -19,10 +19,13 @@ ghost use Rattle.renaming_laws.specs.KeptConflicts.{AreRenamedConflicts, with_ot
 /// a `var` that stands in a block must not share its symbol with a declaration that is no variable: there a program can lose
 /// or get a conflict.
 pub fn a_renaming_keeps_conflicts()
-    ensures kept { (p q : Tree) (s : ℕ) (y : Symbol) (new : Name) → first_fault p ≡ None → IsNumbered p.root → slice_get (tables_of p).symbols s ≡ Some y
-        → rename p s new ≡ Ok q → namespace_states (steps q) ≡ namespace_states (steps p) → ShareFlags (made_in p)
+    ensures kept { (p q : Tree) (s : ℕ) (y : Symbol) (new : Name) → first_fault p ≡ None
+        → IsNumbered p.root → slice_get (tables_of p).symbols s ≡ Some y
+        → rename p s new ≡ Ok q → namespace_states (steps q) ≡ namespace_states (steps p)
+        → ShareFlags (made_in p)
         → AreRenamedConflicts p s new (conflicts_of p) (conflicts_of q) }
-    ensures without_namespaces { (p q : Tree) (s : ℕ) (y : Symbol) (new : Name) → first_fault p ≡ None → IsNumbered p.root → slice_get (tables_of p).symbols s ≡ Some y
+    ensures without_namespaces { (p q : Tree) (s : ℕ) (y : Symbol) (new : Name)
+        → first_fault p ≡ None → IsNumbered p.root → slice_get (tables_of p).symbols s ≡ Some y
         → rename p s new ≡ Ok q → namespace_states (steps p) ≡ [] → ShareFlags (made_in p)
         → AreRenamedConflicts p s new (conflicts_of p) (conflicts_of q) }
 {}
@@ -31,16 +34,20 @@ pub fn a_renaming_keeps_conflicts()
 /// is the new one where it is the renamed symbol, else the old one. What binds it may be another scope, as a block is that of
 /// a function which doesn't move where its name is taken.
 pub fn a_renaming_keeps_declarations()
-    ensures { (p q : Tree) (s : ℕ) (y : Symbol) (new : Name) → first_fault p ≡ None → IsNumbered p.root → slice_get (tables_of p).symbols s ≡ Some y
-        → rename p s new ≡ Ok q → namespace_states (steps q) ≡ namespace_states (steps p) → ShareFlags (made_in p)
+    ensures { (p q : Tree) (s : ℕ) (y : Symbol) (new : Name) → first_fault p ≡ None
+        → IsNumbered p.root → slice_get (tables_of p).symbols s ≡ Some y
+        → rename p s new ≡ Ok q → namespace_states (steps q) ≡ namespace_states (steps p)
+        → ShareFlags (made_in p)
         → KeepsDeclarations p q s new }
 {}
 
 /// Where every node with the name of a symbol belongs to it, that name is neither `arguments` nor `eval`, and no node has the
 /// new name, all conflicts stay whatever else stands there, with the two names swapped.
 pub fn a_name_of_one_symbol_keeps_conflicts()
-    ensures { (p q : Tree) (s : ℕ) (y : Symbol) (new : Name) → first_fault p ≡ None → IsNumbered p.root → slice_get (tables_of p).symbols s ≡ Some y
-        → bytes_eq y.name (codes "arguments") ≡ false → bytes_eq y.name (codes "eval") ≡ false → BelongsTo p s y.name → IsUnused p new
+    ensures { (p q : Tree) (s : ℕ) (y : Symbol) (new : Name) → first_fault p ≡ None
+        → IsNumbered p.root → slice_get (tables_of p).symbols s ≡ Some y
+        → bytes_eq y.name (codes "arguments") ≡ false → bytes_eq y.name (codes "eval") ≡ false
+        → BelongsTo p s y.name → IsUnused p new
         → rename p s new ≡ Ok q
         → conflicts_of q ≡ map (with_other_name (swap y.name new)) (conflicts_of p) }
 {}

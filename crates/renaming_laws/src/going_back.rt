@@ -13,10 +13,12 @@ ghost use Rattle.renaming_laws.specs.WrittenOut.{written_out};
 /// bears the name is in short: marks `shorthand` don't come back. All else is as it was, to the last mark. The old name is
 /// never refused, but where no symbol gets it.
 pub fn renaming_back_gives_the_program()
-    ensures same { (p q : Tree) (s : ℕ) (y : Symbol) (new : Name) → first_fault p ≡ None → IsNumbered p.root → slice_get (tables_of p).symbols s ≡ Some y
+    ensures same { (p q : Tree) (s : ℕ) (y : Symbol) (new : Name) → first_fault p ≡ None
+        → IsNumbered p.root → slice_get (tables_of p).symbols s ≡ Some y
         → rename p s new ≡ Ok q
         → renamed q (analysis_of q) s y.name ≡ written_out p s }
-    ensures allowed { (p q : Tree) (s : ℕ) (y : Symbol) (new : Name) → first_fault p ≡ None → IsNumbered p.root → slice_get (tables_of p).symbols s ≡ Some y
+    ensures allowed { (p q : Tree) (s : ℕ) (y : Symbol) (new : Name) → first_fault p ≡ None
+        → IsNumbered p.root → slice_get (tables_of p).symbols s ≡ Some y
         → rename p s new ≡ Ok q → is_bad_name y.name ≡ false
         → rename q s y.name ≡ Ok (written_out p s) }
 {}
