@@ -1,7 +1,7 @@
 //! The elements of a class that a name means.
+use class_table::ClassTable;
 use semantic::{SemanticBuilder, drop_analysis};
 use semantic_syntax::{ClassId, Ident};
-use class_table::ClassTable;
 use semantic_tree::Program;
 use std::alloc::{AllocError, Global};
 use std::test::Fail;

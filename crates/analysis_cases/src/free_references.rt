@@ -11,12 +11,13 @@ use tree_json::read_program;
 const ONE_FREE: &str =
     r#"{"comments":[],"format":1,"goal":"script","lang":"js","source":"","rows":[[0,"root","Program",0,0,"",[]],[1,"body","VariableDeclaration",0,0,"let",[]],[2,"declarators","VariableDeclarator",0,0,"",[]],[3,"id","BindingIdentifier",0,0,"a",[]],[1,"body","ExpressionStatement",0,0,"",[]],[2,"expression","IdentifierReference",0,0,"a",[]],[1,"body","ExpressionStatement",0,0,"",[]],[2,"expression","IdentifierReference",0,0,"x",[]]]}"#;
 
-/// The nodes that are unresolved references.
-fn unresolved_nodes(alloc: Global, semantic: &Semantic<'_>) -> Result<Vec<usize>, AllocError> {
+/// The nodes that are unresolved references, of the first eight.
+fn unresolved_nodes(alloc: Global, semantic: &Semantic<'_>) -> Result<Vec<u32>, AllocError> {
     let mut found = Vec::new(alloc);
-    for index in 0..semantic.nodes().len() {
-        if semantic.is_unresolved_reference(NodeId::new(index as u32)) {
-            found.push(index)?;
+    for number in 0..8 {
+        let node = NodeId::new(number);
+        if node.index() < semantic.nodes().len() && semantic.is_unresolved_reference(node) {
+            found.push(number)?;
         }
     }
     Ok(found)
@@ -33,7 +34,7 @@ fn global_references(alloc: Global, semantic: &Semantic<'_>) -> Result<Vec<u32>,
     Ok(found)
 }
 
-fn free_in(alloc: Global, program: &Program) -> Result<(Vec<usize>, Vec<u32>), AllocError> {
+fn free_in(alloc: Global, program: &Program) -> Result<(Vec<u32>, Vec<u32>), AllocError> {
     let ret = SemanticBuilder::new()
         .with_build_nodes(true)
         .build(alloc, program)?;
