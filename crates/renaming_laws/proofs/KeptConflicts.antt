@@ -44,13 +44,11 @@ use Rattle.walk_model.proofs.once.SymbolsOnce.{symbols_times}
 use Rattle.program_laws.specs.ReadMarks.{is_read, KeepsRead, without_mark, without_where, unmarked_tree}
 use Rattle.program_laws.specs.Remarked.{remarked}
 use Rattle.program_laws.specs.SameAnalysis.{conflicts_of, HaveSameAnalysis}
-use Rattle.program_laws.specs.SymbolNames.{IsNamed}
 use Rattle.program_laws.proofs.DeclaredNodes.{among_flat, IsOf, of_name, of_member}
 use Rattle.program_laws.proofs.EventMarks.{events_same}
 use Rattle.program_laws.proofs.NodeNames.{tied_nodes_have_names}
 use Rattle.program_laws.proofs.StepMarks.{steps_same}
 use Rattle.program_laws.proofs.TableMarks.{same_unmarked}
-use Rattle.program_laws.proofs.TiedNames.{declarations_have_names}
 use Rattle.program_laws.proofs.TreeNodes.{nodes_from}
 use Rattle.program_laws.proofs.Walked.{node_at, steps_within}
 use Rattle.rename_model.specs.Refusal.{first_fixed, rename}
@@ -309,8 +307,10 @@ module _ (p : Tree) (faultless : first_fault p ≡ None) (numbered : IsNumbered 
     -- each with the name of its symbol
     told : (c e : Conflict) → Twinned (made_in p) (made_in q) now_named own_name c e → IsRenamedConflict p s new c e
     told c e w = record {
-      symbol = w.made.symbol;
-      named = subst (IsNamed (tables_of p) w.made.symbol) (sym w.name) (declarations_have_names p (has_form p faultless) w.made w.among);
+      made = w.made;
+      among = w.among;
+      named = w.name;
+      placed = w.placed;
       is = λ i. record {
         name = (w.other_name ∙ sym w.told ∙ ap (λ b. cond b new w.made.declaration.naming.name) (chosen_is w.made w.among) ∙ ap (cond (w.made.symbol == s) new) (sym w.name)) i;
         earlier = w.earlier i;

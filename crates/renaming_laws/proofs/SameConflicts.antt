@@ -89,6 +89,7 @@ module _ (F G : List Made) (now next : Made → Name) where
     pub other_name : e.name ≡ other.declaration.naming.name
     pub earlier : e.earlier ≡ c.earlier
     pub later : e.later ≡ c.later
+    pub placed : c.later ≡ made.declaration.naming.span
 
   abbrev pub AllTwinned : List Conflict → List Conflict → Type 0
   AllTwinned [] [] = Unit {0}
@@ -111,7 +112,7 @@ module _ (F G : List Made) (now next : Made → Name) where
       go (meets y.flags.bits m.declaration.naming.excluded) (meets z.flags.bits k.declaration.naming.excluded) tests (ap (λ (l : Symbol). l.span) same)
     where
       go : (b c : Bool) → b ≡ c → y.span ≡ z.span → AllTwinned (cond b (record { name = m.declaration.naming.name; earlier = y.span; later = m.declaration.naming.span } ∷ []) []) (cond c (record { name = k.declaration.naming.name; earlier = z.span; later = k.declaration.naming.span } ∷ []) [])
-      go true true q p = (record { made = m; other = k; among = a; symbol = s; told = t; name = refl; other_name = refl; earlier = sym p; later = ap (λ (x : Naming). x.span) (sym n) }, tt)
+      go true true q p = (record { made = m; other = k; among = a; symbol = s; told = t; name = refl; other_name = refl; earlier = sym p; later = ap (λ (x : Naming). x.span) (sym n); placed = refl }, tt)
       go true false q p = absurd cc
       go false true q p = absurd cc
       go false false q p = tt
