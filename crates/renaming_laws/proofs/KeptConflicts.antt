@@ -36,6 +36,7 @@ use Rattle.semantic_model.specs.NodeTable.{belonging}
 use Rattle.semantic_model.specs.Place.{Place}
 use Rattle.semantic_model.specs.Step.{Step, entering, opening, header_ending, closing, leaving, steps}
 use Rattle.semantic_model.specs.TablesOf.{tables_of}
+use Rattle.semantic_model.proofs.fold.Orders.{table_of, orderly_events}
 use Rattle.semantic_model.proofs.form.Shape.{has_form}
 use Rattle.semantic_model.proofs.swapped.AlikeProgram.{program_steps}
 use Rattle.semantic_model.proofs.swapped.AlikeSteps.{AlikeSteps}
@@ -43,20 +44,19 @@ use Rattle.walk_model.proofs.once.SymbolsOnce.{symbols_times}
 use Rattle.program_laws.specs.ReadMarks.{is_read, KeepsRead, without_mark, without_where, unmarked_tree}
 use Rattle.program_laws.specs.Remarked.{remarked}
 use Rattle.program_laws.specs.SameAnalysis.{conflicts_of, HaveSameAnalysis}
-use Rattle.program_laws.specs.SymbolNames.{IsNamed}
 use Rattle.program_laws.proofs.DeclaredNodes.{among_flat, IsOf, of_name, of_member}
 use Rattle.program_laws.proofs.EventMarks.{events_same}
 use Rattle.program_laws.proofs.NodeNames.{tied_nodes_have_names}
 use Rattle.program_laws.proofs.StepMarks.{steps_same}
 use Rattle.program_laws.proofs.TableMarks.{same_unmarked}
-use Rattle.program_laws.proofs.TiedNames.{declarations_have_names}
 use Rattle.program_laws.proofs.TreeNodes.{nodes_from}
 use Rattle.program_laws.proofs.Walked.{node_at, steps_within}
-use Rattle.rename_model.specs.Refusal.{first_fixed, is_bad_name, rename}
+use Rattle.rename_model.specs.Refusal.{first_fixed, rename}
 use Rattle.rename_model.specs.Renamed.{bears_name, renamed}
 use Rattle.rename_model.specs.Same.{Same}
 use Rattle.rename_model.specs.WithName.{sheds, with_name_alone, with_name, is_identifier, AreIdentifiers}
 use Rattle.rename_model.proofs.AloneNames.{are_identifiers}
+use Rattle.rename_model.proofs.Completeness.{no_fault_renamed}
 use Rattle.rename_model.proofs.Entered.{place_of}
 use Rattle.rename_model.proofs.NameShape.{identifier_cases}
 use Rattle.rename_model.proofs.NamedNodes.{some_is, Tells, declares, is_tied, tells, symbol_named}
@@ -67,7 +67,7 @@ use Rattle.renaming_laws.proofs.AlikeRows.{ren}
 use Rattle.renaming_laws.proofs.DeclaredPairs.{pairs, made_pair, written_pairs, program_pairs}
 use Rattle.renaming_laws.proofs.GoingBack.{root_marks}
 use Rattle.renaming_laws.proofs.GoodRows.{TellsChosen, KnownPlace, declared_good, inside_good}
-use Rattle.renaming_laws.proofs.SameConflicts.{Twinned, AllTwinned, same_conflicts}
+use Rattle.renaming_laws.proofs.SameConflicts.{Twinned, AllTwinned, AreTwins, same_conflicts}
 use Rattle.renaming_laws.proofs.SameSymbols.{number_there, symbol_there, made_of_node, same_symbols}
 use Rattle.renaming_laws.proofs.Signed.{unsigned, given, signed, signs_taken, names_given, Good, each_good, member_inside, member_unchosen, IsKept, labels_kept}
 use Rattle.renaming_laws.proofs.Twins.{nameless, TwinSteps, twin_steps, TwinEvents, events_twins, no_states}
@@ -289,16 +289,28 @@ module _ (p : Tree) (faultless : first_fault p ≡ None) (numbered : IsNumbered 
         go false e (inl k) = absurd (differ (sym e ∙ symbol_named (analysis_of p) s id (there_too ∙ ap Some k.1)))
         go false e (inr k) = e ∙ sym k.0
 
-    twinned : is_bad_name new ≡ false → Same p q → namespace_states (steps q) ≡ namespace_states (steps p) → ShareFlags (made_in p) → AllTwinned (made_in p) (made_in q) now_named own_name (conflicts_of p) (conflicts_of q)
-    twinned bad same e share =
+    pub are_twins : first_fault q ≡ None → Same p q → namespace_states (steps q) ≡ namespace_states (steps p) → ShareFlags (made_in p) → ShareFlags (made_in q) → AreTwins (events (steps p)) (events (steps q)) now_named own_name (table_of p) (table_of q)
+    are_twins faultless' same e share others =
         let t : TwinEvents (events (steps p)) (events (steps q)) = twin_events e in
-        same_conflicts (events (steps p)) (events (steps q)) now_named own_name t (program_rows p) (program_rows q) share (same_symbols p q faultless numbered same t) names_now
+        record {
+          twins = t;
+          rows = program_rows p;
+          other_rows = program_rows q;
+          orderly = orderly_events p (has_form p faultless);
+          others_orderly = orderly_events q (has_form q faultless');
+          share = share;
+          others_share = others;
+          symbols = same_symbols p q faultless numbered same t;
+          names = names_now;
+        }
 
     -- each with the name of its symbol
     told : (c e : Conflict) → Twinned (made_in p) (made_in q) now_named own_name c e → IsRenamedConflict p s new c e
     told c e w = record {
-      symbol = w.made.symbol;
-      named = subst (IsNamed (tables_of p) w.made.symbol) (sym w.name) (declarations_have_names p (has_form p faultless) w.made w.among);
+      made = w.made;
+      among = w.among;
+      named = w.name;
+      placed = w.placed;
       is = λ i. record {
         name = (w.other_name ∙ sym w.told ∙ ap (λ b. cond b new w.made.declaration.naming.name) (chosen_is w.made w.among) ∙ ap (cond (w.made.symbol == s) new) (sym w.name)) i;
         earlier = w.earlier i;
@@ -312,18 +324,22 @@ module _ (p : Tree) (faultless : first_fault p ≡ None) (numbered : IsNumbered 
     all_told (c ∷ cs) [] h = absurd h
     all_told (c ∷ cs) (e ∷ es) h = (told c e h.0, all_told cs es h.1)
 
-  pub conflicts_kept : (r : Tree) → rename p s new ≡ Ok r → namespace_states (steps r) ≡ namespace_states (steps p) → ShareFlags (made_in p) → AreRenamedConflicts p s new (conflicts_of p) (conflicts_of r)
-  conflicts_kept r h e share =
+  pub conflicts_kept : (r : Tree) → rename p s new ≡ Ok r → namespace_states (steps r) ≡ namespace_states (steps p) → ShareFlags (made_in p) → ShareFlags (made_in r) → AreRenamedConflicts p s new (conflicts_of p) (conflicts_of r)
+  conflicts_kept r h e share others =
       let (bad, none, same, is) = ends_renamed p s new r h in
       let free : first_fixed (exported_names (steps p)) (bears_name (analysis_of p) s) (steps p) ≡ None = none_means_free p s none in
       let same' : Same p q = subst (Same p) is same in
       let e' : namespace_states (steps q) ≡ namespace_states (steps p) = subst (λ t. namespace_states (steps t) ≡ namespace_states (steps p)) is e in
-      subst (λ t. AreRenamedConflicts p s new (conflicts_of p) (conflicts_of t)) (sym is) (all_told free (conflicts_of p) (conflicts_of q) (twinned free bad same' e' share))
+      let others' : ShareFlags (made_in q) = subst (λ t. ShareFlags (made_in t)) is others in
+      let faultless' : first_fault q ≡ None = (no_fault_renamed p faultless numbered s y there new bad free).0 in
+      let twins : AreTwins (events (steps p)) (events (steps q)) (now_named free) (own_name free) (table_of p) (table_of q) = are_twins free faultless' same' e' share others' in
+      subst (λ t. AreRenamedConflicts p s new (conflicts_of p) (conflicts_of t)) (sym is)
+      (all_told free (conflicts_of p) (conflicts_of q) (same_conflicts (events (steps p)) (events (steps q)) (now_named free) (own_name free) (table_of p) (table_of q) twins))
 
   -- where there are no namespaces, there are none in the renamed program
-  pub conflicts_kept_without : (r : Tree) → rename p s new ≡ Ok r → namespace_states (steps p) ≡ [] → ShareFlags (made_in p) → AreRenamedConflicts p s new (conflicts_of p) (conflicts_of r)
-  conflicts_kept_without r h e share =
+  pub conflicts_kept_without : (r : Tree) → rename p s new ≡ Ok r → namespace_states (steps p) ≡ [] → ShareFlags (made_in p) → ShareFlags (made_in r) → AreRenamedConflicts p s new (conflicts_of p) (conflicts_of r)
+  conflicts_kept_without r h e share others =
       let (bad, none, same, is) = ends_renamed p s new r h in
       let marks : HaveSameAnalysis unmarked p = same_unmarked (sheds chosen_here) mark.Shorthand p refl in
       let none_there : namespace_states (steps q) ≡ [] = no_states (steps unmarked) (steps q) (walked (none_means_free p s none)) (marks.states ∙ e) in
-      conflicts_kept r h (ap (λ t. namespace_states (steps t)) is ∙ none_there ∙ sym e) share
+      conflicts_kept r h (ap (λ t. namespace_states (steps t)) is ∙ none_there ∙ sym e) share others

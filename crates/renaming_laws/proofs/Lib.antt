@@ -1,6 +1,7 @@
 pub mod Sheds
 pub mod GoingBack
 pub mod Looks
+pub mod FlagsHeld
 pub mod AlikeRows
 pub mod AlikeDeclarations
 pub mod Twins

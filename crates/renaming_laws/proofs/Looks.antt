@@ -273,6 +273,9 @@ gets_within hoisted st d b = go (passed_symbol st d.route.passed d.naming.name) 
     go None e = below_next st (found st d.route.target.number d.naming.name) (found_below (length st.symbols) st d.route.target.number d.naming.name b)
     go (Some h) e = let l : h.symbol < length st.symbols = passed_below st d.route.passed d.naming.name b h e in omega (arith, l)
 
+pub gets_passed : (st : State) (d : Declaration) (h : PassedSymbol) → passed_symbol st d.route.passed d.naming.name ≡ Some h → gets hoisted st d ≡ h.symbol
+gets_passed st d h e = ap (passed_or st d) e
+
 pub passed_kept : (st : State) (d : Declaration) → IsSound st → ((l : Symbol) → slice_get (looks st.symbols) (gets hoisted st d) ≡ Some l → union l.flags.bits d.naming.flags ≡ l.flags.bits) → HasFlagsOf st d
 passed_kept st d b k h e =
     looks_redeclared d.naming st.symbols h.symbol (passed_below st d.route.passed d.naming.name b h e)

@@ -1,74 +1,30 @@
 -- Events that differ in names alone, of which each declaration gets the same symbol, tell the same conflicts.
-use Rattle.std.proofs.Common.{◌≡◌, ℕ, zero, suc, ◌≤◌, List, [], ◌∷◌, ◌++◌, Bool, true, false, cond, Option, Some, None, inl, length, map, refl, sym, ap, subst, subst₂, ◌∙◌, arith, bit_or}
-use Rattle.std.specs.Int.{bit_at}
+use Rattle.std.proofs.Common.{◌≡◌, ℕ, zero, suc, List, [], ◌∷◌, ◌++◌, Bool, true, false, cond, Option, Some, None, inl, length, map, refl, sym, ap, subst, subst₂, ◌∙◌, arith}
 use Rattle.std.specs.Prelude.{slice_get, option_map}
-use Rattle.std.proofs.lemmas.List.{append_assoc, append-nil, length-map}
-use Rattle.std.proofs.lemmas.Nat.Bits.{bit_at_or, same_from_bits}
+use Rattle.std.proofs.lemmas.List.{append_assoc, append-nil}
 use Rattle.std.proofs.lemmas.Option.{slice_get-map}
-use Rattle.semantic_syntax.specs.declared.symbol_flags.TheConstants.SymbolFlags as symbol
-use Rattle.semantic_syntax.specs.Sets.{meets, union}
+use Rattle.semantic_syntax.specs.Sets.{meets}
 use Rattle.semantic_syntax.specs.Tables.{Name, Symbol}
 use Rattle.semantic_model.specs.Binding.{bound_by}
-use Rattle.semantic_model.specs.Declaration.{How, hoisted, Declaration}
+use Rattle.semantic_model.specs.Declaration.{Declaration}
 use Rattle.semantic_model.specs.Entries.{Among}
 use Rattle.semantic_model.specs.Event.{Event, declares, takes_over, ends_header}
 use Rattle.semantic_model.specs.Fold.{Conflict, Made, State, redeclared, united, new_symbol, conflict_with, start}
-use Rattle.semantic_model.specs.Hoist.{PassedSymbol, passed_symbol, act, run}
+use Rattle.semantic_model.specs.Hoist.{act, run}
 use Rattle.semantic_model.specs.Naming.{Naming}
-use Rattle.semantic_model.specs.Place.{OpenScope}
-use Rattle.semantic_model.proofs.lists.Bounds.{IsSound}
-use Rattle.semantic_model.proofs.lists.Growth.{act_grows, start_is_sound}
-use Rattle.semantic_model.proofs.lists.Members.{among_right}
+use Rattle.semantic_model.proofs.lists.Members.{among_left, among_right}
+use Rattle.semantic_model.proofs.fold.TakeOvers.{IsReady, Orderly}
 use Rattle.renaming_laws.specs.KeptDeclarations.{declared_as}
-use Rattle.renaming_laws.specs.InBlocks.{passes_some, is_var_in_block, ShareFlags}
-use Rattle.renaming_laws.proofs.Looks.{looks, joined, gets, tells_by, HasFlagsOf, looks_by, made_by, rescoped_looks, gets_within, passed_kept}
-use Rattle.renaming_laws.proofs.Twins.{unnamed, Twin, TwinEvents}
-
--- ---- the flags of a `var` in a block
-
--- each symbol of a `var` in a block has the flags of the `var`
-abbrev Covered : List Made → List Symbol → Type 0
-Covered F ls = (m : Made) → Among m F → is_var_in_block m.declaration ≡ true → (l : Symbol) → slice_get ls m.symbol ≡ Some l → union l.flags.bits m.declaration.naming.flags ≡ l.flags.bits
-
--- an entry after a declaration: as it was, or that of its symbol
-data After (r : ℕ) (n : Naming) (ls : List Symbol) (j : ℕ) (l : Symbol) : Type 0 where
-  as_before : slice_get ls j ≡ Some l → After r n ls j l
-  is_joined : (k : Symbol) → j ≡ r → slice_get ls r ≡ Some k → l.flags.bits ≡ union k.flags.bits n.flags → After r n ls j l
-  is_new : j ≡ r → l.flags.bits ≡ n.flags → After r n ls j l
+use Rattle.renaming_laws.specs.InBlocks.{ShareFlags}
+use Rattle.renaming_laws.proofs.FlagsHeld.{IsVarRow, Holds, holds_start, holds_taken, Turn, looks_next, holds_next}
+use Rattle.renaming_laws.proofs.Looks.{looks, joined, gets, tells_by, made_by, rescoped_looks}
+use Rattle.renaming_laws.proofs.Twins.{unnamed, TwinEvents}
 
 some_look : (k l : Symbol) → ◌≡◌ {A = Option Symbol} (Some k) (Some l) → k ≡ l
 some_look k l e = cc
 
 no_look : (l : Symbol) → ◌≡◌ {A = Option Symbol} None (Some l) → ⊥
 no_look l e = cc
-
-later : (r : ℕ) (n : Naming) (ls : List Symbol) (j : ℕ) (x l : Symbol) → After r n ls j l → After (suc r) n (x ∷ ls) (suc j) l
-later r n ls j x l (as_before e) = as_before e
-later r n ls j x l (is_joined k i e f) = is_joined k (ap suc i) e f
-later r n ls j x l (is_new i f) = is_new (ap suc i) f
-
-after_at : (r : ℕ) (n : Naming) (ls : List Symbol) (j : ℕ) (l : Symbol) → r ≤ length ls → slice_get (joined r n ls) j ≡ Some l → After r n ls j l
-after_at r n [] zero l h e = is_new (omega (arith, h)) (sym (ap (λ (k : Symbol). k.flags.bits) (some_look (declared_as (new_symbol 0 n)) l e)))
-after_at r n [] (suc j) l h e = absurd (no_look l e)
-after_at zero n (x ∷ ls) zero l h e = is_joined x refl refl (sym (ap (λ (k : Symbol). k.flags.bits) (some_look (united n.flags (redeclared n x)) l e)))
-after_at zero n (x ∷ ls) (suc j) l h e = as_before e
-after_at (suc r) n (x ∷ ls) zero l h e = as_before e
-after_at (suc r) n (x ∷ ls) (suc j) l h e = later r n ls j x l (after_at r n ls j l (omega (arith, h)) e)
-
--- flags that are there stay
-absorbed : (a n m : ℕ) → union a m ≡ a → union (union a n) m ≡ union a n
-absorbed a n m h = same_from_bits (bit_or (bit_or a n) m) (bit_or a n) (λ i. let e : bit_at (bit_or a m) i ≡ bit_at a i = ap (λ b. bit_at b i) h in omega (arith, e, bit_at_or a m i, bit_at_or (bit_or a n) m i, bit_at_or a n i))
-
-covered_next : (F : List Made) (d : Declaration) (r : ℕ) (ls : List Symbol) → ShareFlags F → Among (record { declaration = d; symbol = r }) F → r ≤ length ls → Covered F ls → Covered F (joined r d.naming ls)
-covered_next F d r ls share a h c m b v l e = go (after_at r d.naming ls m.symbol l h e)
-  where
-    go : After r d.naming ls m.symbol l → union l.flags.bits m.declaration.naming.flags ≡ l.flags.bits
-    go (as_before q) = c m b v l q
-    go (is_joined k i q f) =
-        let had : union k.flags.bits m.declaration.naming.flags ≡ k.flags.bits = c m b v k (ap (slice_get ls) i ∙ q) in
-        ap (λ x. union x m.declaration.naming.flags) f ∙ absorbed k.flags.bits d.naming.flags m.declaration.naming.flags had ∙ sym f
-    go (is_new i f) =
-        ap (λ x. union x m.declaration.naming.flags) f ∙ share m (record { declaration = d; symbol = r }) b a v i ∙ sym f
 
 -- ---- declarations of a state, with those that follow
 
@@ -133,6 +89,7 @@ module _ (F G : List Made) (now next : Made → Name) where
     pub other_name : e.name ≡ other.declaration.naming.name
     pub earlier : e.earlier ≡ c.earlier
     pub later : e.later ≡ c.later
+    pub placed : c.later ≡ made.declaration.naming.span
 
   abbrev pub AllTwinned : List Conflict → List Conflict → Type 0
   AllTwinned [] [] = Unit {0}
@@ -155,16 +112,12 @@ module _ (F G : List Made) (now next : Made → Name) where
       go (meets y.flags.bits m.declaration.naming.excluded) (meets z.flags.bits k.declaration.naming.excluded) tests (ap (λ (l : Symbol). l.span) same)
     where
       go : (b c : Bool) → b ≡ c → y.span ≡ z.span → AllTwinned (cond b (record { name = m.declaration.naming.name; earlier = y.span; later = m.declaration.naming.span } ∷ []) []) (cond c (record { name = k.declaration.naming.name; earlier = z.span; later = k.declaration.naming.span } ∷ []) [])
-      go true true q p = (record { made = m; other = k; among = a; symbol = s; told = t; name = refl; other_name = refl; earlier = sym p; later = ap (λ (x : Naming). x.span) (sym n) }, tt)
+      go true true q p = (record { made = m; other = k; among = a; symbol = s; told = t; name = refl; other_name = refl; earlier = sym p; later = ap (λ (x : Naming). x.span) (sym n); placed = refl }, tt)
       go true false q p = absurd cc
       go false true q p = absurd cc
       go false false q p = tt
 
 -- ---- step by step
-
--- a `var` excludes what `var`s exclude
-abbrev pub IsVarRow : Declaration → Type 0
-IsVarRow d = d.how ≡ hoisted → d.naming.excluded ≡ symbol.FunctionScopedVariableExcludes.bits
 
 abbrev pub AreVarRows : List Event → Type 0
 AreVarRows [] = Unit {0}
@@ -177,127 +130,106 @@ joined_twins r n k [] e = λ i. declared_as (new_symbol 0 (e i)) ∷ []
 joined_twins zero n k (l ∷ ls) e = λ i. united (e i).flags (redeclared (e i) l) ∷ ls
 joined_twins (suc r) n k (l ∷ ls) e = ap (λ xs. l ∷ xs) (joined_twins r n k ls e)
 
--- a `var` that finds a symbol on its way stands in a block
-in_block_if : (how : How) (st : State) (d : Declaration) → how ≡ hoisted → (h : PassedSymbol) → passed_symbol st d.route.passed d.naming.name ≡ Some h → passes_some how d.route.passed ≡ true
-in_block_if how st d e h k = ap (λ w. passes_some w d.route.passed) e ∙ go d.route.passed k
-  where
-    go : (cs : List OpenScope) → passed_symbol st cs d.naming.name ≡ Some h → passes_some hoisted cs ≡ true
-    go [] q = absurd cc
-    go (c ∷ cs) q = refl
-
-module _ (F G : List Made) (now next : Made → Name) (share : ShareFlags F) where
-  -- both states have the same spans and flags, and have told the same
+module _ (F G : List Made) (now next : Made → Name) (tp tq : List (Option ℕ)) (share : ShareFlags F) (share_too : ShareFlags G) where
+  -- symbols are declared as the others, and the same was told
   record Level (st sw : State) : Type 0 where
-    left : IsSound st
-    right : IsSound sw
+    left : Holds tp st
+    right : Holds tq sw
     same : looks st.symbols ≡ looks sw.symbols
     many : length st.made ≡ length sw.made
-    covered : Covered F (looks st.symbols)
     told : AllTwinned F G now next st.conflicts sw.conflicts
 
   looks_at : (ys zs : List Symbol) (r : ℕ) → looks ys ≡ looks zs → option_map declared_as (slice_get ys r) ≡ option_map declared_as (slice_get zs r)
   looks_at ys zs r e = sym (slice_get-map declared_as ys r) ∙ ap (λ ls. slice_get ls r) e ∙ slice_get-map declared_as zs r
 
-  -- a symbol that a `var` gets on its way has its flags
-  has_flags : (st : State) (d : Declaration) → IsSound st → d.how ≡ hoisted → (is_var_in_block d ≡ true → (l : Symbol) → slice_get (looks st.symbols) (gets d.how st d) ≡ Some l → union l.flags.bits d.naming.flags ≡ l.flags.bits) → HasFlagsOf st d
-  has_flags st d b f c h k = passed_kept st d b (λ l q. c (in_block_if d.how st d f h k) l (ap (λ w. slice_get (looks st.symbols) (gets w st d)) f ∙ q)) h k
-
   -- a declaration and its twin, which get the same symbol
-  record Step (st sw : State) (d e : Declaration) : Type 0 where
-    twin : Twin d e
-    row : IsVarRow d
-    other_row : IsVarRow e
+  record Turns (st sw : State) (d e : Declaration) : Type 0 where
+    twin : unnamed d.naming ≡ unnamed e.naming
+    left : Turn tp F share st d
+    right : Turn tq G share_too sw e
     symbol : gets d.how st d ≡ gets e.how sw e
-    among : Among (record { declaration = d; symbol = gets d.how st d }) F
     names : now (record { declaration = d; symbol = gets d.how st d }) ≡ next (record { declaration = e; symbol = gets e.how sw e })
 
-  looks_left : (st sw : State) (d e : Declaration) → Level st sw → Step st sw d e → looks (act st (declares d)).symbols ≡ joined (gets d.how st d) d.naming (looks st.symbols)
-  looks_left st sw d e w t =
-      looks_by d.how st d (λ f. (t.row f, has_flags st d w.left f (λ v l q. w.covered (record { declaration = d; symbol = gets d.how st d }) t.among v l q))) w.left
-
-  looks_right : (st sw : State) (d e : Declaration) → Level st sw → Step st sw d e → looks (act sw (declares e)).symbols ≡ joined (gets e.how sw e) e.naming (looks sw.symbols)
-  looks_right st sw d e w t =
-      looks_by e.how sw e (λ f. (t.other_row f, has_flags sw e w.right f (λ v l q. covers v l q))) w.right
-    where
-      covers : is_var_in_block e ≡ true → (l : Symbol) → slice_get (looks sw.symbols) (gets e.how sw e) ≡ Some l → union l.flags.bits e.naming.flags ≡ l.flags.bits
-      covers v l q =
-          subst (λ n. union l.flags.bits n ≡ l.flags.bits) (ap (λ (x : Naming). x.flags) t.twin.naming)
-          (w.covered (record { declaration = d; symbol = gets d.how st d }) t.among (t.twin.in_block ∙ v) l ((λ i. slice_get (w.same i) (t.symbol i)) ∙ q))
-
-  told_next : (st sw : State) (d e : Declaration) → Level st sw → Step st sw d e → AllTwinned F G now next (act st (declares d)).conflicts (act sw (declares e)).conflicts
+  told_next : (st sw : State) (d e : Declaration) → Level st sw → Turns st sw d e → AllTwinned F G now next (act st (declares d)).conflicts (act sw (declares e)).conflicts
   told_next st sw d e w t =
       let r : ℕ = gets d.how st d in
       let q : ℕ = gets e.how sw e in
-      subst₂ (AllTwinned F G now next) (sym (tells_by d.how st d t.row)) (sym (tells_by e.how sw e t.other_row))
+      subst₂ (AllTwinned F G now next) (sym (tells_by d.how st d t.left.row)) (sym (tells_by e.how sw e t.right.row))
       (twinned_append F G now next st.conflicts sw.conflicts (conflict_with d.naming (slice_get st.symbols r)) (conflict_with e.naming (slice_get sw.symbols q)) w.told
-      (conflicts_twinned F G now next (record { declaration = d; symbol = r }) (record { declaration = e; symbol = q }) t.among t.symbol t.names t.twin.naming
+      (conflicts_twinned F G now next (record { declaration = d; symbol = r }) (record { declaration = e; symbol = q }) t.left.among t.symbol t.names t.twin
       (slice_get st.symbols r) (slice_get sw.symbols q) (looks_at st.symbols sw.symbols r w.same ∙ ap (λ n. option_map declared_as (slice_get sw.symbols n)) t.symbol)))
 
-  next_level : (st sw : State) (d e : Declaration) → Level st sw → Step st sw d e → Level (act st (declares d)) (act sw (declares e))
+  next_level : (st sw : State) (d e : Declaration) → Level st sw → Turns st sw d e → Level (act st (declares d)) (act sw (declares e))
   next_level st sw d e w t =
       let r : ℕ = gets d.how st d in
       let q : ℕ = gets e.how sw e in
-      let within : r ≤ length st.symbols = gets_within d.how st d w.left in
       record {
-        left = (act_grows st (declares d) w.left).sound;
-        right = (act_grows sw (declares e) w.right).sound;
-        same = looks_left st sw d e w t ∙ (λ i. joined (t.symbol i) d.naming (w.same i)) ∙ joined_twins q d.naming e.naming (looks sw.symbols) t.twin.naming ∙ sym (looks_right st sw d e w t);
+        left = holds_next tp F share st d w.left t.left;
+        right = holds_next tq G share_too sw e w.right t.right;
+        same = looks_next tp F share st d w.left t.left ∙ (λ i. joined (t.symbol i) d.naming (w.same i)) ∙ joined_twins q d.naming e.naming (looks sw.symbols) t.twin ∙ sym (looks_next tq G share_too sw e w.right t.right);
         many = ap length (made_by d.how st d) ∙ length_added st.made (record { declaration = d; symbol = r }) ∙ ap suc w.many
             ∙ sym (ap length (made_by e.how sw e) ∙ length_added sw.made (record { declaration = e; symbol = q }));
-        covered = subst (Covered F) (sym (looks_left st sw d e w t)) (covered_next F d r (looks st.symbols) share t.among (subst (λ n. r ≤ n) (sym (length-map st.symbols declared_as)) within) w.covered);
         told = told_next st sw d e w t;
       }
 
-  taken_level : (st sw : State) (c b c' b' : ℕ) → Level st sw → Level (act st (takes_over c b)) (act sw (takes_over c' b'))
-  taken_level st sw c b c' b' w =
-      let left : looks (act st (takes_over c b)).symbols ≡ looks st.symbols = rescoped_looks st.symbols (bound_by st.bindings c) b in
-      record {
-        left = (act_grows st (takes_over c b) w.left).sound;
-        right = (act_grows sw (takes_over c' b') w.right).sound;
-        same = left ∙ w.same ∙ sym (rescoped_looks sw.symbols (bound_by sw.bindings c') b');
-        many = w.many;
-        covered = subst (Covered F) (sym left) w.covered;
-        told = w.told;
-      }
+  taken_level : (st sw : State) (c b c' b' : ℕ) → IsReady tp st (takes_over c b) → IsReady tq sw (takes_over c' b') → Level st sw → Level (act st (takes_over c b)) (act sw (takes_over c' b'))
+  taken_level st sw c b c' b' r q w = record {
+    left = holds_taken tp st c b r w.left;
+    right = holds_taken tq sw c' b' q w.right;
+    same = rescoped_looks st.symbols (bound_by st.bindings c) b ∙ w.same ∙ sym (rescoped_looks sw.symbols (bound_by sw.bindings c') b');
+    many = w.many;
+    told = w.told;
+  }
 
-  all_levels : (es fs : List Event) (st sw : State) → TwinEvents es fs → AreVarRows es → AreVarRows fs → Level st sw → (run st es).made ≡ F → (run sw fs).made ≡ G → symbols_in F ≡ symbols_in G → map now F ≡ map next G → Level (run st es) (run sw fs)
-  all_levels [] [] st sw t h k w f g e o = w
-  all_levels [] (y ∷ fs) st sw t h k w f g e o = absurd t
-  all_levels (x ∷ es) [] st sw t h k w f g e o = absurd t
-  all_levels (declares d ∷ es) (declares c ∷ fs) st sw t h k w f g e o =
+  all_levels : (es fs : List Event) (st sw : State) → TwinEvents es fs → AreVarRows es → AreVarRows fs → Orderly tp st es → Orderly tq sw fs → Level st sw → (run st es).made ≡ F → (run sw fs).made ≡ G → symbols_in F ≡ symbols_in G → map now F ≡ map next G → Level (run st es) (run sw fs)
+  all_levels [] [] st sw t h k x y w f g e o = w
+  all_levels [] (c ∷ fs) st sw t h k x y w f g e o = absurd t
+  all_levels (c ∷ es) [] st sw t h k x y w f g e o = absurd t
+  all_levels (declares d ∷ es) (declares c ∷ fs) st sw t h k x y w f g e o =
       let m : Made = record { declaration = d; symbol = gets d.how st d } in
       let n : Made = record { declaration = c; symbol = gets c.how sw c } in
       let a : Stands st.made m F = subst (Stands st.made m) f (stands st d es) in
       let b : Stands sw.made n G = subst (Stands sw.made n) g (stands sw c fs) in
-      let turn : Step st sw d c = record {
+      let turns : Turns st sw d c = record {
         twin = t.0;
-        row = h.0;
-        other_row = k.0;
-        symbol = same_place (λ k. k.symbol) (λ k. k.symbol) st.made sw.made m n a.behind b.behind w.many (ap symbols_in (sym a.is) ∙ e ∙ ap symbols_in b.is);
-        among = stands_among st.made m F a;
+        left = record { ready = x.0; row = h.0; among = stands_among st.made m F a; before = λ j i. subst (Among j) (sym a.is) (among_left j st.made (m ∷ a.behind) i) };
+        right = record { ready = y.0; row = k.0; among = stands_among sw.made n G b; before = λ j i. subst (Among j) (sym b.is) (among_left j sw.made (n ∷ b.behind) i) };
+        symbol = same_place (λ j. j.symbol) (λ j. j.symbol) st.made sw.made m n a.behind b.behind w.many (ap symbols_in (sym a.is) ∙ e ∙ ap symbols_in b.is);
         names = same_place now next st.made sw.made m n a.behind b.behind w.many (ap (map now) (sym a.is) ∙ o ∙ ap (map next) b.is);
       } in
-      all_levels es fs (act st (declares d)) (act sw (declares c)) t.1 h.1 k.1 (next_level st sw d c w turn) f g e o
-  all_levels (takes_over c b ∷ es) (takes_over c' b' ∷ fs) st sw t h k w f g e o =
-      all_levels es fs (act st (takes_over c b)) (act sw (takes_over c' b')) t.1 h k (taken_level st sw c b c' b' w) f g e o
-  all_levels (ends_header c ∷ es) (ends_header c' ∷ fs) st sw t h k w f g e o = all_levels es fs st sw t.1 h k w f g e o
-  all_levels (_ ∷ es) (_ ∷ fs) st sw t h k w f g e o = absurd t.0
+      all_levels es fs (act st (declares d)) (act sw (declares c)) t.1 h.1 k.1 x.1 y.1 (next_level st sw d c w turns) f g e o
+  all_levels (takes_over c b ∷ es) (takes_over c' b' ∷ fs) st sw t h k x y w f g e o =
+      all_levels es fs (act st (takes_over c b)) (act sw (takes_over c' b')) t.1 h k x.1 y.1 (taken_level st sw c b c' b' x.0 y.0 w) f g e o
+  all_levels (ends_header c ∷ es) (ends_header c' ∷ fs) st sw t h k x y w f g e o = all_levels es fs st sw t.1 h k x.1 y.1 w f g e o
+  all_levels (_ ∷ es) (_ ∷ fs) st sw t h k x y w f g e o = absurd t.0
 
--- of whole programs
-module _ (es fs : List Event) (now next : Made → Name) where
-  in_the_end : TwinEvents es fs → AreVarRows es → AreVarRows fs → (share : ShareFlags (run start es).made) → symbols_in (run start es).made ≡ symbols_in (run start fs).made → map now (run start es).made ≡ map next (run start fs).made → Level (run start es).made (run start fs).made now next share (run start es) (run start fs)
-  in_the_end t h k share e o =
-      all_levels (run start es).made (run start fs).made now next share es fs start start t h k (record {
-        left = start_is_sound;
-        right = start_is_sound;
+-- ---- whole programs
+
+-- the events of two programs that differ in names alone, of which each declaration gets the same symbol
+pub record AreTwins (es fs : List Event) (now next : Made → Name) (tp tq : List (Option ℕ)) : Type 0 where
+  pub twins : TwinEvents es fs
+  pub rows : AreVarRows es
+  pub other_rows : AreVarRows fs
+  pub orderly : Orderly tp start es
+  pub others_orderly : Orderly tq start fs
+  pub share : ShareFlags (run start es).made
+  pub others_share : ShareFlags (run start fs).made
+  pub symbols : symbols_in (run start es).made ≡ symbols_in (run start fs).made
+  pub names : map now (run start es).made ≡ map next (run start fs).made
+
+module _ (es fs : List Event) (now next : Made → Name) (tp tq : List (Option ℕ)) (w : AreTwins es fs now next tp tq) where
+  in_the_end : Level (run start es).made (run start fs).made now next tp tq w.share w.others_share (run start es) (run start fs)
+  in_the_end =
+      all_levels (run start es).made (run start fs).made now next tp tq w.share w.others_share es fs start start w.twins w.rows w.other_rows w.orderly w.others_orderly (record {
+        left = holds_start tp;
+        right = holds_start tq;
         same = refl;
         many = refl;
-        covered = λ m a v l q. absurd (no_look l q);
         told = tt;
-      }) refl refl e o
+      }) refl refl w.symbols w.names
 
-  pub same_conflicts : TwinEvents es fs → AreVarRows es → AreVarRows fs → ShareFlags (run start es).made → symbols_in (run start es).made ≡ symbols_in (run start fs).made → map now (run start es).made ≡ map next (run start fs).made → AllTwinned (run start es).made (run start fs).made now next (run start es).conflicts (run start fs).conflicts
-  same_conflicts t h k share e o = (in_the_end t h k share e o).told
+  pub same_conflicts : AllTwinned (run start es).made (run start fs).made now next (run start es).conflicts (run start fs).conflicts
+  same_conflicts = in_the_end.told
 
-  pub same_looks : TwinEvents es fs → AreVarRows es → AreVarRows fs → ShareFlags (run start es).made → symbols_in (run start es).made ≡ symbols_in (run start fs).made → map now (run start es).made ≡ map next (run start fs).made → looks (run start es).symbols ≡ looks (run start fs).symbols
-  same_looks t h k share e o = (in_the_end t h k share e o).same
+  pub same_looks : looks (run start es).symbols ≡ looks (run start fs).symbols
+  same_looks = in_the_end.same

@@ -44,7 +44,7 @@ paired_run (x ∷ es) [] st sw t h = absurd t
 paired_run (declares d ∷ es) (declares e ∷ fs) st sw t h =
     paired_run es fs (act st (declares d)) (act sw (declares e)) t.1
     (subst₂ Paired (sym (made_by d.how st d)) (sym (made_by e.how sw e))
-    (paired_more st.made sw.made (record { declaration = d; symbol = gets d.how st d }) (record { declaration = e; symbol = gets e.how sw e }) h t.0.naming))
+    (paired_more st.made sw.made (record { declaration = d; symbol = gets d.how st d }) (record { declaration = e; symbol = gets e.how sw e }) h t.0))
 paired_run (takes_over c b ∷ es) (takes_over c' b' ∷ fs) st sw t h = paired_run es fs (act st (takes_over c b)) (act sw (takes_over c' b')) t.1 h
 paired_run (ends_header c ∷ es) (ends_header c' ∷ fs) st sw t h = paired_run es fs st sw t.1 h
 paired_run (_ ∷ es) (_ ∷ fs) st sw t h = absurd t.0

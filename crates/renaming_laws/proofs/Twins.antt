@@ -18,7 +18,6 @@ use Rattle.semantic_model.specs.Step.{Step, entering, opening, header_ending, cl
 use Rattle.semantic_model.proofs.form.Clauses.{kind_is}
 use Rattle.semantic_model.proofs.swapped.AlikeBinder.{renamed_declaration}
 use Rattle.semantic_model.proofs.swapped.AlikeSteps.{SamePlace, AlikeStep, AlikeSteps}
-use Rattle.renaming_laws.specs.InBlocks.{passes_some, is_var_in_block}
 use Rattle.renaming_laws.proofs.AlikeRows.{ren, parent_kind}
 use Rattle.renaming_laws.proofs.AlikeDeclarations.{namespace_same, facts, entering_same, opening_same}
 
@@ -31,12 +30,8 @@ nameless x = []
 abbrev pub unnamed : Naming → Naming
 unnamed n = record n { name = [] }
 
-pub record Twin (d e : Declaration) : Type 0 where
-  pub naming : unnamed d.naming ≡ unnamed e.naming
-  pub in_block : is_var_in_block d ≡ is_var_in_block e
-
 abbrev pub TwinEvent : Event → Event → Type 0
-TwinEvent (declares d) (declares e) = Twin d e
+TwinEvent (declares d) (declares e) = unnamed d.naming ≡ unnamed e.naming
 TwinEvent (takes_over c b) (takes_over c' b') = (c ≡ c') × (b ≡ b')
 TwinEvent (ends_header c) (ends_header c') = c ≡ c'
 TwinEvent _ _ = ⊥
@@ -63,21 +58,8 @@ unnamed_placed moved ds d = go (is_barred ds d (outside d.route.passed))
     go true = refl
     go false = refl
 
-in_block_placed : (how : How) (ds : List Declaration) (d : Declaration) → d.how ≡ how → is_var_in_block (placed_by how ds d) ≡ is_var_in_block d
-in_block_placed plain ds d e = refl
-in_block_placed hoisted ds d e = refl
-in_block_placed caught ds d e = refl
-in_block_placed moved ds d e = go (is_barred ds d (outside d.route.passed))
-  where
-    go : (b : Bool) → is_var_in_block (if b then staying d else d) ≡ is_var_in_block d
-    go true = sym (ap (λ h. passes_some h d.route.passed) e)
-    go false = refl
-
-placed_twins : (ds es : List Declaration) (d e : Declaration) → renamed_declaration nameless d ≡ renamed_declaration nameless e → Twin (placed ds d) (placed es e)
-placed_twins ds es d e h = record {
-  naming = unnamed_placed d.how ds d ∙ ap (λ (x : Declaration). x.naming) h ∙ sym (unnamed_placed e.how es e);
-  in_block = in_block_placed d.how ds d refl ∙ ap is_var_in_block h ∙ sym (in_block_placed e.how es e refl);
-}
+placed_twins : (ds es : List Declaration) (d e : Declaration) → renamed_declaration nameless d ≡ renamed_declaration nameless e → unnamed (placed ds d).naming ≡ unnamed (placed es e).naming
+placed_twins ds es d e h = unnamed_placed d.how ds d ∙ ap (λ (x : Declaration). x.naming) h ∙ sym (unnamed_placed e.how es e)
 
 -- ---- steps
 
@@ -189,7 +171,7 @@ same_events [] h = tt
 same_events (e ∷ es) h = (h e, same_events es h)
 
 self_twin : (e : Event) → TwinEvent e e
-self_twin (declares d) = record { naming = refl; in_block = refl }
+self_twin (declares d) = refl
 self_twin (takes_over c b) = (refl, refl)
 self_twin (ends_header c) = refl
 

@@ -15,7 +15,8 @@ use Rattle.semantic_model.specs.Place.{Place, OpenScope, innermost, outside}
 use Rattle.semantic_model.specs.Step.{Step, entering, opening, header_ending, closing, leaving, steps}
 use Rattle.semantic_model.proofs.form.Clauses.{kind_is}
 use Rattle.semantic_model.proofs.fold.EachDeclared.{EachDeclared, HoldRoutes, each_on_entering, each_on_opening}
-use Rattle.renaming_laws.proofs.SameConflicts.{IsVarRow, AreVarRows}
+use Rattle.renaming_laws.proofs.FlagsHeld.{IsVarRow}
+use Rattle.renaming_laws.proofs.SameConflicts.{AreVarRows}
 
 abbrev AllVarRows : List Declaration → Type 0
 AllVarRows ds = EachDeclared IsVarRow ds

@@ -2,15 +2,18 @@
 use Rattle.std.specs.Prelude.{◌≡◌, ℕ, ◌==◌, List, [], ◌∷◌, cond}
 use Rattle.semantic_syntax.specs.Tables.{Name}
 use Rattle.semantic_tree.specs.Tree.{Tree}
-use Rattle.semantic_model.specs.Fold.{Conflict}
-use Rattle.semantic_model.specs.TablesOf.{tables_of}
-use Rattle.program_laws.specs.SymbolNames.{IsNamed}
+use Rattle.semantic_model.specs.Entries.{Among}
+use Rattle.semantic_model.specs.Fold.{Conflict, Made}
+use Rattle.renaming_laws.specs.InBlocks.{made_in}
 
--- a conflict over a symbol that had its name, and the same one with the new name, if that is for its symbol
+-- a conflict of a declaration of the program, told by its name at its place, and the same one with the new name, if that is for
+-- the declaration's symbol
 pub record IsRenamedConflict (p : Tree) (s : ℕ) (new : Name) (c e : Conflict) : Type 0 where
-  pub symbol : ℕ
-  pub named : IsNamed (tables_of p) symbol c.name
-  pub is : e ≡ record c { name = cond (symbol == s) new c.name }
+  pub made : Made
+  pub among : Among made (made_in p)
+  pub named : c.name ≡ made.declaration.naming.name
+  pub placed : c.later ≡ made.declaration.naming.span
+  pub is : e ≡ record c { name = cond (made.symbol == s) new c.name }
 
 -- so many conflicts, in this order
 abbrev pub AreRenamedConflicts : (p : Tree) (s : ℕ) (new : Name) → List Conflict → List Conflict → Type 0

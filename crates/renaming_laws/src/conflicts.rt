@@ -16,17 +16,18 @@ ghost use Rattle.renaming_laws.specs.KeptConflicts.{AreRenamedConflicts, with_ot
 
 /// A renaming keeps the conflicts of declarations: so many, in the same order, at the same places. Those of the symbol are told
 /// with its new name, all others as they were. Namespaces have to keep their states, which they do where there are none, and
-/// a `var` that stands in a block must not share its symbol with a declaration that is no variable: there a program can lose
+/// no `var` may pass, on its way out of a block, a declaration of its symbol that hasn't its flags: there a program can lose
 /// or get a conflict.
 pub fn a_renaming_keeps_conflicts()
     ensures kept { (p q : Tree) (s : ℕ) (y : Symbol) (new : Name) → first_fault p ≡ None
         → IsNumbered p.root → slice_get (tables_of p).symbols s ≡ Some y
         → rename p s new ≡ Ok q → namespace_states (steps q) ≡ namespace_states (steps p)
-        → ShareFlags (made_in p)
+        → ShareFlags (made_in p) → ShareFlags (made_in q)
         → AreRenamedConflicts p s new (conflicts_of p) (conflicts_of q) }
     ensures without_namespaces { (p q : Tree) (s : ℕ) (y : Symbol) (new : Name)
         → first_fault p ≡ None → IsNumbered p.root → slice_get (tables_of p).symbols s ≡ Some y
         → rename p s new ≡ Ok q → namespace_states (steps p) ≡ [] → ShareFlags (made_in p)
+        → ShareFlags (made_in q)
         → AreRenamedConflicts p s new (conflicts_of p) (conflicts_of q) }
 {}
 
@@ -37,7 +38,7 @@ pub fn a_renaming_keeps_declarations()
     ensures { (p q : Tree) (s : ℕ) (y : Symbol) (new : Name) → first_fault p ≡ None
         → IsNumbered p.root → slice_get (tables_of p).symbols s ≡ Some y
         → rename p s new ≡ Ok q → namespace_states (steps q) ≡ namespace_states (steps p)
-        → ShareFlags (made_in p)
+        → ShareFlags (made_in p) → ShareFlags (made_in q)
         → KeepsDeclarations p q s new }
 {}
 

@@ -2,7 +2,7 @@ use Rattle.renaming_laws.proofs.KeptConflicts.{conflicts_kept, conflicts_kept_wi
 use Rattle.renaming_laws.proofs.conflicts.a_renaming_keeps_conflicts.Goals as goal
 
 pub returns-clause-kept : goal.returns-clause-kept
-returns-clause-kept c = λ p q s y new h n there e states share. conflicts_kept p h n s y there new q e states share
+returns-clause-kept c = λ p q s y new h n there e states share others. conflicts_kept p h n s y there new q e states share others
 
 pub returns-clause-without_namespaces : goal.returns-clause-without_namespaces
-returns-clause-without_namespaces c = λ p q s y new h n there e states share. conflicts_kept_without p h n s y there new q e states share
+returns-clause-without_namespaces c = λ p q s y new h n there e states share others. conflicts_kept_without p h n s y there new q e states share others
