@@ -13,15 +13,6 @@ same_pair a c b d p q = ap (λ x. (x, b)) p ∙ ap (λ y. (c, y)) q
 pub same_cons : {A : Type 0} (x y : A) (xs ys : List A) → x ≡ y → xs ≡ ys → x ∷ xs ≡ y ∷ ys
 same_cons x y xs ys p q = ap (λ z. z ∷ xs) p ∙ ap (λ zs. y ∷ zs) q
 
-pub all-append : {A : Type 0} (P : A → Type 0) (xs ys : List A) → AllByRecursion P xs → AllByRecursion P ys → AllByRecursion P (xs ++ ys)
-all-append P [] ys h k = k
-all-append P (x ∷ xs) ys h k = (h.0, all-append P xs ys h.1 k)
-
--- what each element has, another follows from
-pub all_since : {A : Type 0} (P Q : A → Type 0) → ((x : A) → P x → Q x) → (xs : List A) → AllByRecursion P xs → AllByRecursion Q xs
-all_since P Q since [] h = tt
-all_since P Q since (x ∷ xs) h = (since x h.0, all_since P Q since xs h.1)
-
 -- whether all bytes pass a test
 abbrev pub all_pass : (ℕ → Bool) → List ℕ → Bool
 all_pass test [] = true

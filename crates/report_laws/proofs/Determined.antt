@@ -1,6 +1,6 @@
 -- A text of a sound form determines what it tells.
-use Rattle.std.proofs.Common.{◌≡◌, ℕ, ◌<◌, ◌≤◌, ◌^◌, ◌==◌, ◌&&◌, ◌||◌, ◌⊎◌, inl, inr, not, Bool, true, false, List, [], ◌∷◌, ◌++◌, Option, Some, None, length, codes, decimal, encode_utf8_all, refl, sym, ap, ◌∙◌, subst, arith}
-use Rattle.std.proofs.lemmas.List.{append_cancel_left, append-nil}
+use Rattle.std.proofs.Common.{◌≡◌, ℕ, ◌<◌, ◌^◌, ◌&&◌, inl, inr, not, Bool, true, false, List, [], ◌∷◌, ◌++◌, Option, Some, None, codes, decimal, encode_utf8_all, refl, sym, ap, ◌∙◌, subst, arith}
+use Rattle.std.proofs.lemmas.List.{append_cancel_left}
 use Rattle.std.proofs.lemmas.Bool.{and_parts, ne_eqb, lt-ltb}
 use Rattle.std.proofs.lemmas.Fmt.{decimal_is_IsNumeral, decimal_injective}
 use Rattle.std.proofs.lemmas.Str.Parse.{digit_from_value}
@@ -10,7 +10,7 @@ use Rattle.std.specs.Str.Parse.{AllDigits}
 use Rattle.std.specs.List.{AllByRecursion}
 use Rattle.report_lines.specs.Pieces.{quoted, flags_text, with_bits}
 use Rattle.table_bounds.specs.Tellable.{no_gap}
-use Rattle.report_laws.proofs.Closed.{BothSame, same_pair, same_cons, same_word, IsWord, IsClosed, apart, apart_differ, all_since}
+use Rattle.report_laws.proofs.Closed.{BothSame, same_pair, same_cons, same_word, IsWord, IsClosed, apart, apart_differ}
 use Rattle.report_laws.proofs.Escaped.{same_quoted, quoted_begins}
 use Rattle.report_laws.proofs.Utf8.{same_encoded}
 use Rattle.report_laws.proofs.FlagNames.{all_words, same_flags, flags_no_gap}
@@ -98,7 +98,7 @@ same_piece name_or_dash good a b ha hb r s cr cs e = same_name_or_dash a b r s e
 same_piece word_or_dash good a b ha hb r s cr cs e = same_word_or_dash a b ha hb r s cr cs e
 same_piece (flags names) good a b ha hb r s cr cs e =
     let texts : BothSame (flags_text (with_bits 1 names) a) (flags_text (with_bits 1 names) b) r s =
-        same_word no_gap (flags_text (with_bits 1 names) a) (flags_text (with_bits 1 names) b) r s (flags_no_gap names good a) (flags_no_gap names good b) cr cs e in
+    same_word no_gap (flags_text (with_bits 1 names) a) (flags_text (with_bits 1 names) b) r s (flags_no_gap names good a) (flags_no_gap names good b) cr cs e in
     (same_flags names good a b ha hb texts.0, texts.1)
 same_piece anything good a b ha hb r s cr cs e = same_word in_line a b r s ha hb cr cs e
 
@@ -144,7 +144,7 @@ module _ {A : Type 0} (w : List ℕ) (ws : List (List ℕ)) (go : A → List ℕ
   begins_items (x ∷ xs) r b = inl (go x (one_by_one w go xs r), refl)
 
   module _ (some : not_empty w ≡ true) (others : all_words (apart w) ws ≡ true) (P : A → Type 0)
-    (one : (x y : A) → P x → P y → (r s : List ℕ) → BeginsAmong (w ∷ ws) r → BeginsAmong (w ∷ ws) s → go x r ≡ go y s → BothSame x y r s) where
+      (one : (x y : A) → P x → P y → (r s : List ℕ) → BeginsAmong (w ∷ ws) r → BeginsAmong (w ∷ ws) s → go x r ≡ go y s → BothSame x y r s) where
     same_items : (xs ys : List A) → AllByRecursion P xs → AllByRecursion P ys → (r s : List ℕ) → BeginsAmong ws r → BeginsAmong ws s
         → one_by_one w go xs r ≡ one_by_one w go ys s → BothSame xs ys r s
     same_items [] [] hx hy r s br bs e = (refl, e)
@@ -166,7 +166,7 @@ determined (piece p f) after sound v u hv hu r s br bs e =
     let good = and_parts (is_good p) (all_words (closes p) (starts f after) && is_sound f after) sound in
     let more = and_parts (all_words (closes p) (starts f after)) (is_sound f after) good.1 in
     let first : BothSame v.0 u.0 (written f v.1 r) (written f u.1 s) =
-        same_piece p good.0 v.0 u.0 hv.0 hu.0 (written f v.1 r) (written f u.1 s) (closed p (starts f after) more.0 (written f v.1 r) (begins f after v.1 r br)) (closed p (starts f after) more.0 (written f u.1 s) (begins f after u.1 s bs)) e in
+    same_piece p good.0 v.0 u.0 hv.0 hu.0 (written f v.1 r) (written f u.1 s) (closed p (starts f after) more.0 (written f v.1 r) (begins f after v.1 r br)) (closed p (starts f after) more.0 (written f u.1 s) (begins f after u.1 s bs)) e in
     let rest : BothSame v.1 u.1 r s = determined f after more.1 v.1 u.1 hv.1 hu.1 r s br bs first.1 in
     (same_pair v.0 u.0 v.1 u.1 first.0 rest.0, rest.1)
 determined (each w item f) after sound v u hv hu r s br bs e =
@@ -174,8 +174,8 @@ determined (each w item f) after sound v u hv hu r s br bs e =
     let others = and_parts (all_words (apart w) (starts f after)) (is_sound item (w ∷ starts f after) && is_sound f after) some.1 in
     let both = and_parts (is_sound item (w ∷ starts f after)) (is_sound f after) others.1 in
     let items : BothSame v.0 u.0 (written f v.1 r) (written f u.1 s) =
-        same_items w (starts f after) (written item) some.0 others.0 (AreTold item) (determined item (w ∷ starts f after) both.0) v.0 u.0 hv.0 hu.0
-        (written f v.1 r) (written f u.1 s) (begins f after v.1 r br) (begins f after u.1 s bs) e in
+    same_items w (starts f after) (written item) some.0 others.0 (AreTold item) (determined item (w ∷ starts f after) both.0) v.0 u.0 hv.0 hu.0
+    (written f v.1 r) (written f u.1 s) (begins f after v.1 r br) (begins f after u.1 s bs) e in
     let rest : BothSame v.1 u.1 r s = determined f after both.1 v.1 u.1 hv.1 hu.1 r s br bs items.1 in
     (same_pair v.0 u.0 v.1 u.1 items.0 rest.0, rest.1)
 

@@ -1,12 +1,12 @@
 -- The names of flags, joined by plus, tell which flags are set.
-use Rattle.std.proofs.Common.{◌≡◌, ℕ, zero, suc, ◌+◌, ◌*◌, ◌/◌, ◌%◌, ◌^◌, ◌<◌, ◌≤◌, ◌==◌, ◌&&◌, ◌||◌, not, min, Bool, true, false, cond, if◌then◌else◌, List, [], ◌∷◌, ◌++◌, length, flat_map, codes, append_assoc, append-nil, pow-suc, refl, sym, ap, ◌∙◌, subst, inl, inr, ◌⊎◌, arith}
+use Rattle.std.proofs.Common.{◌≡◌, ℕ, suc, ◌+◌, ◌*◌, ◌/◌, ◌%◌, ◌^◌, ◌<◌, ◌==◌, ◌&&◌, ◌||◌, not, min, Bool, true, false, if◌then◌else◌, List, [], ◌∷◌, ◌++◌, length, flat_map, codes, pow-suc, refl, sym, ap, ◌∙◌, subst, inl, inr, ◌⊎◌, arith}
 use Rattle.std.proofs.lemmas.List.{append_cancel_left}
-use Rattle.std.proofs.lemmas.Bool.{cases_eq, eq-eqb, ne_eqb, eqb-true, eqb-false, and_parts}
-use Rattle.std.specs.List.{AllByRecursion}
+use Rattle.std.proofs.lemmas.Bool.{cases_eq, eq-eqb, ne_eqb, eqb-true, and_parts}
 use Rattle.std.specs.Int.RustNames.{bit_and}
 use lib.Bits.{and_step, and_mask}
 use Rattle.report_lines.specs.Pieces.{flags_text, with_bits, name_if_set, without_plus}
-use Rattle.report_laws.proofs.Closed.{BothSame, IsWord, IsClosed, same_word, same_cons, apart, apart_differ, all_pass, passing, all-append, all_since}
+use Rattle.semantic_syntax.proofs.Every.{every-append, every-more}
+use Rattle.report_laws.proofs.Closed.{BothSame, IsWord, IsClosed, same_word, same_cons, apart, apart_differ, all_pass, passing}
 use Rattle.table_bounds.specs.Tellable.{no_gap}
 
 -- whether a byte may stand in the name of a flag
@@ -47,7 +47,7 @@ test_half bits m =
     let half : 2 * m / 2 ≡ m = omega arith in
     let even : 2 * m % 2 ≡ 0 = omega arith in
     let step : bit_and bits (2 * m) ≡ bit_and (bits / 2) m * 2 =
-        and_step bits (2 * m) ∙ ap (λ k. bit_and (bits / 2) k * 2 + min (bits % 2) (2 * m % 2)) half ∙ ap (λ k. bit_and (bits / 2) m * 2 + min (bits % 2) k) even ∙ omega arith in
+    and_step bits (2 * m) ∙ ap (λ k. bit_and (bits / 2) k * 2 + min (bits % 2) (2 * m % 2)) half ∙ ap (λ k. bit_and (bits / 2) m * 2 + min (bits % 2) k) even ∙ omega arith in
     ap (λ k. k == 2 * m) step ∙ equal_doubles (bit_and (bits / 2) m) m
 
 tests_half : (m bits : ℕ) (ns : List (List ℕ)) → tests (2 * m) bits ns ≡ tests m (bits / 2) ns
@@ -101,7 +101,7 @@ name_letters [] h = absurd cc
 name_letters (byte ∷ rest) h = let parts = and_parts (is_letter byte) (all_pass is_letter rest) h in (parts.0, passing is_letter rest parts.1)
 
 name_word : (n : List ℕ) → is_name n ≡ true → IsWord in_name n
-name_word n h = all_since (λ byte. is_letter byte ≡ true) (λ byte. in_name byte ≡ true) letter_in_name n (name_letters n h)
+name_word n h = every-more (λ byte. is_letter byte ≡ true) (λ byte. in_name byte ≡ true) letter_in_name n (name_letters n h)
 
 shown_closed : (bit bits : ℕ) (ns : List (List ℕ)) → IsClosed in_name (shown bit bits ns)
 shown_closed bit bits [] = tt
@@ -213,10 +213,10 @@ shown_no_gap (n ∷ ns) names bit bits = by (bit_and bits bit == bit) (shown_no_
     more = and_parts (all_words (λ m. apart (n ++ 43 ∷ []) (m ++ 43 ∷ [])) ns) (are_names ns) parts.1
 
     name : IsWord no_gap n
-    name = all_since (λ byte. is_letter byte ≡ true) (λ byte. no_gap byte ≡ true) letter_no_gap n (name_letters n parts.0)
+    name = every-more (λ byte. is_letter byte ≡ true) (λ byte. no_gap byte ≡ true) letter_no_gap n (name_letters n parts.0)
 
     by : (t : Bool) → IsWord no_gap (shown (2 * bit) bits ns) → IsWord no_gap (if_set t n ++ shown (2 * bit) bits ns)
-    by true later = (refl, all-append (λ byte. no_gap byte ≡ true) n (shown (2 * bit) bits ns) name later)
+    by true later = (refl, every-append (λ byte. no_gap byte ≡ true) n (shown (2 * bit) bits ns) name later)
     by false later = later
 
 behind_plus_no_gap : (text : List ℕ) → IsWord no_gap text → IsWord no_gap (without_plus text)

@@ -1,11 +1,11 @@
 -- The forms of lines: words, pieces that tell something, and items that follow one another, each behind a word.
-use Rattle.std.proofs.Common.{◌≡◌, ℕ, ◌<◌, ◌^◌, ◌==◌, ◌&&◌, ◌⊎◌, not, Bool, true, false, List, [], ◌∷◌, ◌++◌, Option, Some, None, length, codes, decimal, encode_utf8_all, option_map}
+use Rattle.std.proofs.Common.{◌≡◌, ℕ, ◌==◌, ◌&&◌, ◌⊎◌, not, Bool, true, false, List, [], ◌∷◌, ◌++◌, Option, decimal, encode_utf8_all, option_map, IfSome}
 use Rattle.std.specs.Char.{is_digit}
 use Rattle.std.specs.List.{AllByRecursion}
 use Rattle.report_lines.specs.Pieces as pieces
 use Rattle.report_laws.proofs.Closed.{IsWord, apart}
 use Rattle.report_laws.proofs.FlagNames.{are_names, all_words}
-use Rattle.table_bounds.specs.Tellable.{no_gap, IsNumber, IsNumberIfThere, HaveNames, IsPlainWordIfThere}
+use Rattle.table_bounds.specs.Tellable.{no_gap, IsNumber, HaveNames, IsPlainWord}
 
 -- a piece of a line
 pub data Piece : Type 0 where
@@ -60,10 +60,10 @@ is_part anything = in_line
 -- what is told can be read back
 abbrev pub IsTold : (p : Piece) → Told p → Type 0
 IsTold number n = IsNumber n
-IsTold number_or_dash o = IsNumberIfThere o
+IsTold number_or_dash o = IfSome o IsNumber
 IsTold name text = Unit {0}
 IsTold name_or_dash o = Unit {0}
-IsTold word_or_dash o = IsPlainWordIfThere o
+IsTold word_or_dash o = IfSome o IsPlainWord
 IsTold (flags names) bits = HaveNames names bits
 IsTold anything text = IsWord in_line text
 

@@ -1,5 +1,5 @@
 -- Texts in which no line ends.
-use Rattle.std.proofs.Common.{◌≡◌, ℕ, zero, suc, ◌+◌, ◌/◌, ◌%◌, ◌<◌, ◌≤◌, ◌==◌, ◌&&◌, ◌||◌, ◌⊎◌, inl, inr, not, nat_lt, Bool, true, false, if◌then◌else◌, List, [], ◌∷◌, ◌++◌, Option, Some, None, slice_get, codes, decimal, refl, sym, ap, ◌∙◌, subst, arith}
+use Rattle.std.proofs.Common.{◌≡◌, ℕ, zero, suc, ◌+◌, ◌/◌, ◌%◌, ◌<◌, ◌≤◌, ◌==◌, ◌||◌, ◌⊎◌, inl, inr, not, nat_lt, Bool, true, false, if◌then◌else◌, List, [], ◌∷◌, ◌++◌, Option, Some, None, slice_get, codes, decimal, refl, sym, subst, arith}
 use Rattle.std.proofs.lemmas.Bool.{cases_eq, cases_lt, ne_eqb, and_parts}
 use Rattle.std.specs.Fmt.{digits, digits_onto, digit_glyph}
 use Rattle.std.specs.List.{AllByRecursion, concat, list_all}
@@ -11,7 +11,8 @@ use Rattle.semantic_kinds.proofs.KindNames.{kind_in_place}
 use Rattle.semantic_syntax.specs.declared.spans.Span.{Span}
 use Rattle.report_lines.specs.Pieces.{quoted, numbers, span_text, number_or_dash, behind_space, flags_text, with_bits}
 use Rattle.table_bounds.specs.Tellable.{no_gap}
-use Rattle.report_laws.proofs.Closed.{IsWord, all_pass, passing, all-append, all_since}
+use Rattle.semantic_syntax.proofs.Every.{every-append, every-more}
+use Rattle.report_laws.proofs.Closed.{IsWord, all_pass, passing}
 use Rattle.report_laws.proofs.Escaped.{EachBelow, each_below}
 use Rattle.report_laws.proofs.FlagNames.{are_names, flags_no_gap}
 use Rattle.report_laws.proofs.Forms.{in_line}
@@ -24,7 +25,7 @@ pub literal : (text : List ℕ) → all_pass in_line text ≡ true → InLine te
 literal text e = passing in_line text e
 
 pub append_in_line : (a b : List ℕ) → InLine a → InLine b → InLine (a ++ b)
-append_in_line a b h k = all-append (λ byte. in_line byte ≡ true) a b h k
+append_in_line a b h k = every-append (λ byte. in_line byte ≡ true) a b h k
 
 pub concat_in_line : (texts : List (List ℕ)) → AllByRecursion InLine texts → InLine (concat texts)
 concat_in_line [] h = tt
@@ -109,7 +110,7 @@ gap_in_line byte h = by (byte == 32) (byte == 10) h
 
 pub flags_in_line : (names : List (List ℕ)) → are_names names ≡ true → (bits : ℕ) → InLine (flags_text (with_bits 1 names) bits)
 flags_in_line names good bits =
-    all_since (λ byte. no_gap byte ≡ true) (λ byte. in_line byte ≡ true) gap_in_line (flags_text (with_bits 1 names) bits) (flags_no_gap names good bits)
+    every-more (λ byte. no_gap byte ≡ true) (λ byte. in_line byte ≡ true) gap_in_line (flags_text (with_bits 1 names) bits) (flags_no_gap names good bits)
 
 passes_there : {A : Type 0} (test : A → Bool) (xs : List A) → list_all test xs ≡ true → (i : ℕ) (x : A) → slice_get xs i ≡ Some x → test x ≡ true
 passes_there test [] h i x e = absurd cc

@@ -1,5 +1,5 @@
 -- Lists of what is told, and what is told of lists.
-use Rattle.std.proofs.Common.{◌≡◌, ℕ, zero, suc, ◌+◌, ◌<◌, ◌≤◌, ◌^◌, List, [], ◌∷◌, ◌++◌, length, get_or, drop, map, flat_map, append_assoc, refl, sym, ap, ◌∙◌, subst, arith}
+use Rattle.std.proofs.Common.{◌≡◌, ℕ, ◌+◌, ◌<◌, ◌≤◌, List, [], ◌∷◌, ◌++◌, length, get_or, drop, map, flat_map, append_assoc, refl, sym, ap, ◌∙◌, arith}
 use Rattle.std.proofs.lemmas.List.{drop_more, drop_all}
 use Rattle.std.specs.List.{AllByRecursion, concat}
 use Rattle.report_ends.specs.Streams.{numbered_text}
@@ -64,9 +64,3 @@ pub all_numbered : {A B : Type 0} (P : A → Type 0) (Q : B → Type 0) (value :
     → (i : ℕ) (xs : List A) → i + length xs ≤ n → AllByRecursion P xs → AllByRecursion Q (numbered value i xs)
 all_numbered P Q value n since i [] fits h = tt
 all_numbered P Q value n since i (x ∷ xs) fits h = (since i x (omega (arith, fits)) h.0, all_numbered P Q value n since (i + 1) xs (omega (arith, fits)) h.1)
-
--- of an element, or of what stands for none
-pub all_at : {A : Type 0} (P : A → Type 0) (none : A) → P none → (xs : List A) → AllByRecursion P xs → (i : ℕ) → P (get_or xs i none)
-all_at P none h [] k i = h
-all_at P none h (x ∷ xs) k zero = k.0
-all_at P none h (x ∷ xs) k (suc i) = all_at P none h xs k.1 i

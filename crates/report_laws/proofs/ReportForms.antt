@@ -1,7 +1,6 @@
 -- The text of a report, as a form.
-use Rattle.std.proofs.Common.{◌≡◌, ℕ, ◌+◌, Bool, true, false, if◌then◌else◌, List, [], ◌∷◌, ◌++◌, Option, Some, None, map, flat_map, codes, decimal, encode_utf8_all, option_map, append_assoc, append-nil, refl, sym, ap, ◌∙◌}
+use Rattle.std.proofs.Common.{◌≡◌, ℕ, ◌+◌, Bool, true, false, if◌then◌else◌, List, [], ◌∷◌, ◌++◌, map, flat_map, codes, decimal, encode_utf8_all, option_map, append_assoc, append-nil, refl, sym, ap, ◌∙◌}
 use Rattle.std.specs.List.{AllByRecursion, concat, enumerate_from}
-use Rattle.semantic_syntax.specs.declared.element_kind.ElementKind.{ElementKind}
 use Rattle.semantic_syntax.specs.FlagNames.{element_kind_names}
 use Rattle.semantic_syntax.specs.Tables.{Tables}
 use Rattle.semantic_model.specs.Element.{Element}
@@ -9,7 +8,7 @@ use Rattle.semantic_model.specs.Class.{PrivateUse}
 use Rattle.semantic_kinds.specs.Kinds.{kind_name}
 use Rattle.semantic_diagnostics.specs.declared.diagnostic.Label.{Label}
 use Rattle.semantic_diagnostics.specs.declared.diagnostic.Diagnostic.{Diagnostic}
-use Rattle.node_store.specs.NodeList.{NodeList, SeenNode}
+use Rattle.node_store.specs.NodeList.{SeenNode}
 use Rattle.node_store.specs.Outward.{numbered_from}
 use Rattle.class_table.specs.Lists.{ClassLists, elements_in, uses_in}
 use Rattle.class_table.specs.Outward.{parent_in}
@@ -21,10 +20,10 @@ use Rattle.report_lines.specs.ClassLines.{privacy, ownership, class_line, elemen
 use Rattle.report_lines.specs.CountLines.{node_line, node_line_by, node_lines, label_line, counts_text, counts_of, stats_line}
 use Rattle.report_lines.specs.DiagnosticLine.{said_or_dash, label_text, diagnostic_line}
 use Rattle.report_answers.specs.Found.{Found}
-use Rattle.report_answers.specs.Report.{where_asked, listed_text, noted_text, counted_text, report_text}
+use Rattle.report_answers.specs.Report.{where_asked, noted_text, counted_text, report_text}
 use Rattle.report_answers.specs.declared.options.Options.{Options}
 use Rattle.table_bounds.specs.Tellable.{AreNumbers, IsNumber, AreTellable, IsTellableLabel, IsTellableDiagnostic}
-use Rattle.report_laws.proofs.Lists.{onto, concat_onto, numbered, each_line, numbered_lines, all_map, all_numbered}
+use Rattle.report_laws.proofs.Lists.{onto, concat_onto, numbered, each_line, numbered_lines, all_map}
 use Rattle.report_laws.proofs.Forms.{number, name, name_or_dash, word_or_dash, anything, Form, end, word, piece, each, Values, written, AreTold}
 use Rattle.report_laws.proofs.InLine.{InLine, literal, append_in_line, concat_in_line, decimal_in_line, number_or_dash_in_line, span_in_line, numbers_in_line, quoted_in_line, flags_in_line, kind_in_line}
 use Rattle.report_laws.proofs.TableForms.{span_form, table_form, table_value, span_written, tables_written}
@@ -117,7 +116,7 @@ element_written class n e rest =
     append_assoc (element_head class n (encode_utf8_all e.name) e.span) (element_end e.is_private e.is_static e.kind) rest
     ∙ concat_onto (codes "element " ∷ decimal class ∷ codes " " ∷ decimal n ∷ codes " " ∷ pieces.quoted (encode_utf8_all e.name) ∷ codes " span " ∷ pieces.span_text e.span ∷ []) (element_end e.is_private e.is_static e.kind ++ rest)
     ∙ ap (λ more. onto (codes "element " ∷ decimal class ∷ codes " " ∷ decimal n ∷ codes " " ∷ pieces.quoted (encode_utf8_all e.name) ∷ codes " span " ∷ pieces.span_text e.span ∷ []) more)
-      (concat_onto (codes " " ∷ privacy e.is_private ∷ codes " " ∷ ownership e.is_static ∷ codes " kind " ∷ pieces.element_flags e.kind ∷ codes "\n" ∷ []) rest)
+    (concat_onto (codes " " ∷ privacy e.is_private ∷ codes " " ∷ ownership e.is_static ∷ codes " kind " ∷ pieces.element_flags e.kind ∷ codes "\n" ∷ []) rest)
     ∙ ap (λ more. codes "element " ++ more) (line_written (element_texts class n e) rest)
 
 privacy_in_line : (b : Bool) → InLine (privacy b)
@@ -130,9 +129,28 @@ ownership_in_line false = literal (codes "instance") refl
 
 element_told : (class n : ℕ) (e : Element) → AreTold line_form (line_value (element_texts class n e))
 element_told class n e =
-    line_told (element_texts class n e)
-    (decimal_in_line class, (literal (codes " ") refl, (decimal_in_line n, (literal (codes " ") refl, (quoted_in_line (encode_utf8_all e.name), (literal (codes " span ") refl, (span_in_line e.span,
-    (literal (codes " ") refl, (privacy_in_line e.is_private, (literal (codes " ") refl, (ownership_in_line e.is_static, (literal (codes " kind ") refl, (flags_in_line element_kind_names refl e.kind.bits, tt)))))))))))))
+    line_told (element_texts class n e) (
+      decimal_in_line class,
+      (
+        literal (codes " ") refl,
+        (
+          decimal_in_line n,
+          (
+            literal (codes " ") refl,
+            (
+              quoted_in_line (encode_utf8_all e.name),
+              (
+                literal (codes " span ") refl,
+                (
+                  span_in_line e.span,
+                  (literal (codes " ") refl, (privacy_in_line e.is_private, (literal (codes " ") refl, (ownership_in_line e.is_static, (literal (codes " kind ") refl, (flags_in_line element_kind_names refl e.kind.bits, tt)))))),
+                ),
+              ),
+            ),
+          ),
+        ),
+      ),
+    )
 
 abbrev use_texts : ℕ → PrivateUse → List (List ℕ)
 use_texts class u = decimal class ∷ codes " node " ∷ decimal u.id ∷ codes " " ∷ pieces.quoted (encode_utf8_all u.name) ∷ codes " span " ∷ pieces.span_text u.span ∷ codes " elements" ∷ pieces.numbers u.element_ids ∷ []
@@ -145,9 +163,28 @@ use_written class u rest =
 
 use_told : (class : ℕ) (u : PrivateUse) → AreTold line_form (line_value (use_texts class u))
 use_told class u =
-    line_told (use_texts class u)
-    (decimal_in_line class, (literal (codes " node ") refl, (decimal_in_line u.id, (literal (codes " ") refl, (quoted_in_line (encode_utf8_all u.name), (literal (codes " span ") refl, (span_in_line u.span,
-    (literal (codes " elements") refl, (numbers_in_line u.element_ids, tt)))))))))
+    line_told (use_texts class u) (
+      decimal_in_line class,
+      (
+        literal (codes " node ") refl,
+        (
+          decimal_in_line u.id,
+          (
+            literal (codes " ") refl,
+            (
+              quoted_in_line (encode_utf8_all u.name),
+              (
+                literal (codes " span ") refl,
+                (
+                  span_in_line u.span,
+                  (literal (codes " elements") refl, (numbers_in_line u.element_ids, tt)),
+                ),
+              ),
+            ),
+          ),
+        ),
+      ),
+    )
 
 abbrev class_texts : ClassLists → ℕ × ℕ → List (List ℕ)
 class_texts lists class = decimal class.0 ∷ codes " node " ∷ decimal class.1 ∷ codes " parent " ∷ pieces.number_or_dash (parent_in lists.parents class.0) ∷ []
@@ -172,12 +209,12 @@ class_written : (lists : ClassLists) (class : ℕ × ℕ) (rest : List ℕ) → 
 class_written lists class rest =
     append_assoc (class_line class.0 class.1 (parent_in lists.parents class.0)) (numbered_text (element_line class.0) 0 (elements_in lists class.0) ++ flat_map (private_use_line class.0) (uses_in lists class.0)) rest
     ∙ ap (λ more. class_line class.0 class.1 (parent_in lists.parents class.0) ++ more)
-      (append_assoc (numbered_text (element_line class.0) 0 (elements_in lists class.0)) (flat_map (private_use_line class.0) (uses_in lists class.0)) rest
-       ∙ numbered_lines (codes "element ") (written line_form) (element_line class.0) (element_value class.0) (element_written class.0) 0 (elements_in lists class.0)
-         (flat_map (private_use_line class.0) (uses_in lists class.0) ++ rest) (written (each (codes "use ") line_form end) (map (use_value class.0) (uses_in lists class.0), tt) rest)
-         (each_line (codes "use ") (written line_form) (private_use_line class.0) (use_value class.0) (use_written class.0) (uses_in lists class.0) rest rest refl))
+    (append_assoc (numbered_text (element_line class.0) 0 (elements_in lists class.0)) (flat_map (private_use_line class.0) (uses_in lists class.0)) rest
+    ∙ numbered_lines (codes "element ") (written line_form) (element_line class.0) (element_value class.0) (element_written class.0) 0 (elements_in lists class.0)
+    (flat_map (private_use_line class.0) (uses_in lists class.0) ++ rest) (written (each (codes "use ") line_form end) (map (use_value class.0) (uses_in lists class.0), tt) rest)
+    (each_line (codes "use ") (written line_form) (private_use_line class.0) (use_value class.0) (use_written class.0) (uses_in lists class.0) rest rest refl))
     ∙ class_line_written lists class
-      (written (each (codes "element ") line_form (each (codes "use ") line_form end)) (numbered (element_value class.0) 0 (elements_in lists class.0), (map (use_value class.0) (uses_in lists class.0), tt)) rest)
+    (written (each (codes "element ") line_form (each (codes "use ") line_form end)) (numbered (element_value class.0) 0 (elements_in lists class.0), (map (use_value class.0) (uses_in lists class.0), tt)) rest)
 
 elements_told : (class i : ℕ) (es : List Element) → AllByRecursion (AreTold line_form) (numbered (element_value class) i es)
 elements_told class i [] = tt
@@ -188,12 +225,11 @@ each_told f value told [] = tt
 each_told f value told (x ∷ xs) = (told x, each_told f value told xs)
 
 class_told : (lists : ClassLists) (class : ℕ × ℕ) → AreTold class_form (class_value lists class)
-class_told lists class =
-    (
-      concat_in_line (class_texts lists class)
-        (decimal_in_line class.0, (literal (codes " node ") refl, (decimal_in_line class.1, (literal (codes " parent ") refl, (number_or_dash_in_line (parent_in lists.parents class.0), tt))))),
-      (elements_told class.0 0 (elements_in lists class.0), (each_told line_form (use_value class.0) (use_told class.0) (uses_in lists class.0), tt)),
-    )
+class_told lists class = (
+  concat_in_line (class_texts lists class)
+      (decimal_in_line class.0, (literal (codes " node ") refl, (decimal_in_line class.1, (literal (codes " parent ") refl, (number_or_dash_in_line (parent_in lists.parents class.0), tt))))),
+  (elements_told class.0 0 (elements_in lists class.0), (each_told line_form (use_value class.0) (use_told class.0) (uses_in lists class.0), tt)),
+)
 
 -- ---- labels and diagnostics
 
@@ -221,7 +257,7 @@ diagnostic_written d rest =
     let behind : List ℕ = codes " help " ++ (said_or_dash d.help ++ (codes " note " ++ (said_or_dash d.note ++ (codes "\n" ++ rest)))) in
     concat_onto (codes "diag " ∷ pieces.plain_or_dash (option_map encode_utf8_all d.code) ∷ codes " " ∷ pieces.quoted (encode_utf8_all d.message) ∷ flat_map label_text d.labels ∷ codes " help " ∷ said_or_dash d.help ∷ codes " note " ∷ said_or_dash d.note ∷ codes "\n" ∷ []) rest
     ∙ ap (λ more. codes "diag " ++ (pieces.plain_or_dash (option_map encode_utf8_all d.code) ++ (codes " " ++ (pieces.quoted (encode_utf8_all d.message) ++ more))))
-      (each_line (codes " at ") (written place_form) label_text place_value place_written d.labels behind behind refl)
+    (each_line (codes " at ") (written place_form) label_text place_value place_written d.labels behind behind refl)
 
 -- ---- all
 
@@ -260,7 +296,7 @@ counted_written : (o : Options) (found : Found) → counted_text o found ≡ wri
 counted_written o found =
     ap (λ text. text ++ diagnosed found) (asked_stats o.stats found.count found.tables)
     ∙ each_line (codes "stats") (written line_form) (λ n. stats_line n found.tables) (stats_value found.tables) (λ n rest. stats_written n found.tables rest) (if_asked o.stats (found.count ∷ []))
-      (diagnosed found) (diagnosed found) refl
+    (diagnosed found) (diagnosed found) refl
 
 -- the lines on diagnostics, as a form
 pub diagnosed_written : (found : Found) → diagnosed found ≡ written (each (codes "diag ") diagnostic_form end) (map diagnostic_value found.diagnostics, tt) []
@@ -272,18 +308,18 @@ tail_written o found =
     append_assoc (where_asked o.classes (all_class_lines found.classes)) (flat_map label_line found.labels) (counted_text o found)
     ∙ ap (λ text. text ++ (flat_map label_line found.labels ++ counted_text o found)) (asked_lines o.classes (class_lines found.classes) (enumerate_from 0 found.classes.nodes))
     ∙ each_line (codes "class ") (written class_form) (class_lines found.classes) (class_value found.classes) (class_written found.classes) (if_asked o.classes (enumerate_from 0 found.classes.nodes))
-      (flat_map label_line found.labels ++ counted_text o found)
-      (written (each (codes "label ") label_form (each (codes "stats") line_form end)) (map label_value found.labels, counted_value o found) (diagnosed found))
-      (each_line (codes "label ") (written label_form) label_line label_value label_written found.labels (counted_text o found)
-        (written (each (codes "stats") line_form end) (counted_value o found) (diagnosed found)) (counted_written o found))
+    (flat_map label_line found.labels ++ counted_text o found)
+    (written (each (codes "label ") label_form (each (codes "stats") line_form end)) (map label_value found.labels, counted_value o found) (diagnosed found))
+    (each_line (codes "label ") (written label_form) label_line label_value label_written found.labels (counted_text o found)
+    (written (each (codes "stats") line_form end) (counted_value o found) (diagnosed found)) (counted_written o found))
 
 pub report_written : (o : Options) (found : Found) → report_text o found ≡ written report_form (report_value o found) (diagnosed found)
 report_written o found =
     append_assoc (where_asked o.nodes (node_lines found.nodes)) (table_lines found.tables) (noted_text o found ++ counted_text o found)
     ∙ ap (λ text. text ++ (table_lines found.tables ++ (noted_text o found ++ counted_text o found))) (asked_lines o.nodes (node_line_by found.nodes.parents) (numbered_from 0 found.nodes.nodes))
     ∙ each_line (codes "node ") (written line_form) (node_line_by found.nodes.parents) (node_value found.nodes.parents) (node_written found.nodes.parents) (if_asked o.nodes (numbered_from 0 found.nodes.nodes))
-      (table_lines found.tables ++ (noted_text o found ++ counted_text o found)) (written (table_form tail_form) (table_value tail_form found.tables (tail_value o found)) (diagnosed found))
-      (ap (λ text. table_lines found.tables ++ text) (tail_written o found) ∙ tables_written tail_form (tail_value o found) found.tables (diagnosed found))
+    (table_lines found.tables ++ (noted_text o found ++ counted_text o found)) (written (table_form tail_form) (table_value tail_form found.tables (tail_value o found)) (diagnosed found))
+    (ap (λ text. table_lines found.tables ++ text) (tail_written o found) ∙ tables_written tail_form (tail_value o found) found.tables (diagnosed found))
 
 -- ---- what is told can be read back
 
@@ -294,18 +330,16 @@ pub diagnostic_told : (d : Diagnostic) → IsTellableDiagnostic d → AreTold di
 diagnostic_told d h = (h.code, (tt, (all_map IsTellableLabel (AreTold place_form) place_value place_told d.labels h.labels, (tt, (tt, tt)))))
 
 tail_told : (o : Options) (found : Found) → AreNumbers found.labels → AreTold tail_form (tail_value o found)
-tail_told o found h =
-    (
-      each_told class_form (class_value found.classes) (class_told found.classes) (if_asked o.classes (enumerate_from 0 found.classes.nodes)),
-      (
-        all_map IsNumber (AreTold label_form) label_value (λ n k. (k, tt)) found.labels h,
-        (each_told line_form (stats_value found.tables) (λ n. stats_told n found.tables) (if_asked o.stats (found.count ∷ [])), tt),
-      ),
-    )
+tail_told o found h = (
+  each_told class_form (class_value found.classes) (class_told found.classes) (if_asked o.classes (enumerate_from 0 found.classes.nodes)),
+  (
+    all_map IsNumber (AreTold label_form) label_value (λ n k. (k, tt)) found.labels h,
+    (each_told line_form (stats_value found.tables) (λ n. stats_told n found.tables) (if_asked o.stats (found.count ∷ [])), tt),
+  ),
+)
 
 pub report_told : (o : Options) (found : Found) → AreTellable found.tables → AreNumbers found.labels → AreTold report_form (report_value o found)
-report_told o found tables labels =
-    (
-      each_told line_form (node_value found.nodes.parents) (node_told found.nodes.parents) (if_asked o.nodes (numbered_from 0 found.nodes.nodes)),
-      tables_told found.tables tables tail_form (tail_value o found) (tail_told o found labels),
-    )
+report_told o found tables labels = (
+  each_told line_form (node_value found.nodes.parents) (node_told found.nodes.parents) (if_asked o.nodes (numbered_from 0 found.nodes.nodes)),
+  tables_told found.tables tables tail_form (tail_value o found) (tail_told o found labels),
+)

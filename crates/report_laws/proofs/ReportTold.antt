@@ -1,5 +1,5 @@
 -- The text of a report determines the tables, the unused labels and the diagnostics.
-use Rattle.std.proofs.Common.{◌≡◌, ℕ, List, [], ◌∷◌, ◌++◌, inl, inr, map, flat_map, codes, append_assoc, refl, sym, ap, ◌∙◌}
+use Rattle.std.proofs.Common.{◌≡◌, ℕ, List, [], ◌∷◌, inl, inr, map, flat_map, codes, refl, sym, ap, ◌∙◌}
 use Rattle.std.specs.List.{AllByRecursion}
 use Rattle.semantic_diagnostics.specs.declared.diagnostic.Label.{Label}
 use Rattle.semantic_diagnostics.specs.declared.diagnostic.Diagnostic.{Diagnostic}
@@ -8,9 +8,8 @@ use Rattle.report_answers.specs.Found.{Found}
 use Rattle.report_answers.specs.Report.{report_text}
 use Rattle.report_answers.specs.declared.options.Options.{Options}
 use Rattle.table_bounds.specs.Tellable.{AreNumbers, AreTellable, IsTellableDiagnostic}
-use Rattle.report_laws.specs.Found.{FoundTheSame}
 use Rattle.report_laws.proofs.Closed.{BothSame}
-use Rattle.report_laws.proofs.Forms.{Form, end, each, Values, written, AreTold, BeginsAmong}
+use Rattle.report_laws.proofs.Forms.{end, each, Values, written, AreTold, BeginsAmong}
 use Rattle.report_laws.proofs.Determined.{determined, told_same}
 use Rattle.report_laws.proofs.Lists.{map_back, all_map}
 use Rattle.report_laws.proofs.TablesTold.{tables_back}
@@ -51,7 +50,7 @@ pub report_tells : (o p : Options) (a b : Found) → AreTellable a.tables → Ar
 report_tells o p a b ta tb la lb e =
     let texts : written report_form (report_value o a) (diagnosed a) ≡ written report_form (report_value p b) (diagnosed b) = sym (report_written o a) ∙ e ∙ report_written p b in
     let both : BothSame (report_value o a) (report_value p b) (diagnosed a) (diagnosed b) =
-        determined report_form (codes "diag " ∷ []) refl (report_value o a) (report_value p b) (report_told o a ta la) (report_told p b tb lb) (diagnosed a) (diagnosed b) (diagnosed_begins a) (diagnosed_begins b) texts in
+    determined report_form (codes "diag " ∷ []) refl (report_value o a) (report_value p b) (report_told o a ta la) (report_told p b tb lb) (diagnosed a) (diagnosed b) (diagnosed_begins a) (diagnosed_begins b) texts in
     let parts : (a.tables ≡ b.tables) × (tail_value o a ≡ tail_value p b) = tables_back tail_form a.tables b.tables (tail_value o a) (tail_value p b) ta tb (ap (λ v. v.1) both.0) in
     let labels : map label_value a.labels ≡ map label_value b.labels = ap (λ v. v.1.0) parts.1 in
     record {
@@ -64,6 +63,6 @@ pub diagnostics_told : (a b : Found) → AllByRecursion IsTellableDiagnostic a.d
 diagnostics_told a b ha hb e =
     let texts : written (each (codes "diag ") diagnostic_form end) (map diagnostic_value a.diagnostics, tt) [] ≡ written (each (codes "diag ") diagnostic_form end) (map diagnostic_value b.diagnostics, tt) [] = sym (diagnosed_written a) ∙ e ∙ diagnosed_written b in
     let values : ◌≡◌ {A = Values (each (codes "diag ") diagnostic_form end)} (map diagnostic_value a.diagnostics, tt) (map diagnostic_value b.diagnostics, tt) =
-        told_same (each (codes "diag ") diagnostic_form end) refl (map diagnostic_value a.diagnostics, tt) (map diagnostic_value b.diagnostics, tt)
-        (all_map IsTellableDiagnostic (AreTold diagnostic_form) diagnostic_value diagnostic_told a.diagnostics ha, tt) (all_map IsTellableDiagnostic (AreTold diagnostic_form) diagnostic_value diagnostic_told b.diagnostics hb, tt) texts in
+    told_same (each (codes "diag ") diagnostic_form end) refl (map diagnostic_value a.diagnostics, tt) (map diagnostic_value b.diagnostics, tt)
+    (all_map IsTellableDiagnostic (AreTold diagnostic_form) diagnostic_value diagnostic_told a.diagnostics ha, tt) (all_map IsTellableDiagnostic (AreTold diagnostic_form) diagnostic_value diagnostic_told b.diagnostics hb, tt) texts in
     sym (diagnostics_back a.diagnostics) ∙ ap (map diagnostic_back) (ap (λ v. v.0) values) ∙ diagnostics_back b.diagnostics

@@ -1,18 +1,17 @@
 -- The lines on scopes, symbols and references, as a form.
-use Rattle.std.proofs.Common.{◌≡◌, ℕ, ◌+◌, ◌<◌, ◌≤◌, ◌^◌, List, [], ◌∷◌, ◌++◌, Option, Some, None, length, get_or, map, flat_map, codes, decimal, encode_utf8_all, append_assoc, append-nil, refl, sym, ap, ◌∙◌, arith}
+use Rattle.std.proofs.Common.{◌≡◌, ℕ, List, [], ◌∷◌, ◌++◌, map, flat_map, codes, decimal, encode_utf8_all, append_assoc, refl, ap, ◌∙◌}
 use Rattle.std.specs.Option.{unwrap_or}
-use Rattle.std.specs.List.{AllByRecursion}
 use Rattle.semantic_syntax.specs.declared.spans.Span.{Span}
 use Rattle.semantic_syntax.specs.declared.symbol_flags.SymbolFlags.{SymbolFlags}
 use Rattle.semantic_syntax.specs.declared.references.Reference.{Reference}
 use Rattle.semantic_syntax.specs.declared.references.Redeclaration.{Redeclaration}
 use Rattle.semantic_syntax.specs.FlagNames.{scope_flag_names, symbol_flag_names, reference_flag_names}
-use Rattle.semantic_syntax.specs.Tables.{Name, Scope, Symbol, FreeLists, Tables}
+use Rattle.semantic_syntax.specs.Tables.{Name, Scope, Symbol, Tables}
 use Rattle.semantic_syntax.specs.Reading.{bindings_of, uses_of}
 use Rattle.report_lines.specs.Pieces as pieces
 use Rattle.report_lines.specs.TableLines.{scope_line, bind_line, bind_text, scope_lines, declaration_text, symbol_text, symbol_line, redeclaration_line, uses_line, declaration_lines, symbol_lines, pure_line, reference_name, use_text, reference_text, reference_line, free_text, free_line, all_symbol_lines, all_reference_lines, table_lines}
 use Rattle.report_ends.specs.Streams.{numbered_text}
-use Rattle.report_laws.proofs.Lists.{onto, concat_onto, numbered, each_line, numbered_lines}
+use Rattle.report_laws.proofs.Lists.{concat_onto, numbered, each_line, numbered_lines}
 use Rattle.report_laws.proofs.Forms.{number, number_or_dash, name, flags, Form, end, word, piece, each, Values, written}
 
 -- ---- forms
@@ -108,7 +107,7 @@ scope_written t i s rest =
     append_assoc (scope_line i s) (flat_map (bind_line i) (bindings_of t i)) rest
     ∙ ap (λ more. scope_line i s ++ more) (each_line (codes "bind ") (written bind_form) (bind_line i) (bind_value i) (bind_written i) (bindings_of t i) rest rest refl)
     ∙ concat_onto (codes "scope " ∷ decimal i ∷ codes " parent " ∷ pieces.number_or_dash s.parent ∷ codes " node " ∷ decimal s.node ∷ codes " flags " ∷ pieces.scope_flags s.flags ∷ codes "\n" ∷ [])
-      (written (each (codes "bind ") bind_form end) (map (bind_value i) (bindings_of t i), tt) rest)
+    (written (each (codes "bind ") bind_form end) (map (bind_value i) (bindings_of t i), tt) rest)
 
 declaration_written : (node : ℕ) (span : Span) (set : SymbolFlags) (rest : List ℕ)
     → declaration_text node span set ++ rest ≡ codes " node " ++ (decimal node ++ (codes " span " ++ (decimal span.start ++ (codes "-" ++ (decimal span.end ++ (codes " flags " ++ (pieces.symbol_flags set ++ (codes "\n" ++ rest))))))))
@@ -142,8 +141,8 @@ symbol_written t i y rest =
     append_assoc (declaration_lines i y) (uses_line i (uses_of t i)) rest
     ∙ append_assoc (symbol_line i y) (flat_map (redeclaration_line i) entries) (uses_line i (uses_of t i) ++ rest)
     ∙ ap (λ more. symbol_line i y ++ more)
-      (each_line (codes "redecl ") (written entry_form) (redeclaration_line i) (entry_value i) (entry_written i) entries (uses_line i (uses_of t i) ++ rest)
-        (codes "uses " ++ (decimal i ++ written (numbers_form end) (map number_value (uses_of t i), tt) rest)) (uses_written i (uses_of t i) rest))
+    (each_line (codes "redecl ") (written entry_form) (redeclaration_line i) (entry_value i) (entry_written i) entries (uses_line i (uses_of t i) ++ rest)
+    (codes "uses " ++ (decimal i ++ written (numbers_form end) (map number_value (uses_of t i), tt) rest)) (uses_written i (uses_of t i) rest))
     ∙ symbol_line_written i y (written (each (codes "redecl ") entry_form (word (codes "uses ") (piece number (numbers_form end)))) (map (entry_value i) entries, (i, (map number_value (uses_of t i), tt))) rest)
 
 pure_written : (symbol : ℕ) (rest : List ℕ) → pure_line symbol ++ rest ≡ codes "pure " ++ written pure_form (pure_value symbol) rest
@@ -175,8 +174,8 @@ references_written : (f : Form) (v : Values f) (t : Tables) (rest : List ℕ)
 references_written f v t rest =
     append_assoc (numbered_text (reference_line t) 0 t.references) (flat_map free_line t.free) (written f v rest)
     ∙ numbered_lines (codes "ref ") (written reference_form) (reference_line t) (reference_value t) (reference_written t) 0 t.references
-      (flat_map free_line t.free ++ written f v rest) (written (each (codes "free ") free_form f) (map free_value t.free, v) rest)
-      (each_line (codes "free ") (written free_form) free_line free_value free_written t.free (written f v rest) (written f v rest) refl)
+    (flat_map free_line t.free ++ written f v rest) (written (each (codes "free ") free_form f) (map free_value t.free, v) rest)
+    (each_line (codes "free ") (written free_form) free_line free_value free_written t.free (written f v rest) (written f v rest) refl)
 
 pub tables_written : (f : Form) (v : Values f) (t : Tables) (rest : List ℕ) → table_lines t ++ written f v rest ≡ written (table_form f) (table_value f t v) rest
 tables_written f v t rest =
@@ -184,10 +183,10 @@ tables_written f v t rest =
     let told : Values tail = (numbered (reference_value t) 0 t.references, (map free_value t.free, v)) in
     append_assoc (numbered_text (scope_lines t) 0 t.scopes) (all_symbol_lines t ++ all_reference_lines t) (written f v rest)
     ∙ numbered_lines (codes "scope ") (written scope_form) (scope_lines t) (scope_value t) (scope_written t) 0 t.scopes
-      ((all_symbol_lines t ++ all_reference_lines t) ++ written f v rest)
-      (written (each (codes "symbol ") symbol_form (each (codes "pure ") pure_form tail)) (numbered (symbol_value t) 0 t.symbols, (map pure_value t.pure_symbols, told)) rest)
-      (append_assoc (all_symbol_lines t) (all_reference_lines t) (written f v rest)
-       ∙ append_assoc (numbered_text (symbol_lines t) 0 t.symbols) (flat_map pure_line t.pure_symbols) (all_reference_lines t ++ written f v rest)
-       ∙ numbered_lines (codes "symbol ") (written symbol_form) (symbol_lines t) (symbol_value t) (symbol_written t) 0 t.symbols
-         (flat_map pure_line t.pure_symbols ++ (all_reference_lines t ++ written f v rest)) (written (each (codes "pure ") pure_form tail) (map pure_value t.pure_symbols, told) rest)
-         (each_line (codes "pure ") (written pure_form) pure_line pure_value pure_written t.pure_symbols (all_reference_lines t ++ written f v rest) (written tail told rest) (references_written f v t rest)))
+    ((all_symbol_lines t ++ all_reference_lines t) ++ written f v rest)
+    (written (each (codes "symbol ") symbol_form (each (codes "pure ") pure_form tail)) (numbered (symbol_value t) 0 t.symbols, (map pure_value t.pure_symbols, told)) rest)
+    (append_assoc (all_symbol_lines t) (all_reference_lines t) (written f v rest)
+    ∙ append_assoc (numbered_text (symbol_lines t) 0 t.symbols) (flat_map pure_line t.pure_symbols) (all_reference_lines t ++ written f v rest)
+    ∙ numbered_lines (codes "symbol ") (written symbol_form) (symbol_lines t) (symbol_value t) (symbol_written t) 0 t.symbols
+    (flat_map pure_line t.pure_symbols ++ (all_reference_lines t ++ written f v rest)) (written (each (codes "pure ") pure_form tail) (map pure_value t.pure_symbols, told) rest)
+    (each_line (codes "pure ") (written pure_form) pure_line pure_value pure_written t.pure_symbols (all_reference_lines t ++ written f v rest) (written tail told rest) (references_written f v t rest)))

@@ -1,5 +1,5 @@
 -- The lines on tables determine them.
-use Rattle.std.proofs.Common.{◌≡◌, ℕ, ◌+◌, ◌<◌, ◌≤◌, ◌^◌, List, [], ◌∷◌, ◌++◌, Option, Some, None, length, get_or, map, codes, refl, sym, ap, ◌∙◌, arith}
+use Rattle.std.proofs.Common.{◌≡◌, ℕ, ◌^◌, List, [], ◌∷◌, ◌++◌, Option, Some, None, map, refl, sym, ap, ◌∙◌, arith}
 use Rattle.std.specs.Option.{unwrap_or}
 use Rattle.std.specs.List.{AllByRecursion}
 use Rattle.semantic_syntax.specs.declared.references.Reference.{Reference}
@@ -7,12 +7,12 @@ use Rattle.semantic_syntax.specs.declared.references.Redeclaration.{Redeclaratio
 use Rattle.semantic_syntax.specs.Tables.{Name, Scope, Symbol, Bindings, FreeLists, Tables}
 use Rattle.semantic_syntax.specs.Reading.{bindings_of, uses_of}
 use Rattle.table_bounds.specs.Tellable.{IsNumber, AreNumbers, AreTellableEntries, IsTellableScope, IsTellableEntry, IsTellableSymbol, IsTellableReference, AreTellable}
-use Rattle.report_laws.proofs.Closed.{BothSame}
-use Rattle.report_laws.proofs.Forms.{number, Form, end, piece, each, Values, written, AreTold}
-use Rattle.report_laws.proofs.Lists.{numbered, map_back, numbered_back, beside_back, all_map, all_numbered, all_at}
+use Rattle.report_laws.proofs.Forms.{number, Form, end, piece, Values, written, AreTold}
+use Rattle.semantic_syntax.proofs.Every.{every-or}
+use Rattle.report_laws.proofs.Lists.{numbered, map_back, numbered_back, beside_back, all_map, all_numbered}
 use Rattle.report_lines.specs.TableLines.{table_lines}
 use Rattle.report_laws.proofs.Determined.{told_same}
-use Rattle.report_laws.proofs.TableForms.{numbers_form, scope_form, bind_form, entry_form, symbol_form, pure_form, reference_form, free_form, table_form, number_value, bind_value, scope_value, entry_value, symbol_value, pure_value, reference_value, free_value, table_value, tables_written}
+use Rattle.report_laws.proofs.TableForms.{scope_form, bind_form, entry_form, symbol_form, pure_form, reference_form, free_form, table_form, number_value, bind_value, scope_value, entry_value, symbol_value, pure_value, reference_value, free_value, table_value, tables_written}
 
 -- ---- back
 
@@ -116,16 +116,15 @@ tables_back f t u v w ht hu e =
     let symbols : numbered (symbol_value t) 0 t.symbols ≡ numbered (symbol_value u) 0 u.symbols = ap (λ x. x.1.0) e in
     let pures : map pure_value t.pure_symbols ≡ map pure_value u.pure_symbols = ap (λ x. x.1.1.0) e in
     let references : numbered (reference_value t) 0 t.references ≡ numbered (reference_value u) 0 u.references = ap (λ x. x.1.1.1.0) e in
-    let free : map free_value t.free ≡ map free_value u.free = ap (λ x. x.1.1.1.1.0) e in
-    (
+    let free : map free_value t.free ≡ map free_value u.free = ap (λ x. x.1.1.1.1.0) e in (
       same_tables t u
-        (sym (scopes_are t ht) ∙ ap (map scope_back) scopes ∙ scopes_are u hu)
-        (sym (bindings_are t ht) ∙ ap (map binds_back) scopes ∙ bindings_are u hu)
-        (sym (symbols_are t ht) ∙ ap (map symbol_back) symbols ∙ symbols_are u hu)
-        (sym (references_are t ht) ∙ ap (map reference_back) references ∙ references_are u hu)
-        (sym (uses_are t ht) ∙ ap (map uses_back) symbols ∙ uses_are u hu)
-        (sym (free_are t ht) ∙ ap (map free_back) free ∙ free_are u hu)
-        (sym (pure_are t ht) ∙ ap (map (λ (v : Values pure_form). v.0)) pures ∙ pure_are u hu),
+          (sym (scopes_are t ht) ∙ ap (map scope_back) scopes ∙ scopes_are u hu)
+          (sym (bindings_are t ht) ∙ ap (map binds_back) scopes ∙ bindings_are u hu)
+          (sym (symbols_are t ht) ∙ ap (map symbol_back) symbols ∙ symbols_are u hu)
+          (sym (references_are t ht) ∙ ap (map reference_back) references ∙ references_are u hu)
+          (sym (uses_are t ht) ∙ ap (map uses_back) symbols ∙ uses_are u hu)
+          (sym (free_are t ht) ∙ ap (map free_back) free ∙ free_are u hu)
+          (sym (pure_are t ht) ∙ ap (map (λ (v : Values pure_form). v.0)) pures ∙ pure_are u hu),
       ap (λ x. x.1.1.1.1.1) e,
     )
 
@@ -138,7 +137,7 @@ module _ (t : Tables) (h : AreTellable t) where
   binds_told : (i : ℕ) → IsNumber i → AllByRecursion (AreTold bind_form) (map (bind_value i) (bindings_of t i))
   binds_told i small =
       all_map (λ (b : Name × ℕ). IsNumber b.1) (AreTold bind_form) (bind_value i) (λ b k. (small, (tt, (k, tt)))) (bindings_of t i)
-      (all_at (AllByRecursion (λ (b : Name × ℕ). IsNumber b.1)) [] tt t.bindings h.bindings i)
+      (every-or (AllByRecursion (λ (b : Name × ℕ). IsNumber b.1)) [] t.bindings i h.bindings tt)
 
   scope_told : (i : ℕ) (s : Scope) → IsNumber i → IsTellableScope s → AreTold scope_form (scope_value t i s)
   scope_told i s small k = (small, (k.parent, (k.node, (k.flags, (binds_told i small, tt)))))
@@ -151,30 +150,29 @@ module _ (t : Tables) (h : AreTellable t) where
 
   symbol_told : (i : ℕ) (y : Symbol) → IsNumber i → IsTellableSymbol y → AreTold symbol_form (symbol_value t i y)
   symbol_told i y small k =
-      (small, (tt, (k.scope, (k.node, (k.start, (k.end, (k.flags, (entries_told i small y.redeclarations k.redeclarations, (small, (numbers_told (uses_of t i) (all_at AreNumbers [] tt t.uses h.uses i), tt))))))))))
+      (small, (tt, (k.scope, (k.node, (k.start, (k.end, (k.flags, (entries_told i small y.redeclarations k.redeclarations, (small, (numbers_told (uses_of t i) (every-or AreNumbers [] t.uses i h.uses tt), tt))))))))))
 
   reference_told : (i : ℕ) (r : Reference) → IsNumber i → IsTellableReference r → AreTold reference_form (reference_value t i r)
   reference_told i r small k = (small, (tt, (k.node, (k.scope, (k.flags, (k.symbol, tt))))))
 
   pub tables_told : (f : Form) (v : Values f) → AreTold f v → AreTold (table_form f) (table_value f t v)
-  tables_told f v told =
+  tables_told f v told = (
+    all_numbered IsTellableScope (AreTold scope_form) (scope_value t) (2 ^ 64) scope_told 0 t.scopes (omega (arith, h.scopes_numbered)) h.scopes,
+    (
+      all_numbered IsTellableSymbol (AreTold symbol_form) (symbol_value t) (2 ^ 64) symbol_told 0 t.symbols (omega (arith, h.symbols_numbered)) h.symbols,
       (
-        all_numbered IsTellableScope (AreTold scope_form) (scope_value t) (2 ^ 64) scope_told 0 t.scopes (omega (arith, h.scopes_numbered)) h.scopes,
+        all_map IsNumber (AreTold pure_form) pure_value (λ n k. (k, tt)) t.pure_symbols h.pure_symbols,
         (
-          all_numbered IsTellableSymbol (AreTold symbol_form) (symbol_value t) (2 ^ 64) symbol_told 0 t.symbols (omega (arith, h.symbols_numbered)) h.symbols,
-          (
-            all_map IsNumber (AreTold pure_form) pure_value (λ n k. (k, tt)) t.pure_symbols h.pure_symbols,
-            (
-              all_numbered IsTellableReference (AreTold reference_form) (reference_value t) (2 ^ 64) reference_told 0 t.references (omega (arith, h.references_numbered)) h.references,
-              (all_map (λ (entry : Name × List ℕ). AreNumbers entry.1) (AreTold free_form) free_value (λ entry k. (tt, (numbers_told entry.1 k, tt))) t.free h.free, told),
-            ),
-          ),
+          all_numbered IsTellableReference (AreTold reference_form) (reference_value t) (2 ^ 64) reference_told 0 t.references (omega (arith, h.references_numbered)) h.references,
+          (all_map (λ (entry : Name × List ℕ). AreNumbers entry.1) (AreTold free_form) free_value (λ entry k. (tt, (numbers_told entry.1 k, tt))) t.free h.free, told),
         ),
-      )
+      ),
+    ),
+  )
 
 -- the lines alone
 pub lines_tell_tables : (t u : Tables) → AreTellable t → AreTellable u → table_lines t ≡ table_lines u → t ≡ u
 lines_tell_tables t u ht hu e =
     let written_same : written (table_form end) (table_value end t tt) [] ≡ written (table_form end) (table_value end u tt) [] =
-        sym (tables_written end tt t []) ∙ ap (λ text. text ++ []) e ∙ tables_written end tt u [] in
+    sym (tables_written end tt t []) ∙ ap (λ text. text ++ []) e ∙ tables_written end tt u [] in
     (tables_back end t u tt tt ht hu (told_same (table_form end) refl (table_value end t tt) (table_value end u tt) (tables_told t ht end tt tt) (tables_told u hu end tt tt) written_same)).0

@@ -15,11 +15,6 @@ pub record IsFoundIn (p : Tree) (checks : Bool) (found : Found) : Type 0 where
   pub labels : found.labels ≡ unused_labels p.root
   pub diagnostics : found.diagnostics ≡ diagnostics_of checks p
 
--- two analyses found the same tables and unused labels
-pub record HaveSameTables (a b : Found) : Type 0 where
-  pub tables : a.tables ≡ b.tables
-  pub labels : a.labels ≡ b.labels
-
 -- two analyses found the same tables, unused labels and diagnostics
 pub record FoundTheSame (a b : Found) : Type 0 where
   pub tables : a.tables ≡ b.tables

@@ -1,23 +1,23 @@
 //! Laws over reports.
-ghost use Rattle.std.specs.Prelude.{◌≡◌, Bool, false};
-ghost use Rattle.std.specs.List.{AllByRecursion};
+ghost use Rattle.std.specs.Prelude.{◌≡◌, Bool};
+ghost use Rattle.semantic_syntax.specs.Tables.{Tables};
 ghost use Rattle.semantic_tree.specs.Tree.{Tree};
-ghost use Rattle.table_bounds.specs.Tellable.{IsTellableDiagnostic};
+ghost use Rattle.table_bounds.specs.Tellable.{AreTellable};
+ghost use Rattle.report_lines.specs.TableLines.{table_lines};
 ghost use Rattle.report_answers.specs.Found.{Found};
 ghost use Rattle.report_answers.specs.Report.{report_text};
 ghost use Rattle.report_answers.specs.declared.options.Options.{Options};
-ghost use Rattle.report_laws.specs.Found.{IsFoundIn, HaveSameTables, FoundTheSame};
+ghost use Rattle.report_laws.specs.Found.{IsFoundIn, FoundTheSame};
 
-/// The report loses nothing of the tables and the unused labels: two programs of which it has one text, whatever is asked
-/// for besides, have the same.
-pub fn reports_tell_tables()
-    ensures { (o q : Options) (p r : Tree) (checks others : Bool) (a b : Found) → IsFoundIn p checks a → IsFoundIn r others b → report_text o a ≡ report_text q b → HaveSameTables a b }
+/// Tables of which a report has the same lines are the same, if their numbers have no more than 64 bits, all their flags
+/// have names and their lists fit, as those of a program's tables do.
+pub fn lines_tell_tables()
+    ensures { (t u : Tables) → AreTellable t → AreTellable u → table_lines t ≡ table_lines u → t ≡ u }
 {}
 
-/// Nor does it lose anything of the diagnostics, where early errors aren't asked for; and where they are, if each code is
-/// a word and each span is of numbers of 64 bits.
-pub fn reports_tell_diagnostics()
-    ensures unchecked { (o q : Options) (p r : Tree) (a b : Found) → IsFoundIn p false a → IsFoundIn r false b → report_text o a ≡ report_text q b → FoundTheSame a b }
-    ensures checked { (o q : Options) (p r : Tree) (checks others : Bool) (a b : Found) → IsFoundIn p checks a → IsFoundIn r others b
-        → AllByRecursion IsTellableDiagnostic a.diagnostics → AllByRecursion IsTellableDiagnostic b.diagnostics → report_text o a ≡ report_text q b → FoundTheSame a b }
+/// The report loses nothing: two programs of which it has one text, whatever is asked for besides, have the same tables,
+/// unused labels and diagnostics.
+pub fn reports_lose_nothing()
+    ensures { (o q : Options) (p r : Tree) (checks others : Bool) (a b : Found) → IsFoundIn p checks a → IsFoundIn r others b
+        → report_text o a ≡ report_text q b → FoundTheSame a b }
 {}

@@ -1,5 +1,5 @@
 -- The scopes that are open at the steps of a program have small numbers and flags that have names.
-use Rattle.std.proofs.Common.{◌≡◌, ℕ, suc, ◌+◌, ◌<◌, ◌≤◌, ◌^◌, ◌||◌, bytes_eq, codes, Bool, true, false, cond, List, [], ◌∷◌, ◌++◌, Option, Some, None, refl, lit<, arith}
+use Rattle.std.proofs.Common.{◌≡◌, ℕ, suc, ◌+◌, ◌<◌, ◌≤◌, ◌^◌, ◌||◌, bytes_eq, codes, Bool, true, false, cond, List, [], ◌∷◌, ◌++◌, Option, Some, None, refl, lit<, arith, IfSome}
 use Rattle.std.specs.List.{AllByRecursion}
 use lib.Bits.{or_lt}
 use Rattle.semantic_kinds.specs.Roles.{same_role}
@@ -24,7 +24,7 @@ use Rattle.semantic_model.specs.Step.{Step, entering, opening, header_ending, cl
 use Rattle.semantic_model.proofs.steps.EachStep.{EachStep, each-append, each_of_node}
 use Rattle.semantic_model.proofs.steps.Opened.{left_to_open, inside_opens}
 use Rattle.semantic_model.proofs.steps.TurnCases.{ending_case}
-use Rattle.table_bounds.specs.Tellable.{IsNumber, IsNumberIfThere, HaveNames}
+use Rattle.table_bounds.specs.Tellable.{IsNumber, HaveNames}
 use Rattle.table_bounds.proofs.Cursors.{IsWay, before_way, behind_way, entering_way, leaving_way, after_way}
 
 -- ---- flags
@@ -80,25 +80,21 @@ kind_named _ p = lit< tt
 
 pub record IsBoundedScope (s : OpenScope) : Type 0 where
   pub number : IsNumber s.number
-  pub body : IsNumberIfThere s.body
+  pub body : IfSome s.body IsNumber
   pub flags : AreScopeFlags s.flags
 
 abbrev pub IsBoundedChain : List OpenScope → Type 0
 IsBoundedChain = AllByRecursion IsBoundedScope
 
-abbrev IsBoundedIfThere : Option OpenScope → Type 0
-IsBoundedIfThere None = Unit {0}
-IsBoundedIfThere (Some s) = IsBoundedScope s
-
 abbrev limit : ℕ
 limit = 4294967296
 
-body_within : (n : ℕ) (f : Forest) → n + scopes_in f < 2 ^ 64 → IsNumberIfThere (body_number n f)
+body_within : (n : ℕ) (f : Forest) → n + scopes_in f < 2 ^ 64 → IfSome (body_number n f) IsNumber
 body_within n nothing h = tt
 body_within n (tree r k span text marks below id after) h =
     by (same_role r role.Body) (body_within (n + cond (opens k) 1 0 + scopes_in below) after (omega (arith, h)))
   where
-    by : (b : Bool) → IsNumberIfThere (body_number (n + cond (opens k) 1 0 + scopes_in below) after) → IsNumberIfThere (cond b (Some n) (body_number (n + cond (opens k) 1 0 + scopes_in below) after))
+    by : (b : Bool) → IfSome (body_number (n + cond (opens k) 1 0 + scopes_in below) after) IsNumber → IfSome (cond b (Some n) (body_number (n + cond (opens k) 1 0 + scopes_in below) after)) IsNumber
     by true later = omega (arith, h)
     by false later = later
 
@@ -109,7 +105,7 @@ opened_bounded p n small few = record {
   flags = both (flags_of_kind p.node.kind p) (strict_if (is_strict p.chain)) (kind_named p.node.kind p) (strict_named (is_strict p.chain));
 }
   where
-    by : (b : Bool) → IsNumberIfThere (cond b (body_number (suc n) p.node.children) None)
+    by : (b : Bool) → IfSome (cond b (body_number (suc n) p.node.children) None) IsNumber
     by true = body_within (suc n) p.node.children (omega (arith, small, few))
     by false = tt
 
@@ -132,7 +128,7 @@ IsBoundedStep (header_ending p s) = Unit {0}
 IsBoundedStep (closing p s) = Unit {0}
 IsBoundedStep (leaving p) = Unit {0}
 
-within_bounded : (p : Place) (r : Role) (own : Option OpenScope) → IsBoundedChain p.chain → IsBoundedIfThere own → IsBoundedChain (chain_within p r own)
+within_bounded : (p : Place) (r : Role) (own : Option OpenScope) → IsBoundedChain p.chain → IfSome own IsBoundedScope → IsBoundedChain (chain_within p r own)
 within_bounded p r None h k = h
 within_bounded p r (Some s) h k = by (is_inside p.node.kind r)
   where
@@ -140,7 +136,7 @@ within_bounded p r (Some s) h k = by (is_inside p.node.kind r)
     by true = (record { number = k.number; body = k.body; flags = k.flags }, h)
     by false = h
 
-child_bounded : (p : Place) (own : Option OpenScope) (cursor : ℕ) (r : Role) (node : Node) → IsBoundedPlace p → IsBoundedIfThere own → IsWay cursor → scopes_in node.children < limit → IsBoundedPlace (child_place p own cursor r node)
+child_bounded : (p : Place) (own : Option OpenScope) (cursor : ℕ) (r : Role) (node : Node) → IsBoundedPlace p → IfSome own IsBoundedScope → IsWay cursor → scopes_in node.children < limit → IsBoundedPlace (child_place p own cursor r node)
 child_bounded p own cursor r node h k way few = record {
   chain = by (is_parameter_decorator p.node.kind r);
   cursor = before_way p.node (ambient_inside p.node p.is_ambient) r node cursor way;
@@ -169,11 +165,11 @@ last_bounded p None n h few = by (opens p.node.kind)
     by true = ((h, opened_bounded p n (omega (arith, few)) h.below, refl), (tt, tt))
     by false = tt
 
-scope_bounded : (p : Place) (r : Role) (own : Option OpenScope) (n : ℕ) → IsBoundedPlace p → IsBoundedIfThere own → n + left_to_open own p < limit → IsBoundedIfThere (scope_at p r own n)
+scope_bounded : (p : Place) (r : Role) (own : Option OpenScope) (n : ℕ) → IsBoundedPlace p → IfSome own IsBoundedScope → n + left_to_open own p < limit → IfSome (scope_at p r own n) IsBoundedScope
 scope_bounded p r (Some s) n h k few = k
 scope_bounded p r None n h k few = by (is_inside p.node.kind r)
   where
-    by : (b : Bool) → IsBoundedIfThere (cond b (Some (opened_scope p n)) None)
+    by : (b : Bool) → IfSome (cond b (Some (opened_scope p n)) None) IsBoundedScope
     by true = opened_bounded p n (omega (arith, few)) h.below
     by false = tt
 
@@ -186,7 +182,7 @@ next_left p r None n = by (is_inside p.node.kind r) refl
     by true e = let is_opened : opens p.node.kind ≡ true = inside_opens p.node.kind r e in rw is_opened (omega arith)
     by false e = omega arith
 
-steps_bounded : (f : Forest) (p : Place) (own : Option OpenScope) (n cursor : ℕ) → IsBoundedPlace p → IsBoundedIfThere own → IsWay cursor → n + left_to_open own p + scopes_in f < limit → EachStep IsBoundedStep (steps_below p own n cursor f)
+steps_bounded : (f : Forest) (p : Place) (own : Option OpenScope) (n cursor : ℕ) → IsBoundedPlace p → IfSome own IsBoundedScope → IsWay cursor → n + left_to_open own p + scopes_in f < limit → EachStep IsBoundedStep (steps_below p own n cursor f)
 steps_bounded nothing p own n cursor h k way few = last_bounded p own n h (omega (arith, few))
 steps_bounded (tree r kind span text marks below id after) p own n cursor h k way few =
     let node : Node = record { kind = kind; span = span; text = text; marks = marks; children = below; node_id = id } in
@@ -195,25 +191,25 @@ steps_bounded (tree r kind span text marks below id after) p own n cursor h k wa
     let child : Place = child_place p scope cursor r node in
     let fits : next + left_to_open scope p ≤ n + left_to_open own p = next_left p r own n in
     let here : n + left_to_open own p < limit = omega (arith, few) in
-    let scope_fits : IsBoundedIfThere scope = scope_bounded p r own n h k here in
+    let scope_fits : IfSome scope IsBoundedScope = scope_bounded p r own n h k here in
     let child_fits : IsBoundedPlace child = child_bounded p scope cursor r node h scope_fits way (omega (arith, few)) in
     let entered : ℕ = on_entering kind child.cursor in
     let entered_way : IsWay entered = entering_way kind child.cursor child_fits.cursor in
     let past : ℕ = cursor_past p r cursor child in
     let past_way : IsWay past =
-        behind_way p.node.kind r cursor (on_leaving kind (cursor_after node child.is_ambient entered below)) way
-        (leaving_way kind (cursor_after node child.is_ambient entered below) (after_way node child.is_ambient entered below entered_way)) in
+    behind_way p.node.kind r cursor (on_leaving kind (cursor_after node child.is_ambient entered below)) way
+    (leaving_way kind (cursor_after node child.is_ambient entered below) (after_way node child.is_ambient entered below entered_way)) in
     let before : EachStep IsBoundedStep (opening_at p r own n) = opening_bounded p r own n h here in
     let inner : EachStep IsBoundedStep (steps_below child None next entered below) = steps_bounded below child None next entered child_fits tt entered_way (omega (arith, few, fits)) in
     let whole : EachStep IsBoundedStep (entering child ∷ (steps_below child None next entered below ++ leaving child ∷ [])) = each_of_node IsBoundedStep child (steps_below child None next entered below) child_fits inner tt in
     let behind : EachStep IsBoundedStep (ending_after p r scope after) = ending_case (EachStep IsBoundedStep) p r scope after tt (λ s. (tt, tt)) (λ s. (tt, tt)) (λ s. (tt, (tt, tt))) in
     let others : EachStep IsBoundedStep (steps_below p scope (next + cond (opens kind) 1 0 + scopes_in below) past after) =
-        steps_bounded after p scope (next + cond (opens kind) 1 0 + scopes_in below) past h scope_fits past_way (omega (arith, few, fits)) in
+    steps_bounded after p scope (next + cond (opens kind) 1 0 + scopes_in below) past h scope_fits past_way (omega (arith, few, fits)) in
     each-append IsBoundedStep (opening_at p r own n ++ (entering child ∷ (steps_below child None next entered below ++ leaving child ∷ [])) ++ ending_after p r scope after)
-      (steps_below p scope (next + cond (opens kind) 1 0 + scopes_in below) past after)
-      (each-append IsBoundedStep (opening_at p r own n ++ (entering child ∷ (steps_below child None next entered below ++ leaving child ∷ []))) (ending_after p r scope after)
-        (each-append IsBoundedStep (opening_at p r own n) (entering child ∷ (steps_below child None next entered below ++ leaving child ∷ [])) before whole) behind)
-      others
+    (steps_below p scope (next + cond (opens kind) 1 0 + scopes_in below) past after)
+    (each-append IsBoundedStep (opening_at p r own n ++ (entering child ∷ (steps_below child None next entered below ++ leaving child ∷ []))) (ending_after p r scope after)
+    (each-append IsBoundedStep (opening_at p r own n) (entering child ∷ (steps_below child None next entered below ++ leaving child ∷ [])) before whole) behind)
+    others
 
 one_or_none : (b : Bool) → cond b 1 0 ≤ 1
 one_or_none true = omega arith

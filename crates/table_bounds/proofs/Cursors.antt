@@ -142,8 +142,8 @@ after_way parent around cursor (tree r k span text marks below id after) h =
     let left : ℕ = on_leaving k (cursor_after node (ambient_round parent around r) entered below) in
     after_way parent around (cursor_behind parent.kind r cursor left) after
     (behind_way parent.kind r cursor left h
-      (leaving_way k (cursor_after node (ambient_round parent around r) entered below)
-        (after_way node (ambient_round parent around r) entered below (entering_way k before (before_way parent (ambient_inside parent around) r node cursor h)))))
+    (leaving_way k (cursor_after node (ambient_round parent around r) entered below)
+    (after_way node (ambient_round parent around r) entered below (entering_way k before (before_way parent (ambient_inside parent around) r node cursor h)))))
 
 pub reference_way : (cursor : ℕ) → IsWay cursor → IsWay (way_of cursor)
 reference_way cursor h = either (cursor == 0) way.Read.bits cursor read h

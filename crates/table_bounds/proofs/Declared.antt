@@ -1,5 +1,5 @@
 -- Each declaration of a program has small numbers and flags that have names.
-use Rattle.std.proofs.Common.{ℕ, List, [], ◌∷◌, ◌++◌, cond, Bool, true, false, ◌||◌, inl, inr, Option, Some, None, refl, subst, map, flat_map, if◌then◌else◌, codes, lit<}
+use Rattle.std.proofs.Common.{ℕ, List, [], ◌∷◌, ◌++◌, cond, Bool, true, false, ◌||◌, inl, inr, Option, Some, None, refl, subst, map, flat_map, if◌then◌else◌, codes, lit<, IfSome}
 use Rattle.std.specs.List.{AllByRecursion}
 use lib.Bits.{or_lt}
 use Rattle.semantic_kinds.specs.declared.kind.AstType.{AstType}
@@ -7,6 +7,7 @@ use Rattle.semantic_kinds.specs.declared.kind.AstType.TheVariants as kind
 use Rattle.semantic_kinds.specs.declared.mark.Mark.TheVariants as mark
 use Rattle.semantic_kinds.specs.declared.role.Role.{Role}
 use Rattle.semantic_kinds.specs.declared.role.Role.TheVariants as role
+use Rattle.semantic_syntax.proofs.Every.{every-append}
 use Rattle.semantic_syntax.specs.FlagNames.{symbol_flag_names}
 use Rattle.semantic_syntax.specs.Sets.{union}
 use Rattle.semantic_syntax.specs.declared.symbol_flags.TheConstants.SymbolFlags as symbol
@@ -58,19 +59,15 @@ passed_bounded test (s ∷ ss) h = by (test s) (passed_bounded test ss h.1)
     by true later = tt
     by false later = (h.0, later)
 
-abbrev IsBoundedIfThere : Option OpenScope → Type 0
-IsBoundedIfThere None = Unit {0}
-IsBoundedIfThere (Some s) = IsBoundedScope s
-
-first_bounded : (test : OpenScope → Bool) (chain : List OpenScope) → IsBoundedChain chain → IsBoundedIfThere (first_with test chain)
+first_bounded : (test : OpenScope → Bool) (chain : List OpenScope) → IsBoundedChain chain → IfSome (first_with test chain) IsBoundedScope
 first_bounded test [] h = tt
 first_bounded test (s ∷ ss) h = by (test s) (first_bounded test ss h.1)
   where
-    by : (b : Bool) → IsBoundedIfThere (first_with test ss) → IsBoundedIfThere (cond b (Some s) (first_with test ss))
+    by : (b : Bool) → IfSome (first_with test ss) IsBoundedScope → IfSome (cond b (Some s) (first_with test ss)) IsBoundedScope
     by true later = h.0
     by false later = later
 
-from_bounded : (chain passed : List OpenScope) (o : Option OpenScope) → IsBoundedChain chain → IsBoundedChain passed → IsBoundedIfThere o → IsBoundedRoute (route_from chain passed o)
+from_bounded : (chain passed : List OpenScope) (o : Option OpenScope) → IsBoundedChain chain → IsBoundedChain passed → IfSome o IsBoundedScope → IsBoundedRoute (route_from chain passed o)
 from_bounded chain passed None h k l = here_bounded chain h
 from_bounded chain passed (Some s) h k l = record { passed = k; target = l }
 
@@ -110,7 +107,7 @@ function_named node =
     both (union symbol.Function.bits (marked_ambient node)) (union (cond (is_statement node) 0 symbol.FunctionExpression.bits) (cond (is_special node) symbol.AsyncOrGeneratorFunction.bits 0))
     (with_ambient symbol.Function.bits node (lit< tt))
     (both (cond (is_statement node) 0 symbol.FunctionExpression.bits) (cond (is_special node) symbol.AsyncOrGeneratorFunction.bits 0)
-      (either (is_statement node) 0 symbol.FunctionExpression.bits (lit< tt) (lit< tt)) (either (is_special node) symbol.AsyncOrGeneratorFunction.bits 0 (lit< tt) (lit< tt)))
+    (either (is_statement node) 0 symbol.FunctionExpression.bits (lit< tt) (lit< tt)) (either (is_special node) symbol.AsyncOrGeneratorFunction.bits 0 (lit< tt) (lit< tt)))
 
 variable_bounded : (declaration : Node) (chain : List OpenScope) → IsBoundedChain chain → IsBoundedRow (variable_row declaration chain)
 variable_bounded declaration chain h = by (is_with_text kind.VariableDeclaration (codes "var") declaration)
@@ -310,15 +307,11 @@ taken_bounded p s h = by (is_catch_body p)
     by true = (h.number, tt)
     by false = tt
 
-all-append : {A : Type 0} (P : A → Type 0) (xs ys : List A) → AllByRecursion P xs → AllByRecursion P ys → AllByRecursion P (xs ++ ys)
-all-append P [] ys h k = k
-all-append P (x ∷ xs) ys h k = (h.0, all-append P xs ys h.1 k)
-
 -- the events of a step at a node of which all nodes are bounded
 pub events_bounded : (ds : List Declaration) (s : Step) → IsBoundedStep s → ((x : Node) → Among x (nodes_from (node_at s)) → IsBounded x) → AllByRecursion IsBoundedEvent (events_of ds s)
 events_bounded ds (entering p) h all = all_bounded ds (declared_at (entering p)) (λ d a. declared_of p h all p.node.kind d a)
 events_bounded ds (opening p s) h all =
-    all-append IsBoundedEvent (taken_over p s) (declares_all ds (declared_at (opening p s))) (taken_bounded p s h.1) (all_bounded ds (declared_at (opening p s)) (λ d a. inside_of p h.0 all p.node.kind s d h.1 a))
+    every-append IsBoundedEvent (taken_over p s) (declares_all ds (declared_at (opening p s))) (taken_bounded p s h.1) (all_bounded ds (declared_at (opening p s)) (λ d a. inside_of p h.0 all p.node.kind s d h.1 a))
 events_bounded ds (header_ending p s) h all = (tt, tt)
 events_bounded ds (closing p s) h all = tt
 events_bounded ds (leaving p) h all = tt

@@ -1,3 +1,4 @@
+pub mod Lists
 pub mod Nodes
 pub mod Cursors
 pub mod Chains

@@ -86,7 +86,7 @@ bounded_nodes p h n x a =
     let shaped : IsShaped p = no_fault-IsShaped p h in
     let source : List ℕ = encode_utf8_all p.source in
     let span : (x.span.start ≤ length (encode_utf8_all p.source)) × (x.span.end ≤ length (encode_utf8_all p.source)) =
-        within (encode_utf8_all p.source) x (of_node (λ node. has_good_span (encode_utf8_all p.source) node ≡ true) p.root shaped.spans x a) in
+    within (encode_utf8_all p.source) x (of_node (λ node. has_good_span (encode_utf8_all p.source) node ≡ true) p.root shaped.spans x a) in
     let bytes : length (encode_utf8_all p.source) ≤ 4294967290 = shaped.bytes in
     let nodes : node_count p.root ≤ 4294967294 = shaped.nodes in
     let id : x.node_id < node_count p.root = id_below p.root x n a in
@@ -105,6 +105,6 @@ pub short_spans : (p : Tree) → first_fault p ≡ None → (x : Node) → Among
 short_spans p h x a =
     let shaped : IsShaped p = no_fault-IsShaped p h in
     let span : (x.span.start ≤ length (encode_utf8_all p.source)) × (x.span.end ≤ length (encode_utf8_all p.source)) =
-        within (encode_utf8_all p.source) x (of_node (λ node. has_good_span (encode_utf8_all p.source) node ≡ true) p.root shaped.spans x a) in
+    within (encode_utf8_all p.source) x (of_node (λ node. has_good_span (encode_utf8_all p.source) node ≡ true) p.root shaped.spans x a) in
     let bytes : length (encode_utf8_all p.source) ≤ 4294967290 = shaped.bytes in
     record { start = omega (arith, span.0, bytes); end = omega (arith, span.1, bytes) }

@@ -3,6 +3,7 @@ use Rattle.std.proofs.Common.{ℕ, zero, suc, List, [], ◌∷◌, ◌++◌, Boo
 use Rattle.std.specs.Prelude.{slice_get}
 use Rattle.std.specs.Option.{unwrap_or}
 use Rattle.std.specs.List.{AllByRecursion}
+use Rattle.semantic_syntax.proofs.Every.{every-append}
 use Rattle.semantic_syntax.specs.Sets.{meets}
 use Rattle.semantic_syntax.specs.Reading.{own_entry}
 use Rattle.semantic_syntax.specs.Tables.{Name, Symbol, Bindings}
@@ -14,10 +15,6 @@ use Rattle.semantic_model.specs.Fold.{State, Conflict, start, update, found, red
 use Rattle.semantic_model.specs.Hoist.{PassedSymbol, passed_symbol, asked_symbols, against_all, move_symbol, hoist_by, move_out, declare_by, rescoped, act, run}
 use Rattle.table_bounds.specs.Tellable.{IsNumber, IsTellableEntry, AreTellableEntries, IsTellableSymbol}
 use Rattle.table_bounds.proofs.Declared.{IsBoundedDeclaration, IsBoundedEvent, both, last_target}
-
-pub all-append : {A : Type 0} (P : A → Type 0) (xs ys : List A) → AllByRecursion P xs → AllByRecursion P ys → AllByRecursion P (xs ++ ys)
-all-append P [] ys h k = k
-all-append P (x ∷ xs) ys h k = (h.0, all-append P xs ys h.1 k)
 
 pub record IsBoundedConflict (c : Conflict) : Type 0 where
   pub earlier_start : IsNumber c.earlier.start
@@ -36,7 +33,7 @@ new_bounded c d small h = record { scope = small; node = h.node; start = h.start
 
 some_entries : (xs : List Redeclaration) (e : Redeclaration) → AllByRecursion IsTellableEntry xs → IsTellableEntry e → AreTellableEntries (Some (xs ++ e ∷ []))
 some_entries [] e h k = (k, tt)
-some_entries (x ∷ xs) e h k = (h.0, all-append IsTellableEntry xs (e ∷ []) h.1 (k, tt))
+some_entries (x ∷ xs) e h k = (h.0, every-append IsTellableEntry xs (e ∷ []) h.1 (k, tt))
 
 old_entries : (o : Option (List Redeclaration)) (own : Redeclaration) → AreTellableEntries o → IsTellableEntry own → AllByRecursion IsTellableEntry (unwrap_or o (own ∷ []))
 old_entries None own h k = (k, tt)
@@ -81,7 +78,7 @@ conflict_bounded d (y ∷ ys) (suc s) h k = conflict_bounded d ys s h k.1
 against_bounded : (st : State) (d : Declaration) (s : ℕ) → IsBoundedDeclaration d → IsBoundedState st → IsBoundedState (against st d s)
 against_bounded st d s h k = record {
   symbols = k.symbols;
-  conflicts = all-append IsBoundedConflict st.conflicts (conflict_with d.naming (slice_get st.symbols s)) k.conflicts (conflict_bounded d st.symbols s h k.symbols);
+  conflicts = every-append IsBoundedConflict st.conflicts (conflict_with d.naming (slice_get st.symbols s)) k.conflicts (conflict_bounded d st.symbols s h k.symbols);
 }
 
 against_all_bounded : (st : State) (d : Declaration) (ss : List ℕ) → IsBoundedDeclaration d → IsBoundedState st → IsBoundedState (against_all st d ss)
@@ -90,7 +87,7 @@ against_all_bounded st d (s ∷ ss) h k = against_all_bounded (against st d s) d
 
 make_bounded : (st : State) (c : ℕ) (d : Declaration) → IsNumber c → IsBoundedDeclaration d → IsBoundedState st → IsBoundedState (make st c d)
 make_bounded st c d small h k = record {
-  symbols = all-append IsTellableSymbol st.symbols (new_symbol c d.naming ∷ []) k.symbols (new_bounded c d small h, tt);
+  symbols = every-append IsTellableSymbol st.symbols (new_symbol c d.naming ∷ []) k.symbols (new_bounded c d small h, tt);
   conflicts = k.conflicts;
 }
 
@@ -114,13 +111,13 @@ move_out_bounded st c t x s None small k = record { symbols = update_bounded (in
 hoist_by_bounded : (st : State) (d : Declaration) (o : Option PassedSymbol) → IsBoundedDeclaration d → IsBoundedState st → IsBoundedState (hoist_by st d o)
 hoist_by_bounded st d None h k =
     let next : IsBoundedState (declare_in st d.route.target.number d (found st d.route.target.number d.naming.name)) =
-        declare_in_bounded st d.route.target.number d (found st d.route.target.number d.naming.name) h.route.target.number h k in
+    declare_in_bounded st d.route.target.number d (found st d.route.target.number d.naming.name) h.route.target.number h k in
     record { symbols = next.symbols; conflicts = next.conflicts }
 hoist_by_bounded st d (Some p) h k =
     let got : State = note_symbol (record st { symbols = update (redeclared d.naming) st.symbols p.symbol }) d p.symbol in
     let noted : IsBoundedState got = record { symbols = update_bounded (redeclared d.naming) (λ y b. redeclared_bounded d y h b) st.symbols p.symbol k.symbols; conflicts = k.conflicts } in
     let next : IsBoundedState (move_symbol got p.scope d.route.target.number d.naming.name p.symbol (get got.bindings d.route.target.number d.naming.name)) =
-        move_symbol_bounded got p.scope d.route.target.number d.naming.name p.symbol (get got.bindings d.route.target.number d.naming.name) h.route.target.number noted in
+    move_symbol_bounded got p.scope d.route.target.number d.naming.name p.symbol (get got.bindings d.route.target.number d.naming.name) h.route.target.number noted in
     record { symbols = next.symbols; conflicts = next.conflicts }
 
 stands_bounded : (d : Declaration) → IsBoundedDeclaration d → IsNumber (stands_in d)

@@ -1,11 +1,12 @@
 -- The tables of a program are tellable, and so are its unused labels and conflicts.
-use Rattle.std.proofs.Common.{◌≡◌, ℕ, zero, suc, ◌+◌, ◌<◌, ◌≤◌, ◌^◌, ◌==◌, ◌&&◌, not, List, [], ◌∷◌, ◌++◌, Bool, true, false, cond, Option, Some, None, length, map, flat_map, filter, get_or, inl, inr, refl, sym, ap, subst, ◌∙◌, lit<, eq-eqb, arith}
+use Rattle.std.proofs.Common.{◌≡◌, ℕ, zero, suc, ◌+◌, ◌<◌, ◌≤◌, ◌^◌, ◌==◌, ◌&&◌, not, List, [], ◌∷◌, ◌++◌, Bool, true, false, cond, Option, Some, None, length, map, flat_map, get_or, inl, inr, refl, sym, ap, subst, ◌∙◌, lit<, eq-eqb, arith, IfSome}
 use Rattle.std.specs.List.{AllByRecursion, filter_map, cons_option, range_with_len}
 use Rattle.std.proofs.lemmas.List.{length-map}
 use Rattle.std.proofs.lemmas.List.FromFn.{length-range_with_len}
 use Rattle.std.proofs.lemmas.Option.{slice_get_within}
 use Rattle.semantic_kinds.specs.declared.kind.AstType.TheVariants as kind
 use Rattle.semantic_kinds.specs.declared.role.Role.TheVariants as role
+use Rattle.semantic_syntax.proofs.Every.{every-append}
 use Rattle.semantic_syntax.specs.declared.scope_flags.TheConstants.ScopeFlags as scope
 use Rattle.semantic_syntax.specs.Lookup.{Lookup, tied, barred, unanswered, lookup}
 use Rattle.semantic_syntax.specs.Reading.{bindings_of}
@@ -44,48 +45,28 @@ use Rattle.walk_model.proofs.sizes.Scopes.{scopes_counted}
 use Rattle.walk_model.proofs.sizes.Symbols.{symbols_counted}
 use Rattle.program_laws.proofs.TreeNodes.{nodes_below, nodes_from}
 use Rattle.program_laws.proofs.Walked.{node_at, steps_within}
-use Rattle.table_bounds.specs.Tellable.{IsNumber, IsNumberIfThere, AreNumbers, IsTellableScope, IsTellableReference, AreTellable}
+use Rattle.table_bounds.specs.Tellable.{IsNumber, AreNumbers, IsTellableScope, IsTellableReference, AreTellable}
+use Rattle.table_bounds.proofs.Lists.{all_among, all_filtered, each_among}
 use Rattle.table_bounds.proofs.Nodes.{IsBounded, bounded_nodes}
 use Rattle.table_bounds.proofs.Cursors.{IsWay, reference_way, settled_way}
 use Rattle.table_bounds.proofs.Chains.{AreScopeFlags, IsBoundedChain, IsBoundedStep, bounded_steps, scopes_few, both, either}
 use Rattle.table_bounds.proofs.Declared.{innermost_bounded, IsBoundedEvent, events_bounded}
-use Rattle.table_bounds.proofs.Symbols.{IsBoundedState, all-append, run_bounded, start_bounded}
+use Rattle.table_bounds.proofs.Symbols.{IsBoundedState, run_bounded, start_bounded}
 
 -- ---- lists
-
-all_among : {A : Type 0} (P : A → Type 0) (xs : List A) → ((x : A) → Among x xs → P x) → AllByRecursion P xs
-all_among P [] h = tt
-all_among P (x ∷ xs) h = (h x (inl refl), all_among P xs (λ y a. h y (inr a)))
 
 all_places : {A : Type 0} (P : A → Type 0) (none : A) (xs : List A) → ((i : ℕ) → P (get_or xs i none)) → AllByRecursion P xs
 all_places P none [] h = tt
 all_places P none (x ∷ xs) h = (h 0, all_places P none xs (λ i. h (suc i)))
 
-abbrev IfSome : {A : Type 0} → (A → Type 0) → Option A → Type 0
-IfSome P None = Unit {0}
-IfSome P (Some x) = P x
-
 module _ {A : Type 0} (P : A → Type 0) (f : Step → Option A) where
-  all_found : (ss : List Step) → ((s : Step) → Among s ss → IfSome P (f s)) → AllByRecursion P (filter_map f ss)
+  all_found : (ss : List Step) → ((s : Step) → Among s ss → IfSome (f s) P) → AllByRecursion P (filter_map f ss)
   all_found [] h = tt
   all_found (s ∷ ss) h = by (f s) (h s (inl refl)) (all_found ss (λ t a. h t (inr a)))
     where
-      by : (o : Option A) → IfSome P o → AllByRecursion P (filter_map f ss) → AllByRecursion P (cons_option o (filter_map f ss))
+      by : (o : Option A) → IfSome o P → AllByRecursion P (filter_map f ss) → AllByRecursion P (cons_option o (filter_map f ss))
       by None k rest = rest
       by (Some x) k rest = (k, rest)
-
-each_among : (P : Step → Type 0) (ss : List Step) → EachStep P ss → (s : Step) → Among s ss → P s
-each_among P [] h s a = absurd a
-each_among P (x ∷ ss) h s (inl e) = subst P e h.0
-each_among P (x ∷ ss) h s (inr a) = each_among P ss h.1 s a
-
-all_filtered : (P : ℕ → Type 0) (test : ℕ → Bool) (xs : List ℕ) → AllByRecursion P xs → AllByRecursion P (filter test xs)
-all_filtered P test [] h = tt
-all_filtered P test (x ∷ xs) h = by (test x) (all_filtered P test xs h.1)
-  where
-    by : (b : Bool) → AllByRecursion P (filter test xs) → AllByRecursion P (cond b (x ∷ filter test xs) (filter test xs))
-    by true rest = (h.0, rest)
-    by false rest = rest
 
 range_small : (from len : ℕ) → from + len ≤ 2 ^ 64 → AreNumbers (range_with_len from len)
 range_small from zero h = tt
@@ -113,11 +94,11 @@ module _ (all : (x : Node) → IsBounded x → IsNumber x.node_id) where
   labels_small : (f : Forest) → ((x : Node) → Among x (nodes_below f) → IsBounded x) → AreNumbers (unused_in f)
   labels_small nothing h = tt
   labels_small (tree r k span text marks below id after) h =
-      all-append IsNumber (unused_in below) (cond (is_labelled k && not (is_used (label_of below) below)) (id ∷ []) [] ++ unused_in after)
+      every-append IsNumber (unused_in below) (cond (is_labelled k && not (is_used (label_of below) below)) (id ∷ []) [] ++ unused_in after)
       (labels_small below (λ x a. h x (inr (among_left x (nodes_below below) (nodes_below after) a))))
-      (all-append IsNumber (cond (is_labelled k && not (is_used (label_of below) below)) (id ∷ []) []) (unused_in after)
-        (by (is_labelled k && not (is_used (label_of below) below)))
-        (labels_small after (λ x a. h x (inr (among_right x (nodes_below below) (nodes_below after) a)))))
+      (every-append IsNumber (cond (is_labelled k && not (is_used (label_of below) below)) (id ∷ []) []) (unused_in after)
+      (by (is_labelled k && not (is_used (label_of below) below)))
+      (labels_small after (λ x a. h x (inr (among_right x (nodes_below below) (nodes_below after) a)))))
     where
       by : (b : Bool) → AreNumbers (cond b (id ∷ []) [])
       by true = (all (record { kind = k; span = span; text = text; marks = marks; children = below; node_id = id }) (h (record { kind = k; span = span; text = text; marks = marks; children = below; node_id = id }) (inl refl)), tt)
@@ -126,7 +107,7 @@ module _ (all : (x : Node) → IsBounded x → IsNumber x.node_id) where
 -- ---- scopes
 
 opened_by : (calls : List (List ℕ)) (p : Place) (s : OpenScope) (chain : List OpenScope) → IsBoundedChain chain → IsNumber s.opener → AreScopeFlags s.flags
-    → IfSome IsTellableScope (opened_entry calls (opening (record p { chain = chain }) s))
+    → IfSome (opened_entry calls (opening (record p { chain = chain }) s)) IsTellableScope
 opened_by calls p s [] h opener flags = record {
   parent = tt;
   node = opener;
@@ -138,7 +119,7 @@ opened_by calls p s (q ∷ qs) h opener flags = record {
   flags = both s.flags (cond (any_holds calls s.number) scope.DirectEval.bits 0) flags (either (any_holds calls s.number) scope.DirectEval.bits 0 (lit< tt) (lit< tt));
 }
 
-opened_small : (calls : List (List ℕ)) (s : Step) → IsBoundedStep s → IsBounded (node_at s) → IfSome IsTellableScope (opened_entry calls s)
+opened_small : (calls : List (List ℕ)) (s : Step) → IsBoundedStep s → IsBounded (node_at s) → IfSome (opened_entry calls s) IsTellableScope
 opened_small calls (entering p) h k = tt
 opened_small calls (opening p s) h k = opened_by calls p s p.chain h.0.chain (subst IsNumber (sym h.2) k.id) h.1.flags
 opened_small calls (header_ending p s) h k = tt
@@ -152,10 +133,10 @@ record IsBoundedOccurrence (r : Occurrence) : Type 0 where
   chain : IsBoundedChain r.chain
   way : IsWay r.way
 
-occurrence_bounded : (s : Step) → IsBoundedStep s → IsBounded (node_at s) → IfSome IsBoundedOccurrence (entered_reference s)
+occurrence_bounded : (s : Step) → IsBoundedStep s → IsBounded (node_at s) → IfSome (entered_reference s) IsBoundedOccurrence
 occurrence_bounded (entering p) h k = by (is kind.IdentifierReference p.node)
   where
-    by : (b : Bool) → IfSome IsBoundedOccurrence (cond b (Some (reference_at p)) None)
+    by : (b : Bool) → IfSome (cond b (Some (reference_at p)) None) IsBoundedOccurrence
     by true = record { node = k.id; chain = h.chain; way = reference_way p.cursor h.cursor }
     by false = tt
 occurrence_bounded (opening p s) h k = tt
@@ -168,23 +149,22 @@ final_way n r (tied c s flags) h = settled_way r.way flags h
 final_way n r (barred c) h = h
 final_way n r unanswered h = h
 
-symbol_small : (n : ℕ) (o : Option ℕ) → n ≤ 2 ^ 64 → IsBelow n o → IsNumberIfThere o
+symbol_small : (n : ℕ) (o : Option ℕ) → n ≤ 2 ^ 64 → IsBelow n o → IfSome o IsNumber
 symbol_small n None few h = tt
 symbol_small n (Some s) few h = omega (arith, few, h)
 
 module _ (st : State) (es : List Event) (symbols : ℕ) (few : symbols ≤ 2 ^ 64) where
   references_small : (n : ℕ) (rs : List Occurrence) → AllByRecursion IsBoundedOccurrence rs → ((t : Tie) → Among t (ties st es n rs) → IsBelow symbols (symbol_of t)) → AllByRecursion IsTellableReference (map entry_of (ties st es n rs))
   references_small n [] h below = tt
-  references_small n (r ∷ rs) h below =
-      (
-        record {
-          node = h.0.node;
-          scope = (innermost_bounded r.chain h.0.chain).number;
-          flags = final_way n r (lookup r.name r.way (answers st es r)) h.0.way;
-          symbol = symbol_small symbols (symbol_of (record { number = n; reference = r; lookup = lookup r.name r.way (answers st es r) })) few (below (record { number = n; reference = r; lookup = lookup r.name r.way (answers st es r) }) (inl refl));
-        },
-        references_small (suc n) rs h.1 (λ t a. below t (inr a)),
-      )
+  references_small n (r ∷ rs) h below = (
+    record {
+      node = h.0.node;
+      scope = (innermost_bounded r.chain h.0.chain).number;
+      flags = final_way n r (lookup r.name r.way (answers st es r)) h.0.way;
+      symbol = symbol_small symbols (symbol_of (record { number = n; reference = r; lookup = lookup r.name r.way (answers st es r) })) few (below (record { number = n; reference = r; lookup = lookup r.name r.way (answers st es r) }) (inl refl));
+    },
+    references_small (suc n) rs h.1 (λ t a. below t (inr a)),
+  )
 
 -- ---- a program
 
@@ -207,7 +187,7 @@ module _ (p : Tree) (faultless : first_fault p ≡ None) (numbered : IsNumbered 
   step_events : (ds : List Declaration) (ss : List Step) → ((s : Step) → Among s ss → Among s (steps p)) → AllByRecursion IsBoundedEvent (flat_map (events_of ds) ss)
   step_events ds [] h = tt
   step_events ds (s ∷ ss) h =
-      all-append IsBoundedEvent (events_of ds s) (flat_map (events_of ds) ss)
+      every-append IsBoundedEvent (events_of ds s) (flat_map (events_of ds) ss)
       (events_bounded ds s (step_bounded s (h s (inl refl))) (λ x a. nodes x (steps_within p s (h s (inl refl)) x a))) (step_events ds ss (λ t a. h t (inr a)))
 
   pub final_bounded : IsBoundedState (run start (events (steps p)))
@@ -244,8 +224,8 @@ module _ (p : Tree) (faultless : first_fault p ≡ None) (numbered : IsNumbered 
   bound_small c =
       all_among (λ (b : Name × ℕ). IsNumber b.1) (bindings_of (tables_of p) c)
       (λ b a. let own = owned.owned c b a in
-        let within : b.1 < length (tables_of p).symbols = slice_get_within (tables_of p).symbols b.1 own.symbol own.is_there in
-        omega (arith, within, few_symbols))
+      let within : b.1 < length (tables_of p).symbols = slice_get_within (tables_of p).symbols b.1 own.symbol own.is_there in
+      omega (arith, within, few_symbols))
 
   pub labels_tellable : AreNumbers (unused_labels p.root)
   labels_tellable = labels_small (λ x k. k.id) p.root.children (λ x a. nodes x (inr a))

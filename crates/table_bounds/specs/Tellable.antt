@@ -1,5 +1,5 @@
 -- What holds of tables and diagnostics of which a report tells all.
-use Rattle.std.specs.Prelude.{◌≡◌, ℕ, ◌<◌, ◌≤◌, ◌^◌, ◌==◌, ◌||◌, not, Bool, true, List, [], ◌∷◌, Option, Some, None, length, codes}
+use Rattle.std.specs.Prelude.{◌≡◌, ℕ, ◌<◌, ◌≤◌, ◌^◌, ◌==◌, ◌||◌, not, Bool, true, List, [], ◌∷◌, Option, Some, None, IfSome, length, codes}
 use Rattle.std.specs.List.{AllByRecursion}
 use Rattle.std.specs.Str.{encode_utf8_all}
 use Rattle.semantic_syntax.specs.declared.references.Reference.{Reference}
@@ -13,10 +13,6 @@ use Rattle.semantic_diagnostics.specs.declared.diagnostic.Diagnostic.{Diagnostic
 abbrev pub IsNumber : ℕ → Type 0
 IsNumber n = n < 2 ^ 64
 
-abbrev pub IsNumberIfThere : Option ℕ → Type 0
-IsNumberIfThere None = Unit {0}
-IsNumberIfThere (Some n) = IsNumber n
-
 abbrev pub AreNumbers : List ℕ → Type 0
 AreNumbers = AllByRecursion IsNumber
 
@@ -25,7 +21,7 @@ abbrev pub HaveNames : List (List ℕ) → ℕ → Type 0
 HaveNames names bits = bits < 2 ^ length names
 
 pub record IsTellableScope (s : Scope) : Type 0 where
-  pub parent : IsNumberIfThere s.parent
+  pub parent : IfSome s.parent IsNumber
   pub node : IsNumber s.node
   pub flags : HaveNames scope_flag_names s.flags.bits
 
@@ -53,7 +49,7 @@ pub record IsTellableReference (r : Reference) : Type 0 where
   pub node : IsNumber r.node_id
   pub scope : IsNumber r.scope_id
   pub flags : HaveNames reference_flag_names r.flags.bits
-  pub symbol : IsNumberIfThere r.symbol_id
+  pub symbol : IfSome r.symbol_id IsNumber
 
 -- numbers have no more than 64 bits, all flags have names, each scope has a list of bindings and each symbol one of uses, and no list of redeclarations is empty
 pub record AreTellable (t : Tables) : Type 0 where
@@ -79,14 +75,10 @@ pub record IsPlainWord (text : List ℕ) : Type 0 where
   pub no_gaps : AllByRecursion (λ byte. no_gap byte ≡ true) (encode_utf8_all text)
   pub no_dash : encode_utf8_all text ≡ codes "-" → ⊥
 
-abbrev pub IsPlainWordIfThere : Option (List ℕ) → Type 0
-IsPlainWordIfThere None = Unit {0}
-IsPlainWordIfThere (Some text) = IsPlainWord text
-
 pub record IsTellableLabel (l : Label) : Type 0 where
   pub start : IsNumber l.span.start
   pub end : IsNumber l.span.end
 
 pub record IsTellableDiagnostic (d : Diagnostic) : Type 0 where
-  pub code : IsPlainWordIfThere d.code
+  pub code : IfSome d.code IsPlainWord
   pub labels : AllByRecursion IsTellableLabel d.labels
