@@ -1,5 +1,5 @@
 -- A text of a sound form determines what it tells.
-use Rattle.std.proofs.Common.{◌≡◌, ℕ, ◌<◌, ◌^◌, ◌&&◌, inl, inr, not, Bool, true, false, List, [], ◌∷◌, ◌++◌, Option, Some, None, codes, decimal, encode_utf8_all, refl, sym, ap, ◌∙◌, subst, arith}
+use Rattle.std.proofs.Common.{if◌then◌else◌, ◌≡◌, ℕ, ◌<◌, ◌^◌, ◌&&◌, inl, inr, not, Bool, true, false, List, [], ◌∷◌, ◌++◌, Option, Some, None, codes, decimal, encode_utf8_all, refl, sym, ap, ◌∙◌, subst, arith, zero, suc}
 use Rattle.std.proofs.lemmas.List.{append_cancel_left}
 use Rattle.std.proofs.lemmas.Bool.{and_parts, ne_eqb, lt-ltb}
 use Rattle.std.proofs.lemmas.Fmt.{decimal_is_IsNumeral, decimal_injective}
@@ -7,14 +7,18 @@ use Rattle.std.proofs.lemmas.Str.Parse.{digit_from_value}
 use Rattle.std.specs.Char.{digit_value}
 use Rattle.std.specs.Int.{IsInRange}
 use Rattle.std.specs.Str.Parse.{AllDigits}
-use Rattle.std.specs.List.{AllByRecursion}
+use Rattle.std.specs.List.{AllByRecursion, list_all}
+use Rattle.std.specs.Prelude.{slice_get}
+use Rattle.semantic_kinds.specs.Kinds.{kind_name, kind_named, kind_number, all_kinds}
+use Rattle.semantic_kinds.specs.declared.kind.AstType.{AstType}
+use Rattle.semantic_kinds.proofs.KindNames.{kind_in_place, kind_named-kind_name}
 use Rattle.report_lines.specs.Pieces.{quoted, flags_text, with_bits}
 use Rattle.table_bounds.specs.Tellable.{no_gap}
-use Rattle.report_laws.proofs.Closed.{BothSame, same_pair, same_cons, same_word, IsWord, IsClosed, apart, apart_differ}
+use Rattle.report_laws.proofs.Closed.{BothSame, same_pair, same_cons, same_word, IsWord, IsClosed, apart, apart_differ, all_pass, passing}
 use Rattle.report_laws.proofs.Escaped.{same_quoted, quoted_begins}
 use Rattle.report_laws.proofs.Utf8.{same_encoded}
 use Rattle.report_laws.proofs.FlagNames.{all_words, same_flags, flags_no_gap}
-use Rattle.report_laws.proofs.Forms.{Piece, number, number_or_dash, name, name_or_dash, word_or_dash, flags, anything, Told, text_of, is_decimal, in_line, is_part, IsTold, is_good, Form, end, word, piece, each, Values, one_by_one, written, AreTold, starts, closes, not_empty, is_sound, BeginsAmong}
+use Rattle.report_laws.proofs.Forms.{Piece, number, number_or_dash, name, name_or_dash, word_or_dash, flags, truth, kind_word, Told, text_of, is_decimal, is_part, IsTold, is_good, Form, end, word, piece, each, Values, one_by_one, written, AreTold, starts, closes, not_empty, is_sound, BeginsAmong}
 
 -- ---- pieces
 
@@ -88,6 +92,28 @@ same_word_or_dash (Some a) (Some b) ha hb r s cr cs e =
     let texts : BothSame (encode_utf8_all a) (encode_utf8_all b) r s = same_word no_gap (encode_utf8_all a) (encode_utf8_all b) r s ha.no_gaps hb.no_gaps cr cs e in
     (ap (λ k. Some k) (same_encoded a b texts.0), texts.1)
 
+same_truth : (on off : List ℕ) → apart on off ≡ true → (a b : Bool) (r s : List ℕ) → (if a then on else off) ++ r ≡ (if b then on else off) ++ s → BothSame a b r s
+same_truth on off parts true true r s e = (refl, append_cancel_left on r s e)
+same_truth on off parts true false r s e = absurd (apart_differ on off r s parts e)
+same_truth on off parts false true r s e = absurd (apart_differ on off s r parts (sym e))
+same_truth on off parts false false r s e = (refl, append_cancel_left off r s e)
+
+passes_there : {A : Type 0} (test : A → Bool) (xs : List A) → list_all test xs ≡ true → (i : ℕ) (x : A) → slice_get xs i ≡ Some x → test x ≡ true
+passes_there test [] h i x e = absurd cc
+passes_there test (y ∷ ys) h zero x e =
+    let is : y ≡ x = cc in subst (λ z. test z ≡ true) is (and_parts (test y) (list_all test ys) h).0
+passes_there test (y ∷ ys) h (suc i) x e = passes_there test ys (and_parts (test y) (list_all test ys) h).1 i x e
+
+kind_no_gap : (k : AstType) → IsWord no_gap (kind_name k)
+kind_no_gap k = passing no_gap (kind_name k) (passes_there (λ (one : AstType). all_pass no_gap (kind_name one)) all_kinds refl (kind_number k) k (kind_in_place k))
+
+same_kind_word : (a b : AstType) (r s : List ℕ) → IsClosed no_gap r → IsClosed no_gap s → kind_name a ++ r ≡ kind_name b ++ s → BothSame a b r s
+same_kind_word a b r s cr cs e =
+    let texts : BothSame (kind_name a) (kind_name b) r s = same_word no_gap (kind_name a) (kind_name b) r s (kind_no_gap a) (kind_no_gap b) cr cs e in
+    let read : ◌≡◌ {A = Option AstType} (Some a) (Some b) = sym (kind_named-kind_name a) ∙ ap kind_named texts.0 ∙ kind_named-kind_name b in
+    let is : a ≡ b = cc in
+    (is, texts.1)
+
 -- a piece ends where no byte is part of it
 pub same_piece : (p : Piece) → is_good p ≡ true → (a b : Told p) → IsTold p a → IsTold p b → (r s : List ℕ) → IsClosed (is_part p) r → IsClosed (is_part p) s
     → text_of p a ++ r ≡ text_of p b ++ s → BothSame a b r s
@@ -100,7 +126,8 @@ same_piece (flags names) good a b ha hb r s cr cs e =
     let texts : BothSame (flags_text (with_bits 1 names) a) (flags_text (with_bits 1 names) b) r s =
     same_word no_gap (flags_text (with_bits 1 names) a) (flags_text (with_bits 1 names) b) r s (flags_no_gap names good a) (flags_no_gap names good b) cr cs e in
     (same_flags names good a b ha hb texts.0, texts.1)
-same_piece anything good a b ha hb r s cr cs e = same_word in_line a b r s ha hb cr cs e
+same_piece (truth on off) good a b ha hb r s cr cs e = same_truth on off good a b r s e
+same_piece kind_word good a b ha hb r s cr cs e = same_kind_word a b r s cr cs e
 
 -- ---- what stands behind
 

@@ -1,9 +1,11 @@
 -- The forms of lines: words, pieces that tell something, and items that follow one another, each behind a word.
-use Rattle.std.proofs.Common.{◌≡◌, ℕ, ◌==◌, ◌&&◌, ◌⊎◌, not, Bool, true, false, List, [], ◌∷◌, ◌++◌, Option, decimal, encode_utf8_all, option_map, IfSome}
+use Rattle.std.proofs.Common.{if◌then◌else◌, ◌≡◌, ℕ, ◌&&◌, ◌⊎◌, not, Bool, true, false, List, [], ◌∷◌, ◌++◌, Option, decimal, encode_utf8_all, option_map, IfSome}
 use Rattle.std.specs.Char.{is_digit}
 use Rattle.std.specs.List.{AllByRecursion}
+use Rattle.semantic_kinds.specs.Kinds.{kind_name}
+use Rattle.semantic_kinds.specs.declared.kind.AstType.{AstType}
 use Rattle.report_lines.specs.Pieces as pieces
-use Rattle.report_laws.proofs.Closed.{IsWord, apart}
+use Rattle.report_laws.proofs.Closed.{apart}
 use Rattle.report_laws.proofs.FlagNames.{are_names, all_words}
 use Rattle.table_bounds.specs.Tellable.{no_gap, IsNumber, HaveNames, IsPlainWord}
 
@@ -18,8 +20,10 @@ pub data Piece : Type 0 where
   word_or_dash : Piece
   -- flags of these names
   flags : List (List ℕ) → Piece
-  -- what is not looked at, up to the end of the line
-  anything : Piece
+  -- one of two words
+  truth : List ℕ → List ℕ → Piece
+  -- the name of a kind of nodes
+  kind_word : Piece
 
 -- what a piece tells
 abbrev pub Told : Piece → Type 0
@@ -29,7 +33,8 @@ Told name = List ℕ
 Told name_or_dash = Option (List ℕ)
 Told word_or_dash = Option (List ℕ)
 Told (flags names) = ℕ
-Told anything = List ℕ
+Told (truth on off) = Bool
+Told kind_word = AstType
 
 abbrev pub text_of : (p : Piece) → Told p → List ℕ
 text_of number n = decimal n
@@ -38,14 +43,11 @@ text_of name text = pieces.quoted (encode_utf8_all text)
 text_of name_or_dash o = pieces.quoted_or_dash (option_map encode_utf8_all o)
 text_of word_or_dash o = pieces.plain_or_dash (option_map encode_utf8_all o)
 text_of (flags names) bits = pieces.flags_text (pieces.with_bits 1 names) bits
-text_of anything text = text
+text_of (truth on off) b = if b then on else off
+text_of kind_word k = kind_name k
 
 abbrev pub is_decimal : ℕ → Bool
 is_decimal byte = is_digit byte 10
-
--- a byte that ends no line
-abbrev pub in_line : ℕ → Bool
-in_line byte = not (byte == 10)
 
 -- whether the byte may be part of the piece
 abbrev pub is_part : Piece → ℕ → Bool
@@ -55,7 +57,8 @@ is_part name = no_gap
 is_part name_or_dash = no_gap
 is_part word_or_dash = no_gap
 is_part (flags names) = no_gap
-is_part anything = in_line
+is_part (truth on off) = no_gap
+is_part kind_word = no_gap
 
 -- what is told can be read back
 abbrev pub IsTold : (p : Piece) → Told p → Type 0
@@ -65,7 +68,8 @@ IsTold name text = Unit {0}
 IsTold name_or_dash o = Unit {0}
 IsTold word_or_dash o = IfSome o IsPlainWord
 IsTold (flags names) bits = HaveNames names bits
-IsTold anything text = IsWord in_line text
+IsTold (truth on off) b = Unit {0}
+IsTold kind_word k = Unit {0}
 
 abbrev pub is_good : Piece → Bool
 is_good number = true
@@ -74,7 +78,8 @@ is_good name = true
 is_good name_or_dash = true
 is_good word_or_dash = true
 is_good (flags names) = are_names names
-is_good anything = true
+is_good (truth on off) = apart on off
+is_good kind_word = true
 
 -- ---- forms
 

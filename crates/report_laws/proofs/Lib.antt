@@ -7,7 +7,8 @@ pub mod Determined
 pub mod Lists
 pub mod TableForms
 pub mod TablesTold
-pub mod InLine
+pub mod ClassForms
+pub mod NodeForms
 pub mod ReportForms
 pub mod ReportTold
 pub mod Programs

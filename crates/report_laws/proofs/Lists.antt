@@ -64,3 +64,8 @@ pub all_numbered : {A B : Type 0} (P : A → Type 0) (Q : B → Type 0) (value :
     → (i : ℕ) (xs : List A) → i + length xs ≤ n → AllByRecursion P xs → AllByRecursion Q (numbered value i xs)
 all_numbered P Q value n since i [] fits h = tt
 all_numbered P Q value n since i (x ∷ xs) fits h = (since i x (omega (arith, fits)) h.0, all_numbered P Q value n since (i + 1) xs (omega (arith, fits)) h.1)
+
+pub numbered_map : {A B C : Type 0} (value : ℕ → A → B) (back : B → C) (seen : A → C) → ((i : ℕ) (x : A) → back (value i x) ≡ seen x) → (i : ℕ) (xs : List A) → map back (numbered value i xs) ≡ map seen xs
+numbered_map value back seen same i [] = refl
+numbered_map value back seen same i (x ∷ xs) =
+    same_cons (back (value i x)) (seen x) (map back (numbered value (i + 1) xs)) (map seen xs) (same i x) (numbered_map value back seen same (i + 1) xs)

@@ -1,19 +1,25 @@
 -- The text of a report determines the tables, the unused labels and the diagnostics.
-use Rattle.std.proofs.Common.{◌≡◌, ℕ, List, [], ◌∷◌, inl, inr, map, flat_map, codes, refl, sym, ap, ◌∙◌}
+use Rattle.std.proofs.Common.{◌≡◌, ℕ, Bool, true, List, [], ◌∷◌, inl, inr, map, flat_map, codes, refl, sym, ap, ◌∙◌}
 use Rattle.std.specs.List.{AllByRecursion}
+use Rattle.semantic_syntax.specs.Tables.{Tables}
+use Rattle.semantic_model.specs.Class.{Class}
 use Rattle.semantic_diagnostics.specs.declared.diagnostic.Label.{Label}
 use Rattle.semantic_diagnostics.specs.declared.diagnostic.Diagnostic.{Diagnostic}
+use Rattle.node_store.specs.Outward.{numbered_from}
 use Rattle.report_lines.specs.DiagnosticLine.{diagnostic_line}
 use Rattle.report_answers.specs.Found.{Found}
 use Rattle.report_answers.specs.Report.{report_text}
 use Rattle.report_answers.specs.declared.options.Options.{Options}
-use Rattle.table_bounds.specs.Tellable.{AreNumbers, AreTellable, IsTellableDiagnostic}
+use Rattle.table_bounds.specs.Tellable.{IsTellableDiagnostic}
+use Rattle.report_laws.specs.Found.{HaveSameNodes}
+use Rattle.report_laws.proofs.ClassForms.{class_value, classes_back}
 use Rattle.report_laws.proofs.Closed.{BothSame}
-use Rattle.report_laws.proofs.Forms.{end, each, Values, written, AreTold, BeginsAmong}
 use Rattle.report_laws.proofs.Determined.{determined, told_same}
-use Rattle.report_laws.proofs.Lists.{map_back, all_map}
+use Rattle.report_laws.proofs.Forms.{end, each, Values, written, AreTold, BeginsAmong}
+use Rattle.report_laws.proofs.Lists.{numbered, map_back, all_map}
+use Rattle.report_laws.proofs.NodeForms.{node_value, nodes_back, stats_form, stats_value}
+use Rattle.report_laws.proofs.ReportForms.{label_form, place_form, diagnostic_form, tail_form, report_form, label_value, place_value, diagnostic_value, diagnosed, if_asked, tail_value, report_value, diagnostic_written, diagnosed_written, report_written, diagnostic_told, IsTellable, report_told}
 use Rattle.report_laws.proofs.TablesTold.{tables_back}
-use Rattle.report_laws.proofs.ReportForms.{label_form, place_form, diagnostic_form, tail_form, report_form, label_value, place_value, diagnostic_value, diagnosed, tail_value, report_value, diagnostic_written, diagnosed_written, report_written, diagnostic_told, report_told}
 
 place_back : Values place_form → Label
 place_back v = record { span = record { start = v.0; end = v.1.0 }; text = v.1.1.0 }
@@ -41,21 +47,41 @@ diagnosed_begins found = by found.diagnostics
     by (d ∷ ds) = inl (_, diagnostic_written d (flat_map diagnostic_line ds))
 
 -- what the lines before those on diagnostics tell, and these
-pub record ToldBefore (a b : Found) : Type 0 where
+pub record ToldBefore (o q : Options) (a b : Found) (cs ds : List Class) : Type 0 where
   pub tables : a.tables ≡ b.tables
   pub labels : a.labels ≡ b.labels
+  pub nodes : o.nodes ≡ true → q.nodes ≡ true → HaveSameNodes a.nodes b.nodes
+  pub classes : o.classes ≡ true → q.classes ≡ true → cs ≡ ds
+  pub count : o.stats ≡ true → q.stats ≡ true → a.count ≡ b.count
   pub diagnosed : diagnosed a ≡ diagnosed b
 
-pub report_tells : (o p : Options) (a b : Found) → AreTellable a.tables → AreTellable b.tables → AreNumbers a.labels → AreNumbers b.labels → report_text o a ≡ report_text p b → ToldBefore a b
-report_tells o p a b ta tb la lb e =
-    let texts : written report_form (report_value o a) (diagnosed a) ≡ written report_form (report_value p b) (diagnosed b) = sym (report_written o a) ∙ e ∙ report_written p b in
-    let both : BothSame (report_value o a) (report_value p b) (diagnosed a) (diagnosed b) =
-    determined report_form (codes "diag " ∷ []) refl (report_value o a) (report_value p b) (report_told o a ta la) (report_told p b tb lb) (diagnosed a) (diagnosed b) (diagnosed_begins a) (diagnosed_begins b) texts in
-    let parts : (a.tables ≡ b.tables) × (tail_value o a ≡ tail_value p b) = tables_back tail_form a.tables b.tables (tail_value o a) (tail_value p b) ta tb (ap (λ v. v.1) both.0) in
+-- what both are asked for is there
+both_asked : {A B : Type 0} (f : List A → B) (x y : Bool) (xs ys : List A) → x ≡ true → y ≡ true → f (if_asked x xs) ≡ f (if_asked y ys) → f xs ≡ f ys
+both_asked f x y xs ys p q e = sym (ap (λ asked. f (if_asked asked xs)) p) ∙ e ∙ ap (λ asked. f (if_asked asked ys)) q
+
+first_count : (t u : Tables) (m n : ℕ) → map (stats_value t) (m ∷ []) ≡ map (stats_value u) (n ∷ []) → m ≡ n
+first_count t u m n e =
+    let counts : map (λ (v : Values stats_form). v.0) (map (stats_value t) (m ∷ [])) ≡ map (λ (v : Values stats_form). v.0) (map (stats_value u) (n ∷ [])) = ap (map (λ (v : Values stats_form). v.0)) e in
+    cc
+
+pub report_tells : (o q : Options) (a b : Found) (cs ds : List Class) → IsTellable a cs → IsTellable b ds → report_text o a ≡ report_text q b → ToldBefore o q a b cs ds
+report_tells o q a b cs ds ha hb e =
+    let texts : written report_form (report_value o a cs) (diagnosed a) ≡ written report_form (report_value q b ds) (diagnosed b) = sym (report_written o a cs ha.are) ∙ e ∙ report_written q b ds hb.are in
+    let both : BothSame (report_value o a cs) (report_value q b ds) (diagnosed a) (diagnosed b) =
+    determined report_form (codes "diag " ∷ []) refl (report_value o a cs) (report_value q b ds) (report_told o a cs ha) (report_told q b ds hb) (diagnosed a) (diagnosed b) (diagnosed_begins a) (diagnosed_begins b) texts in
+    let parts : (a.tables ≡ b.tables) × (tail_value o a cs ≡ tail_value q b ds) = tables_back tail_form a.tables b.tables (tail_value o a cs) (tail_value q b ds) ha.tables hb.tables (ap (λ v. v.1) both.0) in
+    let nodes : map (node_value a.nodes.parents) (if_asked o.nodes (numbered_from 0 a.nodes.nodes)) ≡ map (node_value b.nodes.parents) (if_asked q.nodes (numbered_from 0 b.nodes.nodes)) = ap (λ v. v.0) both.0 in
+    let classes : numbered class_value 0 (if_asked o.classes cs) ≡ numbered class_value 0 (if_asked q.classes ds) = ap (λ v. v.0) parts.1 in
     let labels : map label_value a.labels ≡ map label_value b.labels = ap (λ v. v.1.0) parts.1 in
+    let counts : map (stats_value a.tables) (if_asked o.stats (a.count ∷ [])) ≡ map (stats_value b.tables) (if_asked q.stats (b.count ∷ [])) = ap (λ v. v.1.1.0) parts.1 in
     record {
       tables = parts.0;
       labels = sym (labels_back a.labels) ∙ ap (map (λ (v : Values label_form). v.0)) labels ∙ labels_back b.labels;
+      nodes = λ x y. nodes_back a.nodes b.nodes ha.nodes hb.nodes
+          (sym (ap (λ asked. map (node_value a.nodes.parents) (if_asked asked (numbered_from 0 a.nodes.nodes))) x) ∙ nodes ∙ ap (λ asked. map (node_value b.nodes.parents) (if_asked asked (numbered_from 0 b.nodes.nodes))) y);
+      classes = λ x y. classes_back cs ds ha.classes hb.classes (both_asked (numbered class_value 0) o.classes q.classes cs ds x y classes);
+      count = λ x y. first_count a.tables b.tables a.count b.count
+          (sym (ap (λ asked. map (stats_value a.tables) (if_asked asked (a.count ∷ []))) x) ∙ counts ∙ ap (λ asked. map (stats_value b.tables) (if_asked asked (b.count ∷ []))) y);
       diagnosed = both.1;
     }
 

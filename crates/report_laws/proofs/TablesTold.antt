@@ -43,7 +43,7 @@ symbol_back v = record {
   redeclarations = listed (map entry_back v.1.1.1.1.1.1.1.0);
 }
 
-number_back : Values (piece number end) → ℕ
+pub number_back : Values (piece number end) → ℕ
 number_back v = v.0
 
 uses_back : Values symbol_form → List ℕ
@@ -55,7 +55,7 @@ reference_back v = record { node_id = v.1.1.0; scope_id = v.1.1.1.0; flags = rec
 free_back : Values free_form → Name × List ℕ
 free_back v = (v.0, map number_back v.1.0)
 
-numbers_back : (ns : List ℕ) → map number_back (map number_value ns) ≡ ns
+pub numbers_back : (ns : List ℕ) → map number_back (map number_value ns) ≡ ns
 unfolding number_back
 numbers_back ns = map_back number_value number_back (λ n. refl) ns
 
@@ -130,7 +130,7 @@ tables_back f t u v w ht hu e =
 
 -- ---- what is told can be read back
 
-numbers_told : (ns : List ℕ) → AreNumbers ns → AllByRecursion (AreTold (piece number end)) (map number_value ns)
+pub numbers_told : (ns : List ℕ) → AreNumbers ns → AllByRecursion (AreTold (piece number end)) (map number_value ns)
 numbers_told ns h = all_map IsNumber (AreTold (piece number end)) number_value (λ n k. (k, tt)) ns h
 
 module _ (t : Tables) (h : AreTellable t) where

@@ -1,11 +1,14 @@
--- What holds of tables and diagnostics of which a report tells all.
+-- What holds of tables, classes, nodes and diagnostics of which a report tells all.
 use Rattle.std.specs.Prelude.{◌≡◌, ℕ, ◌<◌, ◌≤◌, ◌^◌, ◌==◌, ◌||◌, not, Bool, true, List, [], ◌∷◌, Option, Some, None, IfSome, length, codes}
 use Rattle.std.specs.List.{AllByRecursion}
 use Rattle.std.specs.Str.{encode_utf8_all}
 use Rattle.semantic_syntax.specs.declared.references.Reference.{Reference}
 use Rattle.semantic_syntax.specs.declared.references.Redeclaration.{Redeclaration}
-use Rattle.semantic_syntax.specs.FlagNames.{scope_flag_names, symbol_flag_names, reference_flag_names}
+use Rattle.semantic_syntax.specs.FlagNames.{scope_flag_names, symbol_flag_names, reference_flag_names, element_kind_names}
 use Rattle.semantic_syntax.specs.Tables.{Name, Scope, Symbol, Tables}
+use Rattle.semantic_model.specs.Class.{PrivateUse, Class}
+use Rattle.semantic_model.specs.Element.{Element}
+use Rattle.semantic_model.specs.NodeTable.{NodeEntry}
 use Rattle.semantic_diagnostics.specs.declared.diagnostic.Label.{Label}
 use Rattle.semantic_diagnostics.specs.declared.diagnostic.Diagnostic.{Diagnostic}
 
@@ -53,9 +56,9 @@ pub record IsTellableReference (r : Reference) : Type 0 where
 
 -- numbers have no more than 64 bits, all flags have names, each scope has a list of bindings and each symbol one of uses, and no list of redeclarations is empty
 pub record AreTellable (t : Tables) : Type 0 where
-  pub scopes_numbered : length t.scopes ≤ 2 ^ 64
-  pub symbols_numbered : length t.symbols ≤ 2 ^ 64
-  pub references_numbered : length t.references ≤ 2 ^ 64
+  pub scopes_numbered : IsNumber (length t.scopes)
+  pub symbols_numbered : IsNumber (length t.symbols)
+  pub references_numbered : IsNumber (length t.references)
   pub with_bindings : length t.bindings ≡ length t.scopes
   pub with_uses : length t.uses ≡ length t.symbols
   pub scopes : AllByRecursion IsTellableScope t.scopes
@@ -65,6 +68,34 @@ pub record AreTellable (t : Tables) : Type 0 where
   pub uses : AllByRecursion AreNumbers t.uses
   pub free : AllByRecursion (λ (entry : Name × List ℕ). AreNumbers entry.1) t.free
   pub pure_symbols : AreNumbers t.pure_symbols
+
+pub record IsTellableElement (e : Element) : Type 0 where
+  pub start : IsNumber e.span.start
+  pub end : IsNumber e.span.end
+  pub flags : HaveNames element_kind_names e.kind.bits
+
+pub record IsTellableUse (u : PrivateUse) : Type 0 where
+  pub id : IsNumber u.id
+  pub start : IsNumber u.span.start
+  pub end : IsNumber u.span.end
+  pub element_ids : AreNumbers u.element_ids
+
+pub record IsTellableClass (c : Class) : Type 0 where
+  pub node : IsNumber c.node
+  pub parent : IfSome c.parent IsNumber
+  pub elements_numbered : length c.elements ≤ 2 ^ 64
+  pub elements : AllByRecursion IsTellableElement c.elements
+  pub uses : AllByRecursion IsTellableUse c.uses
+
+-- numbers have no more than 64 bits, and all flags have names
+pub record AreTellableClasses (classes : List Class) : Type 0 where
+  pub numbered : length classes ≤ 2 ^ 64
+  pub each : AllByRecursion IsTellableClass classes
+
+-- where a node stands, and its parent
+pub record IsTellableNode (entry : NodeEntry) : Type 0 where
+  pub scope : IsNumber entry.scope
+  pub parent : IsNumber entry.parent
 
 -- a byte that stands in no gap between words
 abbrev pub no_gap : ℕ → Bool

@@ -35,9 +35,13 @@ HasNumbers span = IsNumber span.start × IsNumber span.end
 pub numbers : (span : Span) → IsShort span → HasNumbers span
 numbers span h = (omega (arith, h.start), omega (arith, h.end))
 
+-- it holds of a node and of those below it
+abbrev pub AreAll : (Node → Type 0) → Node → Type 0
+AreAll P x = (y : Node) → Among y (nodes_from x) → P y
+
 -- the spans of a node and of those below it are short
 abbrev pub AreShort : Node → Type 0
-AreShort x = (y : Node) → Among y (nodes_from x) → IsShort y.span
+AreShort x = AreAll (λ y. IsShort y.span) x
 
 pub own_short : (x : Node) → AreShort x → IsShort x.span
 own_short x h = h x (inl refl)
@@ -45,15 +49,22 @@ own_short x h = h x (inl refl)
 pub own : (x : Node) → AreShort x → HasNumbers x.span
 own x h = numbers x.span (own_short x h)
 
+module _ (P : Node → Type 0) where
+  pub children_with : (r : Role) (node : Node) → AreAll P node → AllByRecursion (AreAll P) (all_in r node)
+  children_with r node h = all_among (AreAll P) (children_of r node.children) (λ child a y b. h y (inr (child_in r node.children child a y b)))
+
+  pub child_with : (r : Role) (node : Node) → AreAll P node → IfSome (child_of r node) (AreAll P)
+  child_with r node h = by (all_in r node) (children_with r node h)
+    where
+      by : (xs : List Node) → AllByRecursion (AreAll P) xs → IfSome (first_of xs) (AreAll P)
+      by [] k = tt
+      by (x ∷ xs) k = k.0
+
 pub children : (r : Role) (node : Node) → AreShort node → AllByRecursion AreShort (all_in r node)
-children r node h = all_among AreShort (children_of r node.children) (λ child a y b. h y (inr (child_in r node.children child a y b)))
+children r node h = children_with (λ y. IsShort y.span) r node h
 
 pub child : (r : Role) (node : Node) → AreShort node → IfSome (child_of r node) AreShort
-child r node h = by (all_in r node) (children r node h)
-  where
-    by : (xs : List Node) → AllByRecursion AreShort xs → IfSome (first_of xs) AreShort
-    by [] k = tt
-    by (x ∷ xs) k = k.0
+child r node h = child_with (λ y. IsShort y.span) r node h
 
 -- the names that a forest binds
 names_below : (parent : AstType) (f : Forest) → ((y : Node) → Among y (nodes_below f) → IsShort y.span) → AllByRecursion AreShort (bound_below parent f)

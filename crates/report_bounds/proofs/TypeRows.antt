@@ -20,8 +20,8 @@ use Rattle.check_model.specs.Sight.{Sight}
 use Rattle.check_model.specs.Surroundings.{is_script}
 use Rattle.check_model.specs.Types.{is_at_start, unmarked_text, jsdoc_rows, check_ts_type_annotation, is_predicate_path, check_ts_type_predicate, extends_over, check_ts_infer_type, counts_on, last_initializer, member_rows, enum_rows, check_ts_enum_declaration}
 use Rattle.table_bounds.proofs.Lists.{all_filtered}
-use Rattle.diagnostic_bounds.proofs.Rows.{HasNumbers, AreShort, numbers, own_short, own, children, child, inside_wrappers, all_first, Fine, AllFine, row, rows, pick, both, some, each, after, plain_word}
-use Rattle.diagnostic_bounds.proofs.Sights.{IsFine}
+use Rattle.report_bounds.proofs.Rows.{HasNumbers, AreShort, numbers, own_short, own, children, child, inside_wrappers, all_first, Fine, AllFine, row, rows, pick, both, some, each, after, plain_word}
+use Rattle.report_bounds.proofs.Sights.{IsFine}
 use Rattle.table_bounds.proofs.Nodes.{IsShort}
 
 -- ---- export assignments

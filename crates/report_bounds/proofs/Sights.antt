@@ -15,7 +15,7 @@ use Rattle.check_model.specs.Sight.{Sight, entries_in, entries_of}
 use Rattle.check_model.specs.Surroundings.{first_bytes}
 use Rattle.table_bounds.specs.Tellable.{IsTellableEntry, AreTellableEntries, IsTellableSymbol}
 use Rattle.table_bounds.proofs.Nodes.{IsShort}
-use Rattle.diagnostic_bounds.proofs.Rows.{HasNumbers, AreShort, all_there, all_taken}
+use Rattle.report_bounds.proofs.Rows.{HasNumbers, AreShort, all_there, all_taken}
 
 -- all that is seen has short spans, or spans of numbers that are told
 pub record IsFine (s : Sight) : Type 0 where

@@ -11,11 +11,11 @@ use Rattle.check_model.specs.Names.{check_binding_identifier, check_identifier_r
 use Rattle.check_model.specs.Rows.{own_identifier_rows, body_rows, labelled_body_rows, left_rows, rows_by, rows_of}
 use Rattle.check_model.specs.Sight.{Sight}
 use Rattle.check_model.specs.Variables.{check_for_of_statement}
-use Rattle.diagnostic_bounds.proofs.ClassRows as classes
-use Rattle.diagnostic_bounds.proofs.NameRows as names
-use Rattle.diagnostic_bounds.proofs.Rows.{AllFine, both}
-use Rattle.diagnostic_bounds.proofs.Sights.{IsFine}
-use Rattle.diagnostic_bounds.proofs.TypeRows as types
+use Rattle.report_bounds.proofs.ClassRows as classes
+use Rattle.report_bounds.proofs.NameRows as names
+use Rattle.report_bounds.proofs.Rows.{AllFine, both}
+use Rattle.report_bounds.proofs.Sights.{IsFine}
+use Rattle.report_bounds.proofs.TypeRows as types
 
 by_kind : (k : AstType) (s : Sight) → IsFine s → AllFine (rows_by k s)
 by_kind kinds.Program s f = classes.program s f

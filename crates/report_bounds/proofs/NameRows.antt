@@ -28,8 +28,8 @@ use Rattle.check_model.specs.Surroundings.{scope_passes, is_strict, is_in_functi
 use Rattle.check_model.specs.TypedLoops as typed
 use Rattle.check_model.specs.Variables.{check_for_of_statement, is_bad_initializer, loop_name, head_rows, check_for_statement_left, is_using, check_variable_declaration, lets_var_redeclare, name_rows, check_variable_declarator_redeclaration}
 use Rattle.table_bounds.specs.Tellable.{IsTellableEntry}
-use Rattle.diagnostic_bounds.proofs.Rows.{HasNumbers, AreShort, own_short, own, children, child, names, all_found, all_found_before, all_only, Fine, AllFine, one, row, rows, choice, both, some, each, plain_word}
-use Rattle.diagnostic_bounds.proofs.Sights.{IsFine, first_numbers, entries_of_fine, before_fine}
+use Rattle.report_bounds.proofs.Rows.{HasNumbers, AreShort, own_short, own, children, child, names, all_found, all_found_before, all_only, Fine, AllFine, one, row, rows, choice, both, some, each, plain_word}
+use Rattle.report_bounds.proofs.Sights.{IsFine, first_numbers, entries_of_fine, before_fine}
 
 -- ---- names
 

@@ -38,9 +38,9 @@ use Rattle.check_model.specs.Super.{Verdict, allowed, allowed_unless_call, allow
 use Rattle.check_model.specs.Surroundings.{parent, is_strict, is_module, is_typescript, is_in_static_block, is_under, node_of, outward, text_at, first_bytes}
 use Rattle.table_bounds.specs.Tellable.{IsTellableEntry, IsTellableSymbol}
 use Rattle.table_bounds.proofs.Lists.{all_filtered}
-use Rattle.diagnostic_bounds.proofs.Rows.{HasNumbers, AreShort, own_short, own, children, child, inside_wrappers, names, all_found, all_found_last, all_first, all_last, all_neighbours, all_mapped, all_flat, Fine, AllFine, one, row, rows, choice, pick, both, some, each, after, between, plain_word}
-use Rattle.diagnostic_bounds.proofs.Sights.{IsFine, first_numbers, entry_numbers, entries_fine, entries_of_fine, before_fine, earlier_fine}
-use Rattle.diagnostic_bounds.proofs.TypeRows.{export_assignment}
+use Rattle.report_bounds.proofs.Rows.{HasNumbers, AreShort, own_short, own, children, child, inside_wrappers, names, all_found, all_found_last, all_first, all_last, all_neighbours, all_mapped, all_flat, Fine, AllFine, one, row, rows, choice, pick, both, some, each, after, between, plain_word}
+use Rattle.report_bounds.proofs.Sights.{IsFine, first_numbers, entry_numbers, entries_fine, entries_of_fine, before_fine, earlier_fine}
+use Rattle.report_bounds.proofs.TypeRows.{export_assignment}
 
 members_short : (class : Node) → AreShort class → AllByRecursion AreShort (members class)
 members_short class h = all_flat AreShort AreShort (all_in roles.Body) (all_in roles.Body class) (λ body k. children roles.Body body k) (children roles.Body class h)
