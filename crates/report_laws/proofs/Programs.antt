@@ -1,12 +1,13 @@
 -- The reports of programs.
-use Rattle.std.proofs.Common.{◌≡◌, ◌≤◌, Bool, true, false, if◌then◌else◌, List, [], None, length, refl, sym, ap, ◌∙◌, subst, arith}
+use Rattle.std.proofs.Common.{◌≡◌, ℕ, ◌≤◌, Bool, true, false, if◌then◌else◌, List, [], None, length, refl, sym, ap, ◌∙◌, subst, arith}
 use Rattle.std.specs.List.{AllByRecursion}
 use Rattle.std.proofs.lemmas.List.{length-map}
 use Rattle.semantic_tree.specs.Children.{node_count}
 use Rattle.semantic_tree.specs.Faults.{first_fault}
 use Rattle.semantic_tree.specs.Forest.{count}
 use Rattle.semantic_tree.specs.Tree.{Tree, IsNumbered}
-use Rattle.semantic_tree.proofs.ShapedLaws.{no_fault-IsShaped}
+use Rattle.semantic_tree.specs.Shaped.{IsShaped}
+use Rattle.semantic_tree.proofs.ShapedLaws.{no_fault-IsShaped, IsShaped-no_fault}
 use Rattle.semantic_model.specs.Class.{Class, classes}
 use Rattle.semantic_model.specs.Cursor.{on_entering}
 use Rattle.semantic_model.specs.NodeTable.{NodeEntry, nodes as entered_nodes}
@@ -18,8 +19,13 @@ use Rattle.walk_notes.specs.NoteLists.{classes_noted}
 use Rattle.semantic_walk.specs.Listed.{seen_of, kept_nodes}
 use Rattle.semantic_walk.proofs.Listing.{nodes_within, count_nodes}
 use Rattle.report_answers.specs.Found.{Found}
-use Rattle.report_answers.specs.Report.{report_text}
+use Rattle.report_answers.specs.Report.{options_of, report_text, text_by}
 use Rattle.report_answers.specs.declared.options.Options.{Options}
+use Rattle.report_answers.specs.declared.request.Request.{Request}
+use Rattle.program_ends.specs.Meaning.{End}
+use Rattle.program_ends.specs.Reads.{Stands}
+use Rattle.report.specs.Built.{found_of}
+use Rattle.report.specs.Meaning.{Answers}
 use Rattle.table_bounds.specs.Tellable.{IsNumber, AreNumbers, AreTellable, AreTellableClasses, IsTellableNode, IsTellableDiagnostic}
 use Rattle.table_bounds.proofs.Tables.{labels_tellable, tables_tellable}
 use Rattle.report_bounds.proofs.ClassElements.{classes_bounded}
@@ -94,3 +100,31 @@ reports_lose_nothing o q p r a b h k e =
       classes = λ x y. h.classes ∙ noted_lists h.notes p ∙ ap lists_told (before.classes x y) ∙ sym (k.classes ∙ noted_lists k.notes r);
       count = before.count;
     }
+
+-- ---- answers
+
+-- what is answered about a program was found in it
+found_answered : (asked : Request) (x : End) (p : Tree) (text : List ℕ) → IsShaped p → IsNumbered p.root → (h : Answers asked x p text) → IsFoundIn p (found_of p h.tables h.diagnostics)
+found_answered asked x p text shaped numbered h = record {
+  faultless = IsShaped-no_fault p shaped;
+  numbered = numbered;
+  checks = asked.check;
+  notes = true;
+  keeps = true;
+  nodes = refl;
+  tables = h.built.tables;
+  classes = refl;
+  labels = refl;
+  count = refl;
+  diagnostics = h.built.told_of;
+}
+
+-- the answer is a report
+report_answered : (asked : Request) (x : End) (p : Tree) (text : List ℕ) → asked.make ≡ None → (h : Answers asked x p text) → text ≡ report_text (options_of asked) (found_of p h.tables h.diagnostics)
+report_answered asked x p text read h = h.told ∙ ap (λ make. text_by make (options_of asked) (found_of p h.tables h.diagnostics)) read
+
+pub answers_lose_nothing : (input other : List ℕ) (p r : Tree) (asked also : Request) (x y : End) (text : List ℕ) → Stands input p → Stands other r → asked.make ≡ None → also.make ≡ None
+    → (h : Answers asked x p text) (k : Answers also y r text) → TellTheSame (options_of asked) (options_of also) (found_of p h.tables h.diagnostics) (found_of r k.tables k.diagnostics)
+answers_lose_nothing input other p r asked also x y text s t read also_read h k =
+    reports_lose_nothing (options_of asked) (options_of also) p r (found_of p h.tables h.diagnostics) (found_of r k.tables k.diagnostics) (found_answered asked x p text s.shaped s.numbered h) (found_answered also y r text t.shaped t.numbered k)
+    (sym (report_answered asked x p text read h) ∙ report_answered also y r text also_read k)
