@@ -1,0 +1,14 @@
+pub mod Closed
+pub mod Escaped
+pub mod Utf8
+pub mod FlagNames
+pub mod Forms
+pub mod Determined
+pub mod Lists
+pub mod TableForms
+pub mod TablesTold
+pub mod ClassForms
+pub mod NodeForms
+pub mod ReportForms
+pub mod ReportTold
+pub mod Programs
