@@ -29,7 +29,7 @@ use Rattle.check_model.specs.SightOf.{bodies_of, uses_if, uses_at, elements_if, 
 use Rattle.class_table.proofs.Room.{elements_fit_trees, trees_fit}
 use Rattle.class_table.proofs.Noting.{classes_fit}
 use Rattle.program_laws.proofs.TreeNodes.{nodes_below, child_in}
-use Rattle.table_bounds.specs.Tellable.{IsNumber, AreNumbers, HaveNames, IsTellableElement, IsTellableUse, IsTellableClass, AreTellableClasses}
+use Rattle.table_bounds.specs.Tellable.{IsWrittenWhole, AreNumbers, HaveNames, IsTellableElement, IsTellableUse, IsTellableClass, AreTellableClasses}
 use Rattle.table_bounds.proofs.Lists.{all_among}
 use Rattle.table_bounds.proofs.Nodes.{IsBounded, bounded_nodes}
 use Rattle.report_bounds.proofs.Rows.{HasNumbers, AreAll, child_with, all_mapped, all_flat, all_taken}
@@ -92,7 +92,7 @@ matches_small n name b (e ∷ es) few = by (is_named name b e) (stands_alone e) 
     by false d later = later
 
 ids_small : (es : List Element) (name : Name) (b : Bool) → length es ≤ 2 ^ 64 → AreNumbers (element_ids es name b)
-ids_small es name b few = all_taken IsNumber 2 (matches_from 0 name b es) (matches_small 0 name b es (omega (arith, few)))
+ids_small es name b few = all_taken IsWrittenWhole 2 (matches_from 0 name b es) (matches_small 0 name b es (omega (arith, few)))
 
 uses_tellable : (es : List Element) (parent : AstType) (f : Forest) → length es ≤ 2 ^ 64 → ((y : Node) → Among y (nodes_below f) → IsBounded y) → AllByRecursion IsTellableUse (uses_below es parent f)
 uses_tellable es parent nothing few h = tt
@@ -117,11 +117,11 @@ uses_tellable es parent (tree r k span text marks below id after) few h =
 
 -- ---- classes
 
-around_small : (b : Bool) (n : ℕ) (around : Option ℕ) → IsNumber n → IfSome around IsNumber → IfSome (cond b (Some n) around) IsNumber
+around_small : (b : Bool) (n : ℕ) (around : Option ℕ) → IsWrittenWhole n → IfSome around IsWrittenWhole → IfSome (cond b (Some n) around) IsWrittenWhole
 around_small true n around h k = h
 around_small false n around h k = k
 
-classes_tellable : (n : ℕ) (around : Option ℕ) (node : ℕ) (f : Forest) → n + body_count f ≤ 4294967294 → count f ≤ 4294967294 → IfSome around IsNumber → IsNumber node → ((y : Node) → Among y (nodes_below f) → IsBounded y)
+classes_tellable : (n : ℕ) (around : Option ℕ) (node : ℕ) (f : Forest) → n + body_count f ≤ 4294967294 → count f ≤ 4294967294 → IfSome around IsWrittenWhole → IsWrittenWhole node → ((y : Node) → Among y (nodes_below f) → IsBounded y)
     → AllByRecursion IsTellableClass (classes_below n around node f)
 classes_tellable n around node nothing fits few k l h = tt
 classes_tellable n around node (tree r k span text marks below id after) fits few outer at h =

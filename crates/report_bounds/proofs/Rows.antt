@@ -22,7 +22,7 @@ use Rattle.semantic_model.specs.Entries.{Among}
 use Rattle.semantic_model.proofs.lists.Members.{among_left, among_right}
 use Rattle.check_model.specs.Search.{rows_if, row_if, rows_of_some, first, only, last, find_last, find_before, each_after, each_between, neighbours}
 use Rattle.program_laws.proofs.TreeNodes.{nodes_below, nodes_from, child_in}
-use Rattle.table_bounds.specs.Tellable.{IsNumber, no_gap, IsPlainWord, IsTellableDiagnostic}
+use Rattle.table_bounds.specs.Tellable.{IsWrittenWhole, no_gap, IsPlainWord, IsTellableDiagnostic}
 use Rattle.semantic_syntax.proofs.Every.{every-append}
 use Rattle.table_bounds.proofs.Lists.{all_among}
 use Rattle.table_bounds.proofs.Nodes.{IsShort}
@@ -30,7 +30,7 @@ use Rattle.table_bounds.proofs.Nodes.{IsShort}
 -- ---- spans and nodes
 
 abbrev pub HasNumbers : Span → Type 0
-HasNumbers span = IsNumber span.start × IsNumber span.end
+HasNumbers span = IsWrittenWhole span.start × IsWrittenWhole span.end
 
 pub numbers : (span : Span) → IsShort span → HasNumbers span
 numbers span h = (omega (arith, h.start), omega (arith, h.end))

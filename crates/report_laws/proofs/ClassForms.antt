@@ -12,7 +12,7 @@ use Rattle.class_table.proofs.Fitting.{told_parent}
 use Rattle.report_ends.specs.Streams.{numbered_text}
 use Rattle.report_lines.specs.Pieces as pieces
 use Rattle.report_lines.specs.ClassLines.{privacy, ownership, class_line, element_head, element_end, element_line, private_use_text, private_use_line, class_lines, all_class_lines}
-use Rattle.table_bounds.specs.Tellable.{IsNumber, IsTellableElement, IsTellableUse, IsTellableClass, AreTellableClasses}
+use Rattle.table_bounds.specs.Tellable.{IsWrittenWhole, IsTellableElement, IsTellableUse, IsTellableClass, AreTellableClasses}
 use Rattle.report_laws.proofs.Forms.{number, number_or_dash, name, flags, truth, Form, end, word, piece, each, Values, text_of, written, AreTold}
 use Rattle.report_laws.proofs.Lists.{concat_onto, numbered, each_line, numbered_lines, map_back, numbered_back, all_map, all_numbered}
 use Rattle.report_laws.proofs.TableForms.{numbers_form, span_form, number_value, numbers_end, span_written}
@@ -125,10 +125,10 @@ module _ (cs : List Class) where
 
 -- ---- what is told can be read back
 
-element_told : (class : ℕ) → IsNumber class → (n : ℕ) (e : Element) → n < 2 ^ 64 → IsTellableElement e → AreTold element_form (element_value class n e)
+element_told : (class : ℕ) → IsWrittenWhole class → (n : ℕ) (e : Element) → n < 2 ^ 64 → IsTellableElement e → AreTold element_form (element_value class n e)
 element_told class at n e small h = (at, (small, (tt, (h.start, (h.end, (tt, (tt, (h.flags, tt))))))))
 
-use_told : (class : ℕ) → IsNumber class → (u : PrivateUse) → IsTellableUse u → AreTold use_form (use_value class u)
+use_told : (class : ℕ) → IsWrittenWhole class → (u : PrivateUse) → IsTellableUse u → AreTold use_form (use_value class u)
 use_told class at u h = (at, (h.id, (tt, (h.start, (h.end, (numbers_told u.element_ids h.element_ids, tt))))))
 
 pub class_told : (i : ℕ) (c : Class) → i < 2 ^ 64 → IsTellableClass c → AreTold class_form (class_value i c)

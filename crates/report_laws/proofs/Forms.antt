@@ -7,7 +7,7 @@ use Rattle.semantic_kinds.specs.declared.kind.AstType.{AstType}
 use Rattle.report_lines.specs.Pieces as pieces
 use Rattle.report_laws.proofs.Closed.{apart}
 use Rattle.report_laws.proofs.FlagNames.{are_names, all_words}
-use Rattle.table_bounds.specs.Tellable.{no_gap, IsNumber, HaveNames, IsPlainWord}
+use Rattle.table_bounds.specs.Tellable.{no_gap, IsWrittenWhole, HaveNames, IsPlainWord}
 
 -- a piece of a line
 pub data Piece : Type 0 where
@@ -62,8 +62,8 @@ is_part kind_word = no_gap
 
 -- what is told can be read back
 abbrev pub IsTold : (p : Piece) → Told p → Type 0
-IsTold number n = IsNumber n
-IsTold number_or_dash o = IfSome o IsNumber
+IsTold number n = IsWrittenWhole n
+IsTold number_or_dash o = IfSome o IsWrittenWhole
 IsTold name text = Unit {0}
 IsTold name_or_dash o = Unit {0}
 IsTold word_or_dash o = IfSome o IsPlainWord

@@ -8,7 +8,7 @@ use Rattle.semantic_syntax.specs.Tables.{Tables}
 use Rattle.node_store.specs.NodeList.{NodeList, SeenNode}
 use Rattle.node_store.specs.Outward.{numbered_from}
 use Rattle.report_lines.specs.CountLines.{node_line, node_line_by, counts_text, counts_of, stats_line}
-use Rattle.table_bounds.specs.Tellable.{IsNumber, AreNumbers, AreTellable}
+use Rattle.table_bounds.specs.Tellable.{IsWrittenWhole, AreNumbers, AreTellable}
 use Rattle.report_laws.specs.Found.{HaveSameNodes}
 use Rattle.report_laws.proofs.Forms.{number, kind_word, Form, end, word, piece, Values, written, AreTold}
 use Rattle.report_laws.proofs.Lists.{concat_onto, numbered, numbered_map, beside_back, all_numbered}
@@ -30,7 +30,7 @@ node_written parents n rest =
 pub record AreTellableNodes (list : NodeList) : Type 0 where
   pub numbered : length list.nodes ≤ 2 ^ 64
   pub with_parents : length list.parents ≡ length list.nodes
-  pub scopes : AllByRecursion (λ (s : SeenNode). IsNumber s.scope) list.nodes
+  pub scopes : AllByRecursion (λ (s : SeenNode). IsWrittenWhole s.scope) list.nodes
   pub parents : AreNumbers list.parents
 
 abbrev node_here : List ℕ → ℕ → SeenNode → Values node_form
@@ -40,11 +40,11 @@ numbered_pairs : (parents : List ℕ) (i : ℕ) (ss : List SeenNode) → map (no
 numbered_pairs parents i [] = refl
 numbered_pairs parents i (s ∷ ss) = ap (λ more. node_value parents (i, s) ∷ more) (numbered_pairs parents (i + 1) ss)
 
-node_told : (list : NodeList) → AreTellableNodes list → (n : ℕ) (s : SeenNode) → n < 2 ^ 64 → IsNumber s.scope → AreTold node_form (node_here list.parents n s)
-node_told list h n s small scope = (small, (tt, (every-or IsNumber 0 list.parents n h.parents (omega arith), (scope, tt))))
+node_told : (list : NodeList) → AreTellableNodes list → (n : ℕ) (s : SeenNode) → n < 2 ^ 64 → IsWrittenWhole s.scope → AreTold node_form (node_here list.parents n s)
+node_told list h n s small scope = (small, (tt, (every-or IsWrittenWhole 0 list.parents n h.parents (omega arith), (scope, tt))))
 
 all_nodes_told : (list : NodeList) → AreTellableNodes list → AllByRecursion (AreTold node_form) (numbered (node_here list.parents) 0 list.nodes)
-all_nodes_told list h = all_numbered (λ (s : SeenNode). IsNumber s.scope) (AreTold node_form) (node_here list.parents) (2 ^ 64) (node_told list h) 0 list.nodes (omega (arith, h.numbered)) h.scopes
+all_nodes_told list h = all_numbered (λ (s : SeenNode). IsWrittenWhole s.scope) (AreTold node_form) (node_here list.parents) (2 ^ 64) (node_told list h) 0 list.nodes (omega (arith, h.numbered)) h.scopes
 
 pub nodes_told : (list : NodeList) → AreTellableNodes list → AllByRecursion (AreTold node_form) (map (node_value list.parents) (numbered_from 0 list.nodes))
 nodes_told list h = subst (AllByRecursion (AreTold node_form)) (sym (numbered_pairs list.parents 0 list.nodes)) (all_nodes_told list h)
@@ -92,5 +92,5 @@ unfolding stats_line
 stats_written t count rest =
     concat_onto (codes "stats" ∷ counts_of count t ∷ codes "\n" ∷ []) rest ∙ ap (λ more. codes "stats" ++ more) (counts_written count (length t.scopes) (length t.symbols) (length t.references) (codes "\n" ++ rest))
 
-pub stats_told : (t : Tables) (count : ℕ) → AreTellable t → IsNumber count → AreTold stats_form (stats_value t count)
+pub stats_told : (t : Tables) (count : ℕ) → AreTellable t → IsWrittenWhole count → AreTold stats_form (stats_value t count)
 stats_told t count h small = (small, (h.scopes_numbered, (h.symbols_numbered, (h.references_numbered, tt))))

@@ -26,7 +26,7 @@ use Rattle.program_ends.specs.Meaning.{End}
 use Rattle.program_ends.specs.Reads.{Stands}
 use Rattle.report.specs.Built.{found_of}
 use Rattle.report.specs.Meaning.{Answers}
-use Rattle.table_bounds.specs.Tellable.{IsNumber, AreNumbers, AreTellable, AreTellableClasses, IsTellableNode, IsTellableDiagnostic}
+use Rattle.table_bounds.specs.Tellable.{IsWrittenWhole, AreNumbers, AreTellable, AreTellableClasses, IsTellableNode, IsTellableDiagnostic}
 use Rattle.table_bounds.proofs.Tables.{labels_tellable, tables_tellable}
 use Rattle.report_bounds.proofs.ClassElements.{classes_bounded}
 use Rattle.report_bounds.proofs.Told.{diagnostics_tellable, nodes_tellable}
@@ -55,8 +55,8 @@ nodes_there true p faultless numbered =
     record {
       numbered = omega (arith, length-map entries seen_of, as_many p, few);
       with_parents = length-map entries (λ (entry : NodeEntry). entry.parent) ∙ sym (length-map entries seen_of);
-      scopes = all_map IsTellableNode (λ (s : SeenNode). IsNumber s.scope) seen_of (λ entry h. h.scope) entries each;
-      parents = all_map IsTellableNode IsNumber (λ (entry : NodeEntry). entry.parent) (λ entry h. h.parent) entries each;
+      scopes = all_map IsTellableNode (λ (s : SeenNode). IsWrittenWhole s.scope) seen_of (λ entry h. h.scope) entries each;
+      parents = all_map IsTellableNode IsWrittenWhole (λ (entry : NodeEntry). entry.parent) (λ entry h. h.parent) entries each;
     }
 
 -- ---- classes

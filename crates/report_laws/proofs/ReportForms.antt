@@ -17,7 +17,7 @@ use Rattle.report_lines.specs.DiagnosticLine.{said_or_dash, label_text, diagnost
 use Rattle.report_answers.specs.Found.{Found}
 use Rattle.report_answers.specs.Report.{where_asked, noted_text, counted_text, report_text}
 use Rattle.report_answers.specs.declared.options.Options.{Options}
-use Rattle.table_bounds.specs.Tellable.{AreNumbers, IsNumber, AreTellable, IsTellableClass, AreTellableClasses, IsTellableLabel, IsTellableDiagnostic}
+use Rattle.table_bounds.specs.Tellable.{AreNumbers, IsWrittenWhole, AreTellable, IsTellableClass, AreTellableClasses, IsTellableLabel, IsTellableDiagnostic}
 use Rattle.report_laws.proofs.ClassForms.{class_form, class_value, class_text, class_written, classes_text, class_told}
 use Rattle.report_laws.proofs.Forms.{number, name, name_or_dash, word_or_dash, Form, end, word, piece, each, Values, written, AreTold}
 use Rattle.report_laws.proofs.Lists.{concat_onto, numbered, each_line, numbered_lines, all_map, all_numbered}
@@ -146,7 +146,7 @@ pub record IsTellable (found : Found) (cs : List Class) : Type 0 where
   pub tables : AreTellable found.tables
   pub classes : AreTellableClasses cs
   pub labels : AreNumbers found.labels
-  pub count : IsNumber found.count
+  pub count : IsWrittenWhole found.count
 
 if_asked_all : {A : Type 0} (P : A → Type 0) (asked : Bool) (xs : List A) → AllByRecursion P xs → AllByRecursion P (if_asked asked xs)
 if_asked_all P true xs h = h
@@ -164,8 +164,8 @@ tail_told : (o : Options) (found : Found) (cs : List Class) → IsTellable found
 tail_told o found cs h = (
   all_numbered IsTellableClass (AreTold class_form) class_value (2 ^ 64) class_told 0 (if_asked o.classes cs) (omega (arith, if_asked_few o.classes cs h.classes.numbered)) (if_asked_all IsTellableClass o.classes cs h.classes.each),
   (
-    all_map IsNumber (AreTold label_form) label_value (λ n k. (k, tt)) found.labels h.labels,
-    (all_map IsNumber (AreTold stats_form) (stats_value found.tables) (λ n k. stats_told found.tables n h.tables k) (if_asked o.stats (found.count ∷ [])) (if_asked_all IsNumber o.stats (found.count ∷ []) (h.count, tt)), tt),
+    all_map IsWrittenWhole (AreTold label_form) label_value (λ n k. (k, tt)) found.labels h.labels,
+    (all_map IsWrittenWhole (AreTold stats_form) (stats_value found.tables) (λ n k. stats_told found.tables n h.tables k) (if_asked o.stats (found.count ∷ [])) (if_asked_all IsWrittenWhole o.stats (found.count ∷ []) (h.count, tt)), tt),
   ),
 )
 

@@ -6,7 +6,7 @@ use Rattle.semantic_syntax.specs.declared.references.Reference.{Reference}
 use Rattle.semantic_syntax.specs.declared.references.Redeclaration.{Redeclaration}
 use Rattle.semantic_syntax.specs.Tables.{Name, Scope, Symbol, Bindings, FreeLists, Tables}
 use Rattle.semantic_syntax.specs.Reading.{bindings_of, uses_of}
-use Rattle.table_bounds.specs.Tellable.{IsNumber, AreNumbers, AreTellableEntries, IsTellableScope, IsTellableEntry, IsTellableSymbol, IsTellableReference, AreTellable}
+use Rattle.table_bounds.specs.Tellable.{IsWrittenWhole, AreNumbers, AreTellableEntries, IsTellableScope, IsTellableEntry, IsTellableSymbol, IsTellableReference, AreTellable}
 use Rattle.report_laws.proofs.Forms.{number, Form, end, piece, Values, written, AreTold}
 use Rattle.semantic_syntax.proofs.Every.{every-or}
 use Rattle.report_laws.proofs.Lists.{numbered, map_back, numbered_back, beside_back, all_map, all_numbered}
@@ -131,28 +131,28 @@ tables_back f t u v w ht hu e =
 -- ---- what is told can be read back
 
 pub numbers_told : (ns : List ℕ) → AreNumbers ns → AllByRecursion (AreTold (piece number end)) (map number_value ns)
-numbers_told ns h = all_map IsNumber (AreTold (piece number end)) number_value (λ n k. (k, tt)) ns h
+numbers_told ns h = all_map IsWrittenWhole (AreTold (piece number end)) number_value (λ n k. (k, tt)) ns h
 
 module _ (t : Tables) (h : AreTellable t) where
-  binds_told : (i : ℕ) → IsNumber i → AllByRecursion (AreTold bind_form) (map (bind_value i) (bindings_of t i))
+  binds_told : (i : ℕ) → IsWrittenWhole i → AllByRecursion (AreTold bind_form) (map (bind_value i) (bindings_of t i))
   binds_told i small =
-      all_map (λ (b : Name × ℕ). IsNumber b.1) (AreTold bind_form) (bind_value i) (λ b k. (small, (tt, (k, tt)))) (bindings_of t i)
-      (every-or (AllByRecursion (λ (b : Name × ℕ). IsNumber b.1)) [] t.bindings i h.bindings tt)
+      all_map (λ (b : Name × ℕ). IsWrittenWhole b.1) (AreTold bind_form) (bind_value i) (λ b k. (small, (tt, (k, tt)))) (bindings_of t i)
+      (every-or (AllByRecursion (λ (b : Name × ℕ). IsWrittenWhole b.1)) [] t.bindings i h.bindings tt)
 
-  scope_told : (i : ℕ) (s : Scope) → IsNumber i → IsTellableScope s → AreTold scope_form (scope_value t i s)
+  scope_told : (i : ℕ) (s : Scope) → IsWrittenWhole i → IsTellableScope s → AreTold scope_form (scope_value t i s)
   scope_told i s small k = (small, (k.parent, (k.node, (k.flags, (binds_told i small, tt)))))
 
-  entries_told : (i : ℕ) → IsNumber i → (o : Option (List Redeclaration)) → AreTellableEntries o → AllByRecursion (AreTold entry_form) (map (entry_value i) (unwrap_or o []))
+  entries_told : (i : ℕ) → IsWrittenWhole i → (o : Option (List Redeclaration)) → AreTellableEntries o → AllByRecursion (AreTold entry_form) (map (entry_value i) (unwrap_or o []))
   entries_told i small None k = tt
   entries_told i small (Some []) k = absurd k
   entries_told i small (Some (e ∷ es)) k =
       all_map IsTellableEntry (AreTold entry_form) (entry_value i) (λ e told. (small, (told.declaration, (told.start, (told.end, (told.flags, tt)))))) (e ∷ es) k
 
-  symbol_told : (i : ℕ) (y : Symbol) → IsNumber i → IsTellableSymbol y → AreTold symbol_form (symbol_value t i y)
+  symbol_told : (i : ℕ) (y : Symbol) → IsWrittenWhole i → IsTellableSymbol y → AreTold symbol_form (symbol_value t i y)
   symbol_told i y small k =
       (small, (tt, (k.scope, (k.node, (k.start, (k.end, (k.flags, (entries_told i small y.redeclarations k.redeclarations, (small, (numbers_told (uses_of t i) (every-or AreNumbers [] t.uses i h.uses tt), tt))))))))))
 
-  reference_told : (i : ℕ) (r : Reference) → IsNumber i → IsTellableReference r → AreTold reference_form (reference_value t i r)
+  reference_told : (i : ℕ) (r : Reference) → IsWrittenWhole i → IsTellableReference r → AreTold reference_form (reference_value t i r)
   reference_told i r small k = (small, (tt, (k.node, (k.scope, (k.flags, (k.symbol, tt))))))
 
   pub tables_told : (f : Form) (v : Values f) → AreTold f v → AreTold (table_form f) (table_value f t v)
@@ -161,7 +161,7 @@ module _ (t : Tables) (h : AreTellable t) where
     (
       all_numbered IsTellableSymbol (AreTold symbol_form) (symbol_value t) (2 ^ 64) symbol_told 0 t.symbols (omega (arith, h.symbols_numbered)) h.symbols,
       (
-        all_map IsNumber (AreTold pure_form) pure_value (λ n k. (k, tt)) t.pure_symbols h.pure_symbols,
+        all_map IsWrittenWhole (AreTold pure_form) pure_value (λ n k. (k, tt)) t.pure_symbols h.pure_symbols,
         (
           all_numbered IsTellableReference (AreTold reference_form) (reference_value t) (2 ^ 64) reference_told 0 t.references (omega (arith, h.references_numbered)) h.references,
           (all_map (λ (entry : Name × List ℕ). AreNumbers entry.1) (AreTold free_form) free_value (λ entry k. (tt, (numbers_told entry.1 k, tt))) t.free h.free, told),

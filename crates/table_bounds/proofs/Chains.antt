@@ -24,7 +24,7 @@ use Rattle.semantic_model.specs.Step.{Step, entering, opening, header_ending, cl
 use Rattle.semantic_model.proofs.steps.EachStep.{EachStep, each-append, each_of_node}
 use Rattle.semantic_model.proofs.steps.Opened.{left_to_open, inside_opens}
 use Rattle.semantic_model.proofs.steps.TurnCases.{ending_case}
-use Rattle.table_bounds.specs.Tellable.{IsNumber, HaveNames}
+use Rattle.table_bounds.specs.Tellable.{IsWrittenWhole, HaveNames}
 use Rattle.table_bounds.proofs.Cursors.{IsWay, before_way, behind_way, entering_way, leaving_way, after_way}
 
 -- ---- flags
@@ -79,8 +79,8 @@ kind_named _ p = lit< tt
 -- ---- scopes
 
 pub record IsBoundedScope (s : OpenScope) : Type 0 where
-  pub number : IsNumber s.number
-  pub body : IfSome s.body IsNumber
+  pub number : IsWrittenWhole s.number
+  pub body : IfSome s.body IsWrittenWhole
   pub flags : AreScopeFlags s.flags
 
 abbrev pub IsBoundedChain : List OpenScope → Type 0
@@ -89,12 +89,12 @@ IsBoundedChain = AllByRecursion IsBoundedScope
 abbrev limit : ℕ
 limit = 4294967296
 
-body_within : (n : ℕ) (f : Forest) → n + scopes_in f < 2 ^ 64 → IfSome (body_number n f) IsNumber
+body_within : (n : ℕ) (f : Forest) → n + scopes_in f < 2 ^ 64 → IfSome (body_number n f) IsWrittenWhole
 body_within n nothing h = tt
 body_within n (tree r k span text marks below id after) h =
     by (same_role r role.Body) (body_within (n + cond (opens k) 1 0 + scopes_in below) after (omega (arith, h)))
   where
-    by : (b : Bool) → IfSome (body_number (n + cond (opens k) 1 0 + scopes_in below) after) IsNumber → IfSome (cond b (Some n) (body_number (n + cond (opens k) 1 0 + scopes_in below) after)) IsNumber
+    by : (b : Bool) → IfSome (body_number (n + cond (opens k) 1 0 + scopes_in below) after) IsWrittenWhole → IfSome (cond b (Some n) (body_number (n + cond (opens k) 1 0 + scopes_in below) after)) IsWrittenWhole
     by true later = omega (arith, h)
     by false later = later
 
@@ -105,7 +105,7 @@ opened_bounded p n small few = record {
   flags = both (flags_of_kind p.node.kind p) (strict_if (is_strict p.chain)) (kind_named p.node.kind p) (strict_named (is_strict p.chain));
 }
   where
-    by : (b : Bool) → IfSome (cond b (body_number (suc n) p.node.children) None) IsNumber
+    by : (b : Bool) → IfSome (cond b (body_number (suc n) p.node.children) None) IsWrittenWhole
     by true = body_within (suc n) p.node.children (omega (arith, small, few))
     by false = tt
 

@@ -24,7 +24,7 @@ use Rattle.semantic_model.specs.Step.{Step, entering, opening, header_ending, cl
 use Rattle.program_laws.proofs.DeclaredNodes.{among_map, among_flat, bound_of}
 use Rattle.program_laws.proofs.Walked.{node_at}
 use Rattle.program_laws.proofs.TreeNodes.{nodes_from, child_in}
-use Rattle.table_bounds.specs.Tellable.{IsNumber, HaveNames}
+use Rattle.table_bounds.specs.Tellable.{IsWrittenWhole, HaveNames}
 use Rattle.table_bounds.proofs.Nodes.{IsBounded}
 use Rattle.table_bounds.proofs.Chains.{IsBoundedScope, IsBoundedChain, IsBoundedPlace, IsBoundedStep}
 
@@ -81,9 +81,9 @@ past_bounded test (s ∷ ss) h = from_bounded (s ∷ ss) (s ∷ passed_before te
 -- ---- declarations
 
 pub record IsBoundedDeclaration (d : Declaration) : Type 0 where
-  pub node : IsNumber d.naming.node
-  pub start : IsNumber d.naming.span.start
-  pub end : IsNumber d.naming.span.end
+  pub node : IsWrittenWhole d.naming.node
+  pub start : IsWrittenWhole d.naming.span.start
+  pub end : IsWrittenWhole d.naming.span.end
   pub flags : AreSymbolFlags d.naming.flags
   pub route : IsBoundedRoute d.route
 
@@ -270,7 +270,7 @@ module _ (p : Place) (place : IsBoundedPlace p) (all : (x : Node) → Among x (n
 
 abbrev pub IsBoundedEvent : Event → Type 0
 IsBoundedEvent (declares d) = IsBoundedDeclaration d
-IsBoundedEvent (takes_over clause body) = IsNumber body
+IsBoundedEvent (takes_over clause body) = IsWrittenWhole body
 IsBoundedEvent (ends_header c) = Unit {0}
 
 pub last_target : (passed : List OpenScope) (target : OpenScope) → IsBoundedChain passed → IsBoundedScope target → IsBoundedScope (innermost (passed ++ target ∷ []))

@@ -17,12 +17,12 @@ use Rattle.semantic_tree.proofs.ShapedLaws.{no_fault-IsShaped}
 use Rattle.semantic_model.specs.Entries.{Among}
 use Rattle.semantic_model.proofs.lists.Members.{among_cases}
 use Rattle.program_laws.proofs.TreeNodes.{nodes_below, nodes_from, ids_between}
-use Rattle.table_bounds.specs.Tellable.{IsNumber}
+use Rattle.table_bounds.specs.Tellable.{IsWrittenWhole}
 
 pub record IsBounded (x : Node) : Type 0 where
-  pub id : IsNumber x.node_id
-  pub start : IsNumber x.span.start
-  pub end : IsNumber x.span.end
+  pub id : IsWrittenWhole x.node_id
+  pub start : IsWrittenWhole x.span.start
+  pub end : IsWrittenWhole x.span.end
 
 -- ---- spans
 

@@ -13,14 +13,14 @@ use Rattle.semantic_model.specs.Declaration.{Declaration, How, plain, hoisted, m
 use Rattle.semantic_model.specs.Event.{Event, declares, takes_over, ends_header}
 use Rattle.semantic_model.specs.Fold.{State, Conflict, start, update, found, redeclared, united, in_scope, entry_of, new_symbol, make, against, conflict_with, note_symbol, declare_in, chosen}
 use Rattle.semantic_model.specs.Hoist.{PassedSymbol, passed_symbol, asked_symbols, against_all, move_symbol, hoist_by, move_out, declare_by, rescoped, act, run}
-use Rattle.table_bounds.specs.Tellable.{IsNumber, IsTellableEntry, AreTellableEntries, IsTellableSymbol}
+use Rattle.table_bounds.specs.Tellable.{IsWrittenWhole, IsTellableEntry, AreTellableEntries, IsTellableSymbol}
 use Rattle.table_bounds.proofs.Declared.{IsBoundedDeclaration, IsBoundedEvent, both, last_target}
 
 pub record IsBoundedConflict (c : Conflict) : Type 0 where
-  pub earlier_start : IsNumber c.earlier.start
-  pub earlier_end : IsNumber c.earlier.end
-  pub later_start : IsNumber c.later.start
-  pub later_end : IsNumber c.later.end
+  pub earlier_start : IsWrittenWhole c.earlier.start
+  pub earlier_end : IsWrittenWhole c.earlier.end
+  pub later_start : IsWrittenWhole c.later.start
+  pub later_end : IsWrittenWhole c.later.end
 
 pub record IsBoundedState (st : State) : Type 0 where
   pub symbols : AllByRecursion IsTellableSymbol st.symbols
@@ -28,7 +28,7 @@ pub record IsBoundedState (st : State) : Type 0 where
 
 -- ---- one symbol
 
-new_bounded : (c : ℕ) (d : Declaration) → IsNumber c → IsBoundedDeclaration d → IsTellableSymbol (new_symbol c d.naming)
+new_bounded : (c : ℕ) (d : Declaration) → IsWrittenWhole c → IsBoundedDeclaration d → IsTellableSymbol (new_symbol c d.naming)
 new_bounded c d small h = record { scope = small; node = h.node; start = h.start; end = h.end; flags = h.flags; redeclarations = tt }
 
 some_entries : (xs : List Redeclaration) (e : Redeclaration) → AllByRecursion IsTellableEntry xs → IsTellableEntry e → AreTellableEntries (Some (xs ++ e ∷ []))
@@ -56,7 +56,7 @@ redeclared_bounded d y h k = record {
 united_bounded : (d : Declaration) (y : Symbol) → IsBoundedDeclaration d → IsTellableSymbol y → IsTellableSymbol (united d.naming.flags y)
 united_bounded d y h k = record { scope = k.scope; node = k.node; start = k.start; end = k.end; flags = both y.flags.bits d.naming.flags k.flags h.flags; redeclarations = k.redeclarations }
 
-scoped_bounded : (c : ℕ) (y : Symbol) → IsNumber c → IsTellableSymbol y → IsTellableSymbol (in_scope c y)
+scoped_bounded : (c : ℕ) (y : Symbol) → IsWrittenWhole c → IsTellableSymbol y → IsTellableSymbol (in_scope c y)
 scoped_bounded c y small k = record { scope = small; node = k.node; start = k.start; end = k.end; flags = k.flags; redeclarations = k.redeclarations }
 
 update_bounded : (f : Symbol → Symbol) → ((y : Symbol) → IsTellableSymbol y → IsTellableSymbol (f y)) → (ys : List Symbol) (n : ℕ) → AllByRecursion IsTellableSymbol ys → AllByRecursion IsTellableSymbol (update f ys n)
@@ -85,13 +85,13 @@ against_all_bounded : (st : State) (d : Declaration) (ss : List ℕ) → IsBound
 against_all_bounded st d [] h k = k
 against_all_bounded st d (s ∷ ss) h k = against_all_bounded (against st d s) d ss h (against_bounded st d s h k)
 
-make_bounded : (st : State) (c : ℕ) (d : Declaration) → IsNumber c → IsBoundedDeclaration d → IsBoundedState st → IsBoundedState (make st c d)
+make_bounded : (st : State) (c : ℕ) (d : Declaration) → IsWrittenWhole c → IsBoundedDeclaration d → IsBoundedState st → IsBoundedState (make st c d)
 make_bounded st c d small h k = record {
   symbols = every-append IsTellableSymbol st.symbols (new_symbol c d.naming ∷ []) k.symbols (new_bounded c d small h, tt);
   conflicts = k.conflicts;
 }
 
-declare_in_bounded : (st : State) (c : ℕ) (d : Declaration) (o : Option ℕ) → IsNumber c → IsBoundedDeclaration d → IsBoundedState st → IsBoundedState (declare_in st c d o)
+declare_in_bounded : (st : State) (c : ℕ) (d : Declaration) (o : Option ℕ) → IsWrittenWhole c → IsBoundedDeclaration d → IsBoundedState st → IsBoundedState (declare_in st c d o)
 declare_in_bounded st c d None small h k = make_bounded st c d small h k
 declare_in_bounded st c d (Some s) small h k =
     let noted : IsBoundedState (against st d s) = against_bounded st d s h k in
@@ -100,11 +100,11 @@ declare_in_bounded st c d (Some s) small h k =
       conflicts = noted.conflicts;
     }
 
-move_symbol_bounded : (st : State) (c t : ℕ) (x : Name) (s : ℕ) (o : Option ℕ) → IsNumber t → IsBoundedState st → IsBoundedState (move_symbol st c t x s o)
+move_symbol_bounded : (st : State) (c t : ℕ) (x : Name) (s : ℕ) (o : Option ℕ) → IsWrittenWhole t → IsBoundedState st → IsBoundedState (move_symbol st c t x s o)
 move_symbol_bounded st c t x s (Some r) small k = k
 move_symbol_bounded st c t x s None small k = record { symbols = update_bounded (in_scope t) (λ y b. scoped_bounded t y small b) st.symbols s k.symbols; conflicts = k.conflicts }
 
-move_out_bounded : (st : State) (c t : ℕ) (x : Name) (s : ℕ) (o : Option ℕ) → IsNumber t → IsBoundedState st → IsBoundedState (move_out st c t x s o)
+move_out_bounded : (st : State) (c t : ℕ) (x : Name) (s : ℕ) (o : Option ℕ) → IsWrittenWhole t → IsBoundedState st → IsBoundedState (move_out st c t x s o)
 move_out_bounded st c t x s (Some r) small k = k
 move_out_bounded st c t x s None small k = record { symbols = update_bounded (in_scope t) (λ y b. scoped_bounded t y small b) st.symbols s k.symbols; conflicts = k.conflicts }
 
@@ -120,7 +120,7 @@ hoist_by_bounded st d (Some p) h k =
     move_symbol_bounded got p.scope d.route.target.number d.naming.name p.symbol (get got.bindings d.route.target.number d.naming.name) h.route.target.number noted in
     record { symbols = next.symbols; conflicts = next.conflicts }
 
-stands_bounded : (d : Declaration) → IsBoundedDeclaration d → IsNumber (stands_in d)
+stands_bounded : (d : Declaration) → IsBoundedDeclaration d → IsWrittenWhole (stands_in d)
 stands_bounded d h = (last_target d.route.passed d.route.target h.route.passed h.route.target).number
 
 declare_by_bounded : (how : How) (st : State) (d : Declaration) → IsBoundedDeclaration d → IsBoundedState st → IsBoundedState (declare_by how st d)
@@ -135,7 +135,7 @@ declare_by_bounded moved st d h k =
     (declare_in_bounded st c d o (stands_bounded d h) h k)
 declare_by_bounded caught st d h k = make_bounded st d.route.target.number d h.route.target.number h k
 
-rescoped_bounded : (ys : List Symbol) (bs : Bindings) (c : ℕ) → IsNumber c → AllByRecursion IsTellableSymbol ys → AllByRecursion IsTellableSymbol (rescoped ys bs c)
+rescoped_bounded : (ys : List Symbol) (bs : Bindings) (c : ℕ) → IsWrittenWhole c → AllByRecursion IsTellableSymbol ys → AllByRecursion IsTellableSymbol (rescoped ys bs c)
 rescoped_bounded ys [] c small k = k
 rescoped_bounded ys (b ∷ bs) c small k = rescoped_bounded (update (in_scope c) ys b.1) bs c small (update_bounded (in_scope c) (λ y h. scoped_bounded c y small h) ys b.1 k)
 

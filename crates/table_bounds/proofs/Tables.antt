@@ -45,7 +45,7 @@ use Rattle.walk_model.proofs.sizes.Scopes.{scopes_counted}
 use Rattle.walk_model.proofs.sizes.Symbols.{symbols_counted}
 use Rattle.program_laws.proofs.TreeNodes.{nodes_below, nodes_from}
 use Rattle.program_laws.proofs.Walked.{node_at, steps_within}
-use Rattle.table_bounds.specs.Tellable.{IsNumber, AreNumbers, IsTellableScope, IsTellableReference, AreTellable}
+use Rattle.table_bounds.specs.Tellable.{IsWrittenWhole, AreNumbers, IsTellableScope, IsTellableReference, AreTellable}
 use Rattle.table_bounds.proofs.Lists.{all_among, all_filtered, each_among}
 use Rattle.table_bounds.proofs.Nodes.{IsBounded, bounded_nodes}
 use Rattle.table_bounds.proofs.Cursors.{IsWay, reference_way, settled_way}
@@ -73,14 +73,14 @@ range_small from zero h = tt
 range_small from (suc len) h = (omega (arith, h), range_small (from + 1) len (omega (arith, h)))
 
 -- numbers that stand in a list are small where those that stand there at all are
-times_small : (xs : List ℕ) → ((n : ℕ) → 0 < times n xs → IsNumber n) → AreNumbers xs
+times_small : (xs : List ℕ) → ((n : ℕ) → 0 < times n xs → IsWrittenWhole n) → AreNumbers xs
 times_small [] h = tt
 times_small (x ∷ xs) h = (h x (own (eq-eqb x x refl)), times_small xs (λ n k. h n (omega (arith, k))))
   where
     own : (x == x) ≡ true → 0 < cond (x == x) 1 0 + times x xs
     own e = rw e (omega arith)
 
-all_times_small : (xss : List (List ℕ)) → ((n : ℕ) → 0 < times_in_all n xss → IsNumber n) → AllByRecursion AreNumbers xss
+all_times_small : (xss : List (List ℕ)) → ((n : ℕ) → 0 < times_in_all n xss → IsWrittenWhole n) → AllByRecursion AreNumbers xss
 all_times_small [] h = tt
 all_times_small (xs ∷ xss) h = (times_small xs (λ n k. h n (omega (arith, k))), all_times_small xss (λ n k. h n (omega (arith, k))))
 
@@ -90,13 +90,13 @@ free_small (f ∷ fs) h = (h.0, free_small fs h.1)
 
 -- ---- labels
 
-module _ (all : (x : Node) → IsBounded x → IsNumber x.node_id) where
+module _ (all : (x : Node) → IsBounded x → IsWrittenWhole x.node_id) where
   labels_small : (f : Forest) → ((x : Node) → Among x (nodes_below f) → IsBounded x) → AreNumbers (unused_in f)
   labels_small nothing h = tt
   labels_small (tree r k span text marks below id after) h =
-      every-append IsNumber (unused_in below) (cond (is_labelled k && not (is_used (label_of below) below)) (id ∷ []) [] ++ unused_in after)
+      every-append IsWrittenWhole (unused_in below) (cond (is_labelled k && not (is_used (label_of below) below)) (id ∷ []) [] ++ unused_in after)
       (labels_small below (λ x a. h x (inr (among_left x (nodes_below below) (nodes_below after) a))))
-      (every-append IsNumber (cond (is_labelled k && not (is_used (label_of below) below)) (id ∷ []) []) (unused_in after)
+      (every-append IsWrittenWhole (cond (is_labelled k && not (is_used (label_of below) below)) (id ∷ []) []) (unused_in after)
       (by (is_labelled k && not (is_used (label_of below) below)))
       (labels_small after (λ x a. h x (inr (among_right x (nodes_below below) (nodes_below after) a)))))
     where
@@ -106,7 +106,7 @@ module _ (all : (x : Node) → IsBounded x → IsNumber x.node_id) where
 
 -- ---- scopes
 
-opened_by : (calls : List (List ℕ)) (p : Place) (s : OpenScope) (chain : List OpenScope) → IsBoundedChain chain → IsNumber s.opener → AreScopeFlags s.flags
+opened_by : (calls : List (List ℕ)) (p : Place) (s : OpenScope) (chain : List OpenScope) → IsBoundedChain chain → IsWrittenWhole s.opener → AreScopeFlags s.flags
     → IfSome (opened_entry calls (opening (record p { chain = chain }) s)) IsTellableScope
 opened_by calls p s [] h opener flags = record {
   parent = tt;
@@ -121,7 +121,7 @@ opened_by calls p s (q ∷ qs) h opener flags = record {
 
 opened_small : (calls : List (List ℕ)) (s : Step) → IsBoundedStep s → IsBounded (node_at s) → IfSome (opened_entry calls s) IsTellableScope
 opened_small calls (entering p) h k = tt
-opened_small calls (opening p s) h k = opened_by calls p s p.chain h.0.chain (subst IsNumber (sym h.2) k.id) h.1.flags
+opened_small calls (opening p s) h k = opened_by calls p s p.chain h.0.chain (subst IsWrittenWhole (sym h.2) k.id) h.1.flags
 opened_small calls (header_ending p s) h k = tt
 opened_small calls (closing p s) h k = tt
 opened_small calls (leaving p) h k = tt
@@ -129,7 +129,7 @@ opened_small calls (leaving p) h k = tt
 -- ---- references
 
 record IsBoundedOccurrence (r : Occurrence) : Type 0 where
-  node : IsNumber r.node
+  node : IsWrittenWhole r.node
   chain : IsBoundedChain r.chain
   way : IsWay r.way
 
@@ -149,7 +149,7 @@ final_way n r (tied c s flags) h = settled_way r.way flags h
 final_way n r (barred c) h = h
 final_way n r unanswered h = h
 
-symbol_small : (n : ℕ) (o : Option ℕ) → n ≤ 2 ^ 64 → IsBelow n o → IfSome o IsNumber
+symbol_small : (n : ℕ) (o : Option ℕ) → n ≤ 2 ^ 64 → IsBelow n o → IfSome o IsWrittenWhole
 symbol_small n None few h = tt
 symbol_small n (Some s) few h = omega (arith, few, h)
 
@@ -214,15 +214,15 @@ module _ (p : Tree) (faultless : first_fault p ≡ None) (numbered : IsNumbered 
   as_many : length (references (steps p)) ≡ length (tables_of p).references
   as_many = sym (length-map (references (steps p)) stand_in_tree) ∙ ap length (sym once.same) ∙ length-map (tables_of p).references stand_of
 
-  listed_small : (n : ℕ) → 0 < times_in_all n (tables_of p).uses + times_in_all n (map (λ f. f.1) (tables_of p).free) → IsNumber n
+  listed_small : (n : ℕ) → 0 < times_in_all n (tables_of p).uses + times_in_all n (map (λ f. f.1) (tables_of p).free) → IsWrittenWhole n
   listed_small n h = omega (arith, once.nothing_else n h, as_many, few_references)
 
   owned : BindingsAreSymbols (tables_of p)
   owned = bindings_owned p (has_form p faultless)
 
-  bound_small : (c : ℕ) → AllByRecursion (λ (b : Name × ℕ). IsNumber b.1) (bindings_of (tables_of p) c)
+  bound_small : (c : ℕ) → AllByRecursion (λ (b : Name × ℕ). IsWrittenWhole b.1) (bindings_of (tables_of p) c)
   bound_small c =
-      all_among (λ (b : Name × ℕ). IsNumber b.1) (bindings_of (tables_of p) c)
+      all_among (λ (b : Name × ℕ). IsWrittenWhole b.1) (bindings_of (tables_of p) c)
       (λ b a. let own = owned.owned c b a in
       let within : b.1 < length (tables_of p).symbols = slice_get_within (tables_of p).symbols b.1 own.symbol own.is_there in
       omega (arith, within, few_symbols))
@@ -238,12 +238,12 @@ module _ (p : Tree) (faultless : first_fault p ≡ None) (numbered : IsNumbered 
     with_bindings = length-map (range_with_len 0 (length (tables_of p).scopes)) _ ∙ length-range_with_len 0 (length (tables_of p).scopes);
     with_uses = length-map (range_with_len 0 (length (tables_of p).symbols)) _ ∙ length-range_with_len 0 (length (tables_of p).symbols);
     scopes = scopes_small;
-    bindings = all_places (AllByRecursion (λ (b : Name × ℕ). IsNumber b.1)) [] (tables_of p).bindings bound_small;
+    bindings = all_places (AllByRecursion (λ (b : Name × ℕ). IsWrittenWhole b.1)) [] (tables_of p).bindings bound_small;
     symbols = final_bounded.symbols;
     references =
         references_small (run start (events (steps p))) (events (steps p)) (length (tables_of p).symbols) (omega (arith, few_symbols)) 0 (references (steps p)) occurrences
         (λ t a. ties_below (events (steps p)) 0 (references (steps p)) t a);
     uses = all_times_small (tables_of p).uses (λ n h. listed_small n (omega (arith, h)));
     free = free_small (tables_of p).free (all_times_small (map (λ f. f.1) (tables_of p).free) (λ n h. listed_small n (omega (arith, h))));
-    pure_symbols = all_filtered IsNumber (any_pure (run start (events (steps p))).made) (range_with_len 0 (length (tables_of p).symbols)) (range_small 0 (length (tables_of p).symbols) (omega (arith, few_symbols)));
+    pure_symbols = all_filtered IsWrittenWhole (any_pure (run start (events (steps p))).made) (range_with_len 0 (length (tables_of p).symbols)) (range_small 0 (length (tables_of p).symbols) (omega (arith, few_symbols)));
   }

@@ -13,25 +13,25 @@ use Rattle.semantic_diagnostics.specs.declared.diagnostic.Label.{Label}
 use Rattle.semantic_diagnostics.specs.declared.diagnostic.Diagnostic.{Diagnostic}
 
 -- a number that has no more digits than are written
-abbrev pub IsNumber : ℕ → Type 0
-IsNumber n = n < 2 ^ 64
+abbrev pub IsWrittenWhole : ℕ → Type 0
+IsWrittenWhole n = n < 2 ^ 64
 
 abbrev pub AreNumbers : List ℕ → Type 0
-AreNumbers = AllByRecursion IsNumber
+AreNumbers = AllByRecursion IsWrittenWhole
 
 -- no flag is set but those that have names
 abbrev pub HaveNames : List (List ℕ) → ℕ → Type 0
 HaveNames names bits = bits < 2 ^ length names
 
 pub record IsTellableScope (s : Scope) : Type 0 where
-  pub parent : IfSome s.parent IsNumber
-  pub node : IsNumber s.node
+  pub parent : IfSome s.parent IsWrittenWhole
+  pub node : IsWrittenWhole s.node
   pub flags : HaveNames scope_flag_names s.flags.bits
 
 pub record IsTellableEntry (e : Redeclaration) : Type 0 where
-  pub declaration : IsNumber e.declaration
-  pub start : IsNumber e.span.start
-  pub end : IsNumber e.span.end
+  pub declaration : IsWrittenWhole e.declaration
+  pub start : IsWrittenWhole e.span.start
+  pub end : IsWrittenWhole e.span.end
   pub flags : HaveNames symbol_flag_names e.flags.bits
 
 -- a list of redeclarations is not empty
@@ -41,28 +41,28 @@ AreTellableEntries (Some []) = ⊥
 AreTellableEntries (Some (e ∷ es)) = AllByRecursion IsTellableEntry (e ∷ es)
 
 pub record IsTellableSymbol (y : Symbol) : Type 0 where
-  pub scope : IsNumber y.scope
-  pub node : IsNumber y.node
-  pub start : IsNumber y.span.start
-  pub end : IsNumber y.span.end
+  pub scope : IsWrittenWhole y.scope
+  pub node : IsWrittenWhole y.node
+  pub start : IsWrittenWhole y.span.start
+  pub end : IsWrittenWhole y.span.end
   pub flags : HaveNames symbol_flag_names y.flags.bits
   pub redeclarations : AreTellableEntries y.redeclarations
 
 pub record IsTellableReference (r : Reference) : Type 0 where
-  pub node : IsNumber r.node_id
-  pub scope : IsNumber r.scope_id
+  pub node : IsWrittenWhole r.node_id
+  pub scope : IsWrittenWhole r.scope_id
   pub flags : HaveNames reference_flag_names r.flags.bits
-  pub symbol : IfSome r.symbol_id IsNumber
+  pub symbol : IfSome r.symbol_id IsWrittenWhole
 
 -- numbers have no more than 64 bits, all flags have names, each scope has a list of bindings and each symbol one of uses, and no list of redeclarations is empty
 pub record AreTellable (t : Tables) : Type 0 where
-  pub scopes_numbered : IsNumber (length t.scopes)
-  pub symbols_numbered : IsNumber (length t.symbols)
-  pub references_numbered : IsNumber (length t.references)
+  pub scopes_numbered : IsWrittenWhole (length t.scopes)
+  pub symbols_numbered : IsWrittenWhole (length t.symbols)
+  pub references_numbered : IsWrittenWhole (length t.references)
   pub with_bindings : length t.bindings ≡ length t.scopes
   pub with_uses : length t.uses ≡ length t.symbols
   pub scopes : AllByRecursion IsTellableScope t.scopes
-  pub bindings : AllByRecursion (AllByRecursion (λ (b : Name × ℕ). IsNumber b.1)) t.bindings
+  pub bindings : AllByRecursion (AllByRecursion (λ (b : Name × ℕ). IsWrittenWhole b.1)) t.bindings
   pub symbols : AllByRecursion IsTellableSymbol t.symbols
   pub references : AllByRecursion IsTellableReference t.references
   pub uses : AllByRecursion AreNumbers t.uses
@@ -70,19 +70,19 @@ pub record AreTellable (t : Tables) : Type 0 where
   pub pure_symbols : AreNumbers t.pure_symbols
 
 pub record IsTellableElement (e : Element) : Type 0 where
-  pub start : IsNumber e.span.start
-  pub end : IsNumber e.span.end
+  pub start : IsWrittenWhole e.span.start
+  pub end : IsWrittenWhole e.span.end
   pub flags : HaveNames element_kind_names e.kind.bits
 
 pub record IsTellableUse (u : PrivateUse) : Type 0 where
-  pub id : IsNumber u.id
-  pub start : IsNumber u.span.start
-  pub end : IsNumber u.span.end
+  pub id : IsWrittenWhole u.id
+  pub start : IsWrittenWhole u.span.start
+  pub end : IsWrittenWhole u.span.end
   pub element_ids : AreNumbers u.element_ids
 
 pub record IsTellableClass (c : Class) : Type 0 where
-  pub node : IsNumber c.node
-  pub parent : IfSome c.parent IsNumber
+  pub node : IsWrittenWhole c.node
+  pub parent : IfSome c.parent IsWrittenWhole
   pub elements_numbered : length c.elements ≤ 2 ^ 64
   pub elements : AllByRecursion IsTellableElement c.elements
   pub uses : AllByRecursion IsTellableUse c.uses
@@ -94,8 +94,8 @@ pub record AreTellableClasses (classes : List Class) : Type 0 where
 
 -- where a node stands, and its parent
 pub record IsTellableNode (entry : NodeEntry) : Type 0 where
-  pub scope : IsNumber entry.scope
-  pub parent : IsNumber entry.parent
+  pub scope : IsWrittenWhole entry.scope
+  pub parent : IsWrittenWhole entry.parent
 
 -- a byte that stands in no gap between words
 abbrev pub no_gap : ℕ → Bool
@@ -107,8 +107,8 @@ pub record IsPlainWord (text : List ℕ) : Type 0 where
   pub no_dash : encode_utf8_all text ≡ codes "-" → ⊥
 
 pub record IsTellableLabel (l : Label) : Type 0 where
-  pub start : IsNumber l.span.start
-  pub end : IsNumber l.span.end
+  pub start : IsWrittenWhole l.span.start
+  pub end : IsWrittenWhole l.span.end
 
 pub record IsTellableDiagnostic (d : Diagnostic) : Type 0 where
   pub code : IfSome d.code IsPlainWord

@@ -10,6 +10,8 @@ ghost use Rattle.table_bounds.specs.Tellable.{AreNumbers, AreTellable};
 /// has a list of bindings and each symbol one of uses, and no list of redeclarations is empty. Its unused labels are
 /// numbers of no more than 64 bits, too.
 pub fn tables_are_bounded()
-    ensures tables { (p : Tree) → first_fault p ≡ None → IsNumbered p.root → AreTellable (tables_of p) }
-    ensures labels { (p : Tree) → first_fault p ≡ None → IsNumbered p.root → AreNumbers (unused_labels p.root) }
+    ensures tables { (p : Tree) → first_fault p ≡ None → IsNumbered p.root
+        → AreTellable (tables_of p) }
+    ensures labels { (p : Tree) → first_fault p ≡ None → IsNumbered p.root
+        → AreNumbers (unused_labels p.root) }
 {}
