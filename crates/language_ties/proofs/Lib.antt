@@ -7,3 +7,8 @@ pub mod EnvironmentsRound
 pub mod Innermost
 pub mod DeclaredAsBound
 pub mod UndeclaredNames
+pub mod shared
+pub mod nearest
+pub mod symbols
+pub mod clear
+pub mod agree
