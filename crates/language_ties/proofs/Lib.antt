@@ -2,8 +2,14 @@ pub mod ProgramTrees
 pub mod Programs
 pub mod PartingPrograms
 pub mod Rows
+pub mod MisplacedFunctions
 pub mod SwitchShape
 pub mod EnvironmentsRound
 pub mod Innermost
 pub mod DeclaredAsBound
 pub mod UndeclaredNames
+pub mod shared
+pub mod nearest
+pub mod symbols
+pub mod clear
+pub mod agree

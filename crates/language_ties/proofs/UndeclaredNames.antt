@@ -161,19 +161,20 @@ module _ (s : SourceType) (p : Place) (own : OpenScope) where
   names_by _ k j r u = refl
 
 -- a declaration of the list has a namesake in the other
-among_names : (ds : List Declaration) (bs : List Bound) → map named_by_declaration ds ≡ map named_by_bound bs → (d : Declaration) → Among d ds → (b : Bound) × Among b bs × (b.name ≡ d.naming.name)
+among_names : (ds : List Declaration) (bs : List Bound) → map named_by_declaration ds ≡ map named_by_bound bs → (d : Declaration) → Among d ds → (b : Bound) × Among b bs × (named_by_bound b ≡ named_by_declaration d)
 among_names [] bs h d a = absurd a
 among_names (x ∷ ds) [] h d a = absurd cc
-among_names (x ∷ ds) (y ∷ bs) h d (inl e) = let q : named_by_declaration x ≡ named_by_bound y = cc in (y, inl refl, sym (ap (λ n. n.name) q) ∙ ap name_of_declaration e)
+among_names (x ∷ ds) (y ∷ bs) h d (inl e) = let q : named_by_declaration x ≡ named_by_bound y = cc in (y, inl refl, sym q ∙ ap named_by_declaration e)
 among_names (x ∷ ds) (y ∷ bs) h d (inr a) =
     let q : map named_by_declaration ds ≡ map named_by_bound bs = cc in
     let (b, c, e) = among_names ds bs q d a in (b, inr c, e)
 
 -- ---- the steps
 
-module _ (s : SourceType) (x : Name) where
+module _ (s : SourceType) (x : Name) (Q : ℕ → Type 0) where
+  -- of the identifiers of the name, as they are bound and as they are declared
   abbrev Unbound : Place → Type 0
-  Unbound p = (b : Bound) → Among b (bound_by p.node.kind s p.node p.path) → b.name ≡ x → ⊥
+  Unbound p = (b : Bound) → Among b (bound_by p.node.kind s p.node p.path) → b.name ≡ x → Q b.identifier
 
   abbrev UnboundAt : Step → Type 0
   UnboundAt (entering p) = Unbound p
@@ -183,12 +184,12 @@ module _ (s : SourceType) (x : Name) where
   UnboundAt (leaving p) = Unit {0}
 
   abbrev Undeclared : Step → Type 0
-  Undeclared st = (d : Declaration) → Among d (declared_at st) → d.naming.name ≡ x → ⊥
+  Undeclared st = (d : Declaration) → Among d (declared_at st) → d.naming.name ≡ x → Q d.naming.identifier
 
-  place_undeclared : (p : Place) (own : OpenScope) → IsKnown p → Unbound p → (d : Declaration) → Among d (declared_on_opening p own ++ declared_on_entering p) → d.naming.name ≡ x → ⊥
+  place_undeclared : (p : Place) (own : OpenScope) → IsKnown p → Unbound p → (d : Declaration) → Among d (declared_on_opening p own ++ declared_on_entering p) → d.naming.name ≡ x → Q d.naming.identifier
   place_undeclared p own k u d a h =
       let (b, c, e) = among_names (declared_on_opening p own ++ declared_on_entering p) (bound_by p.node.kind s p.node p.path) (names_by s p own p.node.kind refl k.ecmascript k.whole k.rooted) d a in
-      u b c (e ∙ h)
+      subst Q (ap (λ n. n.identifier) e) (u b c (ap (λ n. n.name) e ∙ h))
 
   on_opening : (p : Place) (n : ℕ) → IsKnown p → Unbound p → Undeclared (opening p (opened_scope p n))
   on_opening p n k u d a h = place_undeclared p (opened_scope p n) k u d (among_left d (declared_on_opening p (opened_scope p n)) (declared_on_entering p) a) h
@@ -197,7 +198,7 @@ module _ (s : SourceType) (x : Name) where
   on_enter p k u d a h = place_undeclared p (opened_scope p 0) k u d (among_right d (declared_on_opening p (opened_scope p 0)) (declared_on_entering p) a) h
 
   undeclared_steps : (p : Place) (own : Option OpenScope) (n cursor : ℕ) (f : Forest) → IsKnown p → Unbound p → EachStep KnownAt (steps_below p own n cursor f) → EachStep UnboundAt (steps_below p own n cursor f) → EachStep Undeclared (steps_below p own n cursor f)
-  undeclared_steps p own n cursor nothing k u ks us = last_case (EachStep Undeclared) p own n tt (on_opening p n k u, ((λ d a h. a), tt))
+  undeclared_steps p own n cursor nothing k u ks us = last_case (EachStep Undeclared) p own n tt (on_opening p n k u, ((λ d a h. absurd a), tt))
   undeclared_steps p own n cursor (tree r k2 span text marks below id after) k u ks us =
       let node : Node = record { kind = k2; span = span; text = text; marks = marks; children = below; node_id = id } in
       let turn : Turn = turn_at p own n cursor r node after in
@@ -209,8 +210,8 @@ module _ (s : SourceType) (x : Name) where
         before = opening_case (EachStep Undeclared) p r own n tt (on_opening p n k u, tt);
         whole = each_of_node Undeclared turn.child turn.below (on_enter turn.child child_known child_unbound)
             (undeclared_steps turn.child None turn.next turn.inner below child_known child_unbound (each_left KnownAt turn.below (leaving turn.child ∷ []) known.whole.1) (each_left UnboundAt turn.below (leaving turn.child ∷ []) unbound.whole.1))
-            (λ d a h. a);
-        behind = ending_case (EachStep Undeclared) p r turn.scope after tt (λ o. ((λ d a h. a), tt)) (λ o. ((λ d a h. a), tt)) (λ o. ((λ d a h. a), ((λ d a h. a), tt)));
+            (λ d a h. absurd a);
+        behind = ending_case (EachStep Undeclared) p r turn.scope after tt (λ o. ((λ d a h. absurd a), tt)) (λ o. ((λ d a h. absurd a), tt)) (λ o. ((λ d a h. absurd a), ((λ d a h. absurd a), tt)));
         others = undeclared_steps p turn.scope turn.rest turn.past after k u known.others unbound.others;
       })
 
@@ -226,19 +227,21 @@ module _ (s : SourceType) (x : Name) where
       go true = refl
       go false = refl
 
-  of_all : (ds new : List Declaration) (e : Event) (d : Declaration) → ((n : Declaration) → Among n new → n.naming.name ≡ x → ⊥) → Among e (declares_all ds new) → Among d (declared e) → d.naming.name ≡ x → ⊥
+  of_all : (ds new : List Declaration) (e : Event) (d : Declaration) → ((n : Declaration) → Among n new → n.naming.name ≡ x → Q n.naming.identifier) → Among e (declares_all ds new) → Among d (declared e) → d.naming.name ≡ x → Q d.naming.identifier
   of_all ds new e d u a b h =
       let (n, c, q) = among_map (λ n. declares (placed ds n)) new e a in
       go n c (subst (λ y. Among d (declared y)) (sym q) b)
     where
-      go : (n : Declaration) → Among n new → Among d (placed ds n ∷ []) → ⊥
-      go n c (inl r) = u n c (sym (ap (λ m. m.name) (placed_naming n.how ds n)) ∙ ap name_of_declaration r ∙ h)
-      go n c (inr r) = r
+      go : (n : Declaration) → Among n new → Among d (placed ds n ∷ []) → Q d.naming.identifier
+      go n c (inl r) =
+          subst Q (sym (ap (λ m. m.identifier) (placed_naming n.how ds n)) ∙ ap (λ m. m.naming.identifier) r)
+          (u n c (sym (ap (λ m. m.name) (placed_naming n.how ds n)) ∙ ap name_of_declaration r ∙ h))
+      go n c (inr r) = absurd r
 
-  of_step : (ds : List Declaration) (st : Step) (e : Event) (d : Declaration) → Undeclared st → Among e (events_of ds st) → Among d (declared e) → d.naming.name ≡ x → ⊥
+  of_step : (ds : List Declaration) (st : Step) (e : Event) (d : Declaration) → Undeclared st → Among e (events_of ds st) → Among d (declared e) → d.naming.name ≡ x → Q d.naming.identifier
   of_step ds (entering p) e d u a b h = of_all ds (declared_on_entering p) e d u a b h
   of_step ds (opening p o) e d u a b h = elim (among_cases e (taken_over p o) (declares_all ds (declared_on_opening p o)) a) [
-    | inl q ↦ taken (is_catch_body p) q
+    | inl q ↦ absurd (taken (is_catch_body p) q)
     | inr q ↦ of_all ds (declared_on_opening p o) e d u q b h
   ]
     where
@@ -246,24 +249,51 @@ module _ (s : SourceType) (x : Name) where
       taken true (inl r) = subst (λ y. Among d (declared y)) (sym r) b
       taken true (inr r) = r
       taken false r = r
-  of_step ds (header_ending p o) e d u (inl q) b h = subst (λ y. Among d (declared y)) (sym q) b
-  of_step ds (header_ending p o) e d u (inr q) b h = q
-  of_step ds (closing p o) e d u a b h = a
-  of_step ds (leaving p) e d u a b h = a
+  of_step ds (header_ending p o) e d u (inl q) b h = absurd (subst (λ y. Among d (declared y)) (sym q) b)
+  of_step ds (header_ending p o) e d u (inr q) b h = absurd q
+  of_step ds (closing p o) e d u a b h = absurd a
+  of_step ds (leaving p) e d u a b h = absurd a
 
   each_among : (P : Step → Type 0) (ss : List Step) (st : Step) → EachStep P ss → Among st ss → P st
   each_among P [] st h a = absurd a
   each_among P (y ∷ ss) st h (inl e) = subst P e h.0
   each_among P (y ∷ ss) st h (inr a) = each_among P ss st h.1 a
 
-  of_program : (p : Tree) → EachStep Undeclared (steps p) → (d : Declaration) → Among d (declarations (events (steps p))) → d.naming.name ≡ x → ⊥
+  of_program : (p : Tree) → EachStep Undeclared (steps p) → (d : Declaration) → Among d (declarations (events (steps p))) → d.naming.name ≡ x → Q d.naming.identifier
   of_program p u d a h =
       let (e, b, c) = among_flat declared (events (steps p)) d a in
       let (st, f, g) = among_flat (events_of (written_declarations (steps p))) (steps p) e b in
       of_step (written_declarations (steps p)) st e d (each_among Undeclared (steps p) st u f) g c h
 
-  -- ---- names that nothing binds
+  each_unbound : (ss : List Step) → ((b : Bound) → Among b (written s ss) → b.name ≡ x → Q b.identifier) → EachStep UnboundAt ss
+  each_unbound [] h = tt
+  each_unbound (entering p ∷ ss) h = ((λ b a e. h b (among_left b (bound_by p.node.kind s p.node p.path) (written s ss) a) e), each_unbound ss (λ b a e. h b (among_right b (bound_by p.node.kind s p.node p.path) (written s ss) a) e))
+  each_unbound (opening p o ∷ ss) h = (tt, each_unbound ss h)
+  each_unbound (header_ending p o ∷ ss) h = (tt, each_unbound ss h)
+  each_unbound (closing p o ∷ ss) h = (tt, each_unbound ss h)
+  each_unbound (leaving p ∷ ss) h = (tt, each_unbound ss h)
 
+  -- so it is of the declarations of a program, where it is of what that binds
+  pub each_identifier : (p : Tree) → first_fault p ≡ None → is_ecmascript p ≡ true → ((b : Bound) → Among b (written s (steps p)) → b.name ≡ x → Q b.identifier) → (d : Declaration) → Among d (declarations (events (steps p))) → d.naming.name ≡ x → Q d.naming.identifier
+  each_identifier p h e b = of_program p undeclared
+    where
+      unbound : EachStep UnboundAt (steps p)
+      unbound = each_unbound (steps p) b
+
+      known : EachStep KnownAt (steps p)
+      known = known_program p h e
+
+      below : List Step
+      below = steps_below (root_place p) None 0 (on_entering p.root.kind 0) p.root.children
+
+      undeclared : EachStep Undeclared (steps p)
+      undeclared = each_of_node Undeclared (root_place p) below (on_enter (root_place p) known.0 unbound.0)
+          (undeclared_steps (root_place p) None 0 (on_entering p.root.kind 0) p.root.children known.0 unbound.0 (each_left KnownAt below (leaving (root_place p) ∷ []) known.1) (each_left UnboundAt below (leaving (root_place p) ∷ []) unbound.1))
+          (λ d a k. absurd a)
+
+-- ---- names that nothing binds
+
+module _ (x : Name) where
   or_both : (a b : Bool) → (a || b) ≡ false → (a ≡ false) × (b ≡ false)
   or_both true b h = absurd cc
   or_both false b h = (refl, h)
@@ -278,14 +308,6 @@ module _ (s : SourceType) (x : Name) where
     | inr t ↦ t.1 (ap name_of_bound q ∙ e)
   ]
   none_named (c ∷ bs) h b (inr a) e = none_named bs (or_both (bytes_eq c.name x) (list_any has_name bs) h).1 b a e
-
-  each_unbound : (ss : List Step) → ((b : Bound) → Among b (written s ss) → b.name ≡ x → ⊥) → EachStep UnboundAt ss
-  each_unbound [] h = tt
-  each_unbound (entering p ∷ ss) h = ((λ b a e. h b (among_left b (bound_by p.node.kind s p.node p.path) (written s ss) a) e), each_unbound ss (λ b a e. h b (among_right b (bound_by p.node.kind s p.node p.path) (written s ss) a) e))
-  each_unbound (opening p o ∷ ss) h = (tt, each_unbound ss h)
-  each_unbound (header_ending p o ∷ ss) h = (tt, each_unbound ss h)
-  each_unbound (closing p o ∷ ss) h = (tt, each_unbound ss h)
-  each_unbound (leaving p ∷ ss) h = (tt, each_unbound ss h)
 
   skipped : (f : Bound → Bool) (c : Bound) (cs : List Bound) → f c ≡ false → filter f (c ∷ cs) ≡ filter f cs
   skipped f c cs h = rw h refl
@@ -305,31 +327,17 @@ module _ (s : SourceType) (x : Name) where
       kept false = refl
 
 pub unbound_nowhere : (p : Tree) (x : Name) (e : Environment) → binds_name p x ≡ false → identifiers_in (bound_of p) e x ≡ []
-unbound_nowhere p x e h = no_identifiers p.source_type x (written p.source_type (steps p)) (written p.source_type (steps p)) e h
+unbound_nowhere p x e h = no_identifiers x (written p.source_type (steps p)) (written p.source_type (steps p)) e h
 
 pub unbound_is_free : (p : Tree) (x : Name) → first_fault p ≡ None → is_ecmascript p ≡ true → binds_name p x ≡ false → IsFreeEverywhere p x
 unbound_is_free p x h e b n r t i j q = go t.symbol_id refl
   where
-    unbound : EachStep (UnboundAt p.source_type x) (steps p)
-    unbound = each_unbound p.source_type x (steps p) (none_named p.source_type x (written p.source_type (steps p)) b)
-
-    known : EachStep KnownAt (steps p)
-    known = known_program p h e
-
-    below : List Step
-    below = steps_below (root_place p) None 0 (on_entering p.root.kind 0) p.root.children
-
-    undeclared : EachStep (Undeclared p.source_type x) (steps p)
-    undeclared = each_of_node (Undeclared p.source_type x) (root_place p) below (on_enter p.source_type x (root_place p) known.0 unbound.0)
-        (undeclared_steps p.source_type x (root_place p) None 0 (on_entering p.root.kind 0) p.root.children known.0 unbound.0 (each_left KnownAt below (leaving (root_place p) ∷ []) known.1) (each_left (UnboundAt p.source_type x) below (leaving (root_place p) ∷ []) unbound.1))
-        (λ d a k. a)
-
     go : (o : Option ℕ) → t.symbol_id ≡ o → t.symbol_id ≡ None
     go None k = k
     go (Some y) k =
         let named : IsNamed (tables_of p) y r.name = ties_have_names p (has_form p h) n y r t i j k in
         let d : DeclaredAs (node_tables (steps p)).symbols (declarations (events (steps p))) y named.symbol.name = (nothing_invented p (has_form p h)).symbols y named.symbol named.is_there in
-        absurd (of_program p.source_type x p undeclared d.declaration d.among (d.named ∙ named.named ∙ q))
+        absurd (each_identifier p.source_type x (λ m. ⊥) p h e (none_named x (written p.source_type (steps p)) b) d.declaration d.among (d.named ∙ named.named ∙ q))
 
 -- ---- all names
 

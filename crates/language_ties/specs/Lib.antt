@@ -8,3 +8,8 @@ pub mod EcmaScript
 pub mod Scopes
 pub mod ToldNames
 pub mod UnboundNames
+pub mod SharedSymbols
+pub mod NearestScopes
+pub mod OneSymbol
+pub mod ClearNames
+pub mod AgreeingNames

@@ -1,14 +1,22 @@
 //! Laws over what ECMAScript binds and what the tables say.
-ghost use Rattle.std.specs.Prelude.{◌≡◌, true, false, None, []};
+ghost use Rattle.std.specs.Prelude.{◌≡◌, true, false, None, [], bytes_eq, codes};
 ghost use Rattle.semantic_syntax.specs.Tables.{Name};
 ghost use Rattle.semantic_tree.specs.Faults.{first_fault};
-ghost use Rattle.semantic_tree.specs.Tree.{Tree};
+ghost use Rattle.semantic_tree.specs.Tree.{Tree, IsNumbered};
+ghost use Rattle.semantic_model.specs.Event.{declarations, events};
+ghost use Rattle.semantic_model.specs.Step.{steps};
+ghost use Rattle.language_ties.specs.AgreeingNames.{AgreesOutsideHeaders, HasNoWith, IsPlainName};
+ghost use Rattle.language_ties.specs.ClearNames.{IsBoundOnce, StaysInside};
+ghost use Rattle.language_ties.specs.EarlyErrors.{has_clash};
 ghost use Rattle.language_ties.specs.ToldNames.{DeclarationsAreBound, NamesAreBound};
 ghost use Rattle.language_ties.specs.EcmaScript.{is_ecmascript};
 ghost use Rattle.language_ties.specs.Environments.{Environment};
 ghost use Rattle.language_ties.specs.Meaning.{identifiers_in};
 ghost use Rattle.language_ties.specs.Moved.{bound_of};
+ghost use Rattle.language_ties.specs.NearestScopes.{AreTiedNearest};
+ghost use Rattle.language_ties.specs.OneSymbol.{EnvironmentsHaveOneSymbol};
 ghost use Rattle.language_ties.specs.Scopes.{ScopesAreEnvironments};
+ghost use Rattle.language_ties.specs.SharedSymbols.{AllKeepClear, ShareSymbols};
 ghost use Rattle.language_ties.specs.UnboundNames.{binds_name, IsFreeEverywhere};
 
 /// The scopes round a node of an ECMAScript program, outside of `with`, are its environments: made by the same nodes in the same
@@ -36,4 +44,40 @@ pub fn names_are_bound()
 pub fn unbound_names_are_free()
     ensures nowhere { (p : Tree) (name : Name) (e : Environment) → binds_name p name ≡ false → identifiers_in (bound_of p) e name ≡ [] }
     ensures free { (p : Tree) (name : Name) → first_fault p ≡ None → is_ecmascript p ≡ true → binds_name p name ≡ false → IsFreeEverywhere p name }
+{}
+
+/// Where the declarations of a name keep clear of each other, those with one home have one symbol, which that scope binds in the
+/// end, and no other scope binds the name. To keep clear: a `var` passes no scope that binds another of them, a function that
+/// moves out of its block meets none, and a plain catch name has its clause to itself. So do names that are declared once. The
+/// name of a function expression may have a symbol of its own, which the others in its scope hide.
+pub fn clear_names_share_symbols()
+    ensures { (p : Tree) (name : Name) → first_fault p ≡ None → is_ecmascript p ≡ true → AllKeepClear name (declarations (events (steps p))) → ShareSymbols p name }
+{}
+
+/// The identifiers by which the environments of one node bind such a name have one symbol, outside of `with`. Functions in blocks
+/// and own names of expressions are left out.
+pub fn environments_have_one_symbol()
+    ensures { (p : Tree) (name : Name) → first_fault p ≡ None → is_ecmascript p ≡ true → IsNumbered p.root → AllKeepClear name (declarations (events (steps p))) → EnvironmentsHaveOneSymbol p name }
+{}
+
+/// Each reference of an ECMAScript program uses its name as a value, and each symbol is a value, so that none is passed by: a
+/// reference is tied to the symbol of the nearest scope outward that binds its name, where that isn't `arguments`.
+pub fn references_are_tied_nearest()
+    ensures { (p : Tree) → first_fault p ≡ None → is_ecmascript p ≡ true → AreTiedNearest p }
+{}
+
+/// Declarations of a name keep clear of each other where it is bound as no variable, no function and no plain catch name, where
+/// one identifier alone binds it, and, in a program without `with`, where it is bound in plain ways and no `var` clashes.
+pub fn names_keep_clear()
+    ensures lexical { (p : Tree) (name : Name) → first_fault p ≡ None → is_ecmascript p ≡ true → StaysInside p name → AllKeepClear name (declarations (events (steps p))) }
+    ensures once { (p : Tree) (name : Name) → first_fault p ≡ None → is_ecmascript p ≡ true → IsNumbered p.root → IsBoundOnce p name → AllKeepClear name (declarations (events (steps p))) }
+    ensures unclashed { (p : Tree) (name : Name) → first_fault p ≡ None → is_ecmascript p ≡ true → IsNumbered p.root → HasNoWith p → IsPlainName p name → has_clash p name ≡ false → AllKeepClear name (declarations (events (steps p))) }
+{}
+
+/// Tables and language agree on each reference outside of headers of a name of which no `var` clashes, and which the program binds
+/// by `var`, `let`, `const`, imports, functions outside of blocks and parameters alone: it is tied to the one symbol of all by
+/// which the innermost environment binds it that binds it at all, and free where none does. Headers are those of functions, where
+/// the parameters stand; the program has no `with`.
+pub fn plain_names_agree()
+    ensures { (p : Tree) (name : Name) → first_fault p ≡ None → is_ecmascript p ≡ true → IsNumbered p.root → HasNoWith p → bytes_eq name (codes "arguments") ≡ false → IsPlainName p name → has_clash p name ≡ false → AgreesOutsideHeaders p name }
 {}

@@ -1,0 +1,11 @@
+-- Tables and language agree on names that are bound plainly.
+pub mod KnownNodes
+pub mod MadeEnvironments
+pub mod FamiliarPlaces
+pub mod PlainBounds
+pub mod EnteredOnce
+pub mod Identifiers
+pub mod KnownBounds
+pub mod Answers
+pub mod Agreeing
+pub mod AgreeingUses

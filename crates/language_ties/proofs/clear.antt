@@ -1,0 +1,5 @@
+-- Which names keep clear.
+pub mod LexicalNames
+pub mod SingleNames
+pub mod PassedScopes
+pub mod UnclashedNames

@@ -1,0 +1,509 @@
+-- The declarations of a plain name of which no `var` clashes keep clear of each other.
+use Rattle.std.proofs.Common.{◌≡◌, ℕ, List, [], ◌∷◌, ◌++◌, Some, None, Bool, true, false, ◌&&◌, ◌||◌, not, cond, map, flat_map, inl, inr, ◌⊎◌, refl, sym, ap, subst, ◌∙◌, bytes_eq, codes, if◌then◌else◌}
+use Rattle.std.specs.List.{list_any}
+use Rattle.std.specs.Prelude.{slice_get}
+use Rattle.std.proofs.lemmas.Bool.{cases_Bool}
+use Rattle.semantic_kinds.specs.Kinds.{same_kind}
+use Rattle.semantic_kinds.specs.declared.kind.AstType.{AstType}
+use Rattle.semantic_kinds.specs.declared.kind.AstType.TheVariants as kind
+use Rattle.semantic_kinds.specs.Classes.{holds_kind}
+use Rattle.semantic_kinds.specs.declared.mark.Mark.TheVariants as mark
+use Rattle.semantic_kinds.specs.declared.role.Role.TheVariants as role
+use Rattle.semantic_syntax.specs.Members.{contains}
+use Rattle.semantic_syntax.specs.Sets.{union}
+use Rattle.semantic_syntax.specs.Tables.{Name}
+use Rattle.semantic_syntax.specs.declared.source_type.SourceType.{SourceType}
+use Rattle.semantic_syntax.specs.declared.symbol_flags.TheConstants.SymbolFlags as symbol
+use Rattle.semantic_tree.specs.Faults.{first_fault}
+use Rattle.semantic_tree.specs.Tree.{Tree, IsNumbered}
+use Rattle.semantic_tree.specs.Views.{is, has, is_with_text, children_of}
+use Rattle.semantic_tree.specs.declared.node.Node.{Node}
+use Rattle.semantic_model.specs.Binder.{Row, declare, declare_here, variable_row, variables_under, is_pure_declarator, is_statement, is_var, is_block_function, function_row, class_row, ids, parameter_excluded, parameters_under, import_flags, catch_names, declared_by, declared_on_entering}
+use Rattle.semantic_model.specs.Declaration.{Declaration, How, plain, hoisted, moved, caught, here, passed_before, outward_to}
+use Rattle.semantic_model.specs.Entries.{Among}
+use Rattle.semantic_model.specs.Event.{declarations, events}
+use Rattle.semantic_model.specs.Names.{bound_names, bound_below, names_at}
+use Rattle.semantic_model.specs.Place.{Place, OpenScope, parent_holds}
+use Rattle.semantic_model.specs.Step.{Step, entering, steps}
+use Rattle.semantic_model.proofs.fold.EachDeclared.{EachDeclared, each_on_entering}
+use Rattle.semantic_model.proofs.form.Clauses.{kind_is}
+use Rattle.semantic_model.proofs.form.ParameterShape.{is_parameter}
+use Rattle.semantic_model.proofs.lists.Members.{among_left, among_right, among_cases}
+use Rattle.semantic_model.proofs.once.ListedUnder.{name_tells}
+use Rattle.program_laws.proofs.DeclaredNodes.{among_map, among_flat}
+use Rattle.language_ties.specs.AgreeingNames.{is_plain, IsPlainName, IsOutsideWith, HasNoWith}
+use Rattle.language_ties.specs.Bound as language
+use Rattle.language_ties.specs.Bound.{Bound, bound_in, bound_here, bound_outward, bound_by_declarator, bound_by_declaration, bound_by_function, bound_by_class, bound_by_catch, bound_by, bound_at, is_bound_as, written}
+use Rattle.language_ties.specs.contracts.bound_as.BoundAs.{the_type as the_ways}
+use denote.Enum.Bare.{same_true}
+use Rattle.language_ties.specs.EarlyErrors.{meets_lexical, clashes, has_clash}
+use Rattle.language_ties.specs.EcmaScript.{is_ecmascript_kind, is_ecmascript}
+use Rattle.language_ties.specs.Environments.{Environment, same_environment, is_outside_body, has_parameter_expressions, made_by, environments, innermost, passed, takes_variables, variable_environment}
+use Rattle.language_ties.specs.Moved.{is_lexical_in, moved as moved_by, unless_barred, bound_of}
+use Rattle.language_ties.specs.Scopes.{maker_of_scope, has_scope, makers}
+use Rattle.language_ties.specs.SharedSymbols.{KeepsClear, AllKeepClear}
+use Rattle.language_ties.specs.declared.bound_as.BoundAs.{BoundAs}
+use Rattle.language_ties.specs.declared.bound_as.BoundAs.TheVariants as bound
+use Rattle.language_ties.specs.declared.environment_kind.EnvironmentKind.{EnvironmentKind}
+use Rattle.language_ties.specs.declared.environment_kind.EnvironmentKind.TheVariants as environment
+use Rattle.language_ties.proofs.EnvironmentsRound.{IsKnown, KnownAt, known_program}
+use Rattle.language_ties.proofs.UndeclaredNames.{each_identifier}
+use Rattle.language_ties.proofs.agree.FamiliarPlaces.{is_function_kind, is_parent, ParentsFit, IsFamiliar, FamiliarAt, familiar_program, known_among}
+use Rattle.language_ties.proofs.agree.Identifiers.{same_again}
+use Rattle.language_ties.proofs.agree.KnownBounds.{some_is, KnownBound, known_bound, bodiless}
+use Rattle.language_ties.proofs.agree.KnownNodes.{node_at}
+use Rattle.language_ties.proofs.agree.MadeEnvironments.{environment_kind_is, may_make, IsMadeBy, made_in, EndsAtProgram}
+use Rattle.language_ties.proofs.agree.PlainBounds.{no_catch_name, no_own, taking}
+use Rattle.language_ties.proofs.clear.PassedScopes.{IsPassed, passes_scope, passed_takes_none, before_among, scope_of_number, route_passes, variables_taken}
+use Rattle.language_ties.proofs.clear.SingleNames.{identifier_of, same_declaration, declared_once}
+use Rattle.language_ties.proofs.symbols.OneSymbol.{of_map, each_at, declared_at}
+use Rattle.language_ties.proofs.symbols.ScopeOpeners.{openers, IsOpened, AllOpened, IsPlaceOpened, places_opened}
+
+never : true ≡ false → ⊥
+never h = absurd cc
+
+-- ---- kinds of environments with a scope, where no variables go
+
+function_takes : (k : EnvironmentKind) (m : ℕ) → may_make kind.Function k ≡ true → has_scope (record { kind = k; maker = m }) ≡ true → takes_variables (record { kind = k; maker = m }) ≡ false → ⊥
+function_takes environment.Body m h s t = never (sym s)
+function_takes environment.Parameters m h s t = never t
+function_takes environment.OwnName m h s t = never (sym s)
+function_takes environment.IfBody m h s t = never (sym s)
+function_takes environment.Global m h s t = never (sym h)
+function_takes environment.ArrowParameters m h s t = never (sym h)
+function_takes environment.StaticBlock m h s t = never (sym h)
+function_takes environment.Block m h s t = never (sym h)
+function_takes environment.Loop m h s t = never (sym h)
+function_takes environment.Catch m h s t = never (sym h)
+function_takes environment.Class m h s t = never (sym h)
+function_takes environment.Object m h s t = never (sym h)
+
+arrow_takes : (k : EnvironmentKind) (m : ℕ) → may_make kind.ArrowFunctionExpression k ≡ true → has_scope (record { kind = k; maker = m }) ≡ true → takes_variables (record { kind = k; maker = m }) ≡ false → ⊥
+arrow_takes environment.Body m h s t = never (sym s)
+arrow_takes environment.ArrowParameters m h s t = never t
+arrow_takes environment.Parameters m h s t = never (sym h)
+arrow_takes environment.OwnName m h s t = never (sym h)
+arrow_takes environment.IfBody m h s t = never (sym h)
+arrow_takes environment.Global m h s t = never (sym h)
+arrow_takes environment.StaticBlock m h s t = never (sym h)
+arrow_takes environment.Block m h s t = never (sym h)
+arrow_takes environment.Loop m h s t = never (sym h)
+arrow_takes environment.Catch m h s t = never (sym h)
+arrow_takes environment.Class m h s t = never (sym h)
+arrow_takes environment.Object m h s t = never (sym h)
+
+both_are : (a b k : EnvironmentKind) → a ≡ k → b ≡ k → a ≡ b
+both_are a b k h i = h ∙ sym i
+
+-- a node makes one such kind
+one_kind : (k : AstType) (a b : EnvironmentKind) (m : ℕ) → may_make k a ≡ true → may_make k b ≡ true → has_scope (record { kind = b; maker = m }) ≡ true → takes_variables (record { kind = b; maker = m }) ≡ false → a ≡ b
+one_kind kind.Program a b m h i s t = both_are a b environment.Global (environment_kind_is a environment.Global h) (environment_kind_is b environment.Global i)
+one_kind kind.Function a b m h i s t = absurd (function_takes b m i s t)
+one_kind kind.ArrowFunctionExpression a b m h i s t = absurd (arrow_takes b m i s t)
+one_kind kind.StaticBlock a b m h i s t = both_are a b environment.StaticBlock (environment_kind_is a environment.StaticBlock h) (environment_kind_is b environment.StaticBlock i)
+one_kind kind.BlockStatement a b m h i s t = both_are a b environment.Block (environment_kind_is a environment.Block h) (environment_kind_is b environment.Block i)
+one_kind kind.SwitchStatement a b m h i s t = both_are a b environment.Block (environment_kind_is a environment.Block h) (environment_kind_is b environment.Block i)
+one_kind kind.ForStatement a b m h i s t = both_are a b environment.Loop (environment_kind_is a environment.Loop h) (environment_kind_is b environment.Loop i)
+one_kind kind.ForInStatement a b m h i s t = both_are a b environment.Loop (environment_kind_is a environment.Loop h) (environment_kind_is b environment.Loop i)
+one_kind kind.ForOfStatement a b m h i s t = both_are a b environment.Loop (environment_kind_is a environment.Loop h) (environment_kind_is b environment.Loop i)
+one_kind kind.CatchClause a b m h i s t = both_are a b environment.Catch (environment_kind_is a environment.Catch h) (environment_kind_is b environment.Catch i)
+one_kind kind.Class a b m h i s t = both_are a b environment.Class (environment_kind_is a environment.Class h) (environment_kind_is b environment.Class i)
+one_kind kind.WithStatement a b m h i s t = both_are a b environment.Object (environment_kind_is a environment.Object h) (environment_kind_is b environment.Object i)
+one_kind _ a b m h i s t = absurd (never (sym h))
+
+-- ---- how a declaration is made
+
+-- only declarators of `var` declare as it does
+record IsVariable (q : Place) (d : Declaration) : Type 0 where
+  declaration : Node
+  path : List Node
+  above : q.path ≡ declaration ∷ path
+  var : is_with_text kind.VariableDeclaration (codes "var") declaration ≡ true
+  route : d.route ≡ outward_to is_var q.chain
+
+variable_of : (q : Place) (path : List Node) → q.path ≡ path → (d : Declaration) → Among d (variables_under path q) → d.how ≡ hoisted → IsVariable q d
+variable_of q [] e d a h = absurd a
+variable_of q (declaration ∷ path) e d a h = go (is_with_text kind.VariableDeclaration (codes "var") declaration) refl
+  where
+    go : (b : Bool) → is_with_text kind.VariableDeclaration (codes "var") declaration ≡ b → IsVariable q d
+    go true w =
+        let (n, c, i) = among_map (declare q.node (variable_row declaration q.chain) (is_pure_declarator q.node)) (bound_names q.node) d a in
+        record { declaration = declaration; path = path; above = e; var = w; route = sym (ap (λ z. z.route) i) ∙ rw w refl }
+    go false w =
+        let (n, c, i) = among_map (declare q.node (variable_row declaration q.chain) (is_pure_declarator q.node)) (bound_names q.node) d a in
+        let plainly : (variable_row declaration q.chain).how ≡ plain = rw w refl in
+        absurd (different (sym h ∙ sym (ap (λ z. z.how) i) ∙ plainly))
+      where
+        different : hoisted ≡ plain → ⊥
+        different z = absurd cc
+
+hoisted_kind : (q : Place) → EachDeclared (λ d. d.how ≡ hoisted → q.node.kind ≡ kind.VariableDeclarator) (declared_by q.node.kind q)
+hoisted_kind q = each_on_entering (λ d. d.how ≡ hoisted → q.node.kind ≡ kind.VariableDeclarator) (λ how r. how ≡ hoisted → q.node.kind ≡ kind.VariableDeclarator) (λ node row is_pure name r. r) q.node.kind q (record {
+  at_home = λ w. absurd cc;
+  when_caught = λ w. absurd cc;
+  when_hoisted = λ e w. e;
+  when_moved = λ e s b w. absurd cc;
+  when_inferred = λ w. absurd cc;
+})
+
+hoisted_is : (q : Place) (d : Declaration) → Among d (declared_on_entering q) → d.how ≡ hoisted → IsVariable q d
+hoisted_is q d a h =
+    let k : q.node.kind ≡ kind.VariableDeclarator = declared_at (λ z. z.how ≡ hoisted → q.node.kind ≡ kind.VariableDeclarator) (declared_on_entering q) d (hoisted_kind q) a h in
+    variable_of q q.path refl d (subst (λ j. Among d (declared_by j q)) k a) h
+
+-- what it binds is a variable
+variable_bound : (s : SourceType) (q : Place) (d : Declaration) (v : IsVariable q d) (b : Bound) → q.node.kind ≡ kind.VariableDeclarator → Among b (bound_by q.node.kind s q.node q.path) → (is_bound_as bound.Var b ≡ true) × (b.passed ≡ passed (environments q.node q.path))
+variable_bound s q d v b k a =
+    let es : List Environment = environments q.node (v.declaration ∷ v.path) in
+    let there : Among b (bound_by_declarator q.node (v.declaration ∷ v.path)) = subst (λ l. Among b (bound_by_declarator q.node l)) v.above (subst (λ j. Among b (bound_by j s q.node q.path)) k a) in
+    let outward : Among b (map (bound_outward es) (bound_names q.node)) = subst (λ t. Among b (map (cond t (bound_outward es) (bound_here bound.Lexical es)) (bound_names q.node))) v.var there in
+    let (n, c, i) = among_map (bound_outward es) (bound_names q.node) b outward in
+    (sym (ap (is_bound_as bound.Var) i), sym (ap (λ z. z.passed) i) ∙ ap (λ l. passed (environments q.node l)) (sym v.above))
+
+-- a plain catch name is bound as one, and nothing else is caught
+row_how : (node : Node) (row : Row) (b : Bool) (names : List Node) (d : Declaration) → Among d (map (declare node row b) names) → d.how ≡ row.how
+row_how node row b names d a = let (n, c, i) = among_map (declare node row b) names d a in sym (ap (λ z. z.how) i)
+
+never_caught : (w : How) → (w ≡ caught → ⊥) → (d : Declaration) → d.how ≡ w → d.how ≡ caught → ⊥
+never_caught w n d h c = n (sym h ∙ c)
+
+plain_never : plain ≡ caught → ⊥
+plain_never h = absurd cc
+
+hoisted_never : hoisted ≡ caught → ⊥
+hoisted_never h = absurd cc
+
+moved_never : moved ≡ caught → ⊥
+moved_never h = absurd cc
+
+module _ (s : SourceType) (q : Place) (x : Name) (none : (b : Bound) → Among b (bound_by q.node.kind s q.node q.path) → b.name ≡ x → is_bound_as bound.CatchName b ≡ false) where
+  caught_here : (flags excluded : ℕ) (names : List Node) (d : Declaration) → Among d (declare_here q flags excluded names) → d.how ≡ caught → ⊥
+  caught_here flags excluded names d a = never_caught plain plain_never d (row_how q.node (record { flags = flags; excluded = excluded; how = plain; route = here q.chain }) false names d a)
+
+  caught_variable : (path : List Node) (d : Declaration) → Among d (variables_under path q) → d.how ≡ caught → ⊥
+  caught_variable [] d a = absurd a
+  caught_variable (y ∷ path) d a = go (is_with_text kind.VariableDeclaration (codes "var") y) refl (row_how q.node (variable_row y q.chain) (is_pure_declarator q.node) (bound_names q.node) d a)
+    where
+      go : (b : Bool) → is_with_text kind.VariableDeclaration (codes "var") y ≡ b → d.how ≡ (variable_row y q.chain).how → d.how ≡ caught → ⊥
+      go true w r = never_caught hoisted hoisted_never d (r ∙ rw w refl)
+      go false w r = never_caught plain plain_never d (r ∙ rw w refl)
+
+  caught_function : (d : Declaration) → Among d (declared_by kind.Function q) → d.how ≡ caught → ⊥
+  caught_function d a = go (is_statement q.node) a
+    where
+      by : (b : Bool) → is_block_function q ≡ b → d.how ≡ (function_row q).how → d.how ≡ caught → ⊥
+      by true w r = never_caught moved moved_never d (r ∙ rw w refl)
+      by false w r = never_caught plain plain_never d (r ∙ rw w refl)
+
+      go : (b : Bool) → Among d (cond b (map (declare q.node (function_row q) (has mark.Pure q.node)) (ids q.node)) []) → d.how ≡ caught → ⊥
+      go true c = by (is_block_function q) refl (row_how q.node (function_row q) (has mark.Pure q.node) (ids q.node) d c)
+      go false c = absurd c
+
+  caught_class : (d : Declaration) → Among d (declared_by kind.Class q) → d.how ≡ caught → ⊥
+  caught_class d a = go (is_statement q.node) a
+    where
+      go : (b : Bool) → Among d (cond b (map (declare q.node (class_row q q.chain) false) (ids q.node)) []) → d.how ≡ caught → ⊥
+      go true c = never_caught plain plain_never d (row_how q.node (class_row q q.chain) false (ids q.node) d c)
+      go false c = absurd c
+
+  caught_parameter : (path : List Node) (d : Declaration) → Among d (parameters_under path q) → d.how ≡ caught → ⊥
+  caught_parameter [] d a = absurd a
+  caught_parameter (y ∷ path) d a = caught_here symbol.FunctionScopedVariable.bits (parameter_excluded y q.chain) (bound_names q.node) d a
+
+  caught_rest : (d : Declaration) → Among d (declared_by kind.BindingRestElement q) → d.how ≡ caught → ⊥
+  caught_rest d a = go (parent_holds (is kind.FormalParameters) q.path) a
+    where
+      go : (b : Bool) → Among d (cond b (declare_here q symbol.FunctionScopedVariable.bits (union symbol.FunctionScopedVariableExcludes.bits symbol.FunctionScopedVariable.bits) (bound_names q.node)) []) → d.how ≡ caught → ⊥
+      go true c = caught_here symbol.FunctionScopedVariable.bits (union symbol.FunctionScopedVariableExcludes.bits symbol.FunctionScopedVariable.bits) (bound_names q.node) d c
+      go false c = absurd c
+
+  caught_catch : (patterns : List Node) → ((b : Bound) → Among b (flat_map (bound_by_catch (environments q.node q.path)) patterns) → b.name ≡ x → is_bound_as bound.CatchName b ≡ false) → (d : Declaration) → Among d (flat_map (catch_names q) patterns) → d.naming.name ≡ x → d.how ≡ caught → ⊥
+  caught_catch [] k d a n = absurd a
+  caught_catch (y ∷ ys) k d a n = elim (among_cases d (catch_names q y) (flat_map (catch_names q) ys) a) [
+    | inl c ↦ go (is kind.BindingIdentifier y) refl c
+    | inr c ↦ caught_catch ys (λ b i. k b (among_right b (bound_by_catch (environments q.node q.path) y) (flat_map (bound_by_catch (environments q.node q.path)) ys) i)) d c n
+  ]
+    where
+      row : Row
+      row = record { flags = union symbol.FunctionScopedVariable.bits symbol.CatchVariable.bits; excluded = 0; how = caught; route = here q.chain }
+
+      go : (t : Bool) → is kind.BindingIdentifier y ≡ t → Among d (if t then declare q.node row false y ∷ [] else declare_here q (union symbol.BlockScopedVariable.bits symbol.CatchVariable.bits) symbol.BlockScopedVariableExcludes.bits (bound_names y)) → d.how ≡ caught → ⊥
+      go true w (inl c) =
+          let f : Bound = bound_here bound.CatchName (environments q.node q.path) y in
+          let there : Among f (bound_by_catch (environments q.node q.path) y) = subst (λ t. Among f (map (bound_here (cond t bound.CatchName bound.Lexical) (environments q.node q.path)) (cond t (y ∷ []) (bound_below y.kind y.children)))) (sym w) (inl refl) in
+          let v : is_bound_as bound.CatchName f ≡ false = k f (among_left f (bound_by_catch (environments q.node q.path) y) (flat_map (bound_by_catch (environments q.node q.path)) ys) there) (ap (λ z. z.naming.name) c ∙ n) in
+          λ z. never v
+      go true w (inr c) = absurd c
+      go false w c = caught_here (union symbol.BlockScopedVariable.bits symbol.CatchVariable.bits) symbol.BlockScopedVariableExcludes.bits (bound_names y) d c
+
+  none_caught : (k : AstType) → q.node.kind ≡ k → is_ecmascript_kind k ≡ true → (d : Declaration) → Among d (declared_by k q) → d.naming.name ≡ x → d.how ≡ caught → ⊥
+  none_caught kind.VariableDeclarator w i d a n = caught_variable q.path d a
+  none_caught kind.Function w i d a n = caught_function d a
+  none_caught kind.Class w i d a n = caught_class d a
+  none_caught kind.FormalParameter w i d a n = caught_parameter q.path d a
+  none_caught kind.FormalParameterRest w i d a n = caught_parameter q.path d a
+  none_caught kind.BindingRestElement w i d a n = caught_rest d a
+  none_caught kind.CatchParameter w i d a n = caught_catch (children_of role.Pattern q.node.children) (λ b c. none b (subst (λ j. Among b (bound_by j s q.node q.path)) (sym w) c)) d a n
+  none_caught kind.ImportSpecifier w i d a n = caught_here (import_flags q) symbol.ImportBindingExcludes.bits (names_at role.Local q.node) d a
+  none_caught kind.ImportDefaultSpecifier w i d a n = caught_here (import_flags q) symbol.ImportBindingExcludes.bits (names_at role.Local q.node) d a
+  none_caught kind.ImportNamespaceSpecifier w i d a n = caught_here (import_flags q) symbol.ImportBindingExcludes.bits (names_at role.Local q.node) d a
+  none_caught kind.TSImportEqualsDeclaration w i d a n = absurd (never (sym i))
+  none_caught kind.TSTypeAliasDeclaration w i d a n = absurd (never (sym i))
+  none_caught kind.TSInterfaceDeclaration w i d a n = absurd (never (sym i))
+  none_caught kind.TSEnumDeclaration w i d a n = absurd (never (sym i))
+  none_caught kind.TSEnumMember w i d a n = absurd (never (sym i))
+  none_caught kind.TSNamespaceDeclaration w i d a n = absurd (never (sym i))
+  none_caught kind.TSTypeParameter w i d a n = absurd (never (sym i))
+  none_caught _ w i d a n = absurd a
+
+-- ---- as what a plain name is bound
+
+-- the parameters of a function are bound where its variables are
+parameter_takes : (node : Node) (path : List Node) → is_parameter node.kind ≡ true → ParentsFit node.kind path → EndsAtProgram node path → takes_variables (innermost (environments node path)) ≡ true
+parameter_takes node [] k f w = absurd (never (sym k ∙ ap is_parameter w))
+parameter_takes node (y ∷ path) k f w = list_takes path list f.2 w
+  where
+    of_parameter : (j : AstType) → is_parameter j ≡ true → is_parent y.kind j ≡ true → same_kind y.kind kind.FormalParameters ≡ true
+    of_parameter kind.FormalParameter i g = g
+    of_parameter kind.FormalParameterRest i g = g
+    of_parameter _ i g = absurd (never (sym i))
+
+    list : y.kind ≡ kind.FormalParameters
+    list = kind_is y.kind kind.FormalParameters (of_parameter node.kind k f.0)
+
+    function_takes_it : (z : Node) (rest : List Environment) → is_function_kind z.kind ≡ true → takes_variables (innermost (made_by z.kind z y ++ rest)) ≡ true
+    function_takes_it z rest g = by (same_kind kind.Function z.kind) (same_kind kind.ArrowFunctionExpression z.kind) refl refl g
+      where
+        outside : is_outside_body y ≡ true
+        outside = ap (λ i. holds_kind (kind.BindingIdentifier ∷ kind.FormalParameters ∷ []) i) list
+
+        none_round : (not (is_outside_body y) && has_parameter_expressions z) ≡ false
+        none_round = ap (λ b. not b && has_parameter_expressions z) outside
+
+        as_function : (i : AstType) → i ≡ kind.Function → takes_variables (innermost (made_by i z y ++ rest)) ≡ true
+        as_function i q = subst (λ j. takes_variables (innermost (made_by j z y ++ rest)) ≡ true) (sym q)
+            (subst (λ b. takes_variables (innermost ((cond b (record { kind = environment.Body; maker = z.node_id } ∷ []) [] ++ record { kind = environment.Parameters; maker = z.node_id } ∷ record { kind = environment.OwnName; maker = z.node_id } ∷ []) ++ rest)) ≡ true) (sym none_round) refl)
+
+        as_arrow : (i : AstType) → i ≡ kind.ArrowFunctionExpression → takes_variables (innermost (made_by i z y ++ rest)) ≡ true
+        as_arrow i q = subst (λ j. takes_variables (innermost (made_by j z y ++ rest)) ≡ true) (sym q)
+            (subst (λ b. takes_variables (innermost ((cond b (record { kind = environment.Body; maker = z.node_id } ∷ []) [] ++ record { kind = environment.ArrowParameters; maker = z.node_id } ∷ []) ++ rest)) ≡ true) (sym none_round) refl)
+
+        by : (a b : Bool) → same_kind kind.Function z.kind ≡ a → same_kind kind.ArrowFunctionExpression z.kind ≡ b → (a || (b || false)) ≡ true → takes_variables (innermost (made_by z.kind z y ++ rest)) ≡ true
+        by true b i j v = as_function z.kind (sym (kind_is kind.Function z.kind i))
+        by false true i j v = as_arrow z.kind (sym (kind_is kind.ArrowFunctionExpression z.kind j))
+        by false false i j v = absurd (never (sym v))
+
+    or_first : (a b : Bool) → (a || not b) ≡ true → b ≡ true → a ≡ true
+    or_first true b i j = refl
+    or_first false true i j = absurd (never (sym i))
+    or_first false false i j = absurd (never (sym j))
+
+    list_takes : (path : List Node) → y.kind ≡ kind.FormalParameters → ParentsFit y.kind path → EndsAtProgram y path → takes_variables (innermost (made_by y.kind y node ++ environments y path)) ≡ true
+    list_takes [] q g v = let u : kind.Program ≡ kind.FormalParameters = sym v ∙ q in absurd cc
+    list_takes (z ∷ path) q g v =
+        let parent : is_parent z.kind kind.FormalParameters ≡ true = subst (λ i. is_parent z.kind i ≡ true) q g.0 in
+        subst (λ i. takes_variables (innermost (made_by i y node ++ environments y (z ∷ path))) ≡ true) (sym q)
+        (function_takes_it z (environments z path) (or_first (is_function_kind z.kind) (is_ecmascript_kind z.kind) parent g.1))
+
+abbrev LexicalOrTaken : Bound → Type 0
+LexicalOrTaken b = (is_bound_as bound.Lexical b ≡ true) ⊎ (takes_variables b.environment ≡ true)
+
+module _ (s : SourceType) (q : Place) (f : ParentsFit q.node.kind q.path) (rooted : EndsAtProgram q.node q.path) (b : Bound) (plain_bound : is_plain b ≡ true) where
+  lexical_names : (es : List Environment) (names : List Node) → Among b (map (bound_here bound.Lexical es) names) → LexicalOrTaken b
+  lexical_names es names a = let (n, c, i) = among_map (bound_here bound.Lexical es) names b a in inl (sym (ap (is_bound_as bound.Lexical) i))
+
+  declarator : (path : List Node) → q.path ≡ path → Among b (bound_by_declarator q.node path) → LexicalOrTaken b
+  declarator [] e a = absurd a
+  declarator (y ∷ path) e a = go (is_with_text kind.VariableDeclaration (codes "var") y) a
+    where
+      go : (t : Bool) → Among b (map (cond t (bound_outward (environments q.node (y ∷ path))) (bound_here bound.Lexical (environments q.node (y ∷ path)))) (bound_names q.node)) → LexicalOrTaken b
+      go true c =
+          let (n, d, i) = among_map (bound_outward (environments q.node (y ∷ path))) (bound_names q.node) b c in
+          inr (subst (λ z. takes_variables z ≡ true) (ap (λ z. z.environment) i) (variables_taken q.node y path (subst (EndsAtProgram q.node) e rooted)))
+      go false c = lexical_names (environments q.node (y ∷ path)) (bound_names q.node) c
+
+  function_sort : (n : Node) → is_bound_as bound.Function (bound_by_declaration s q.node q.path n) ≡ true
+  function_sort n = either (language.is_block_function s q.node q.path)
+    where
+      either : (t : Bool) → is_bound_as bound.Function (cond t (bound_in bound.Function (innermost (environments q.node q.path)) (variable_environment (environments q.node q.path) ∷ []) (passed (environments q.node q.path)) n) (bound_here bound.Function (environments q.node q.path) n)) ≡ true
+      either true = refl
+      either false = refl
+
+  function : Among b (bound_by_function s q.node q.path) → LexicalOrTaken b
+  function a = go (is_statement q.node) a
+    where
+      go : (t : Bool) → Among b (map (cond t (bound_by_declaration s q.node q.path) (bound_in bound.OwnName (record { kind = environment.OwnName; maker = q.node.node_id }) [] [])) (names_at role.Id q.node)) → LexicalOrTaken b
+      go true c =
+          let (n, d, i) = among_map (bound_by_declaration s q.node q.path) (names_at role.Id q.node) b c in
+          inr (taking b plain_bound (sym (ap (is_bound_as bound.Function) i) ∙ function_sort n))
+      go false c =
+          let (n, d, i) = among_map (bound_in bound.OwnName (record { kind = environment.OwnName; maker = q.node.node_id }) [] []) (names_at role.Id q.node) b c in
+          absurd (never (ap (is_bound_as bound.OwnName) i ∙ no_own b plain_bound))
+
+  class : Among b (bound_by_class q.node q.path) → LexicalOrTaken b
+  class a = go (is_statement q.node) a
+    where
+      go : (t : Bool) → Among b (map (cond t (bound_in bound.Lexical (innermost (environments q.node q.path)) (record { kind = environment.Class; maker = q.node.node_id } ∷ []) []) (bound_in bound.OwnName (record { kind = environment.Class; maker = q.node.node_id }) [] [])) (names_at role.Id q.node)) → LexicalOrTaken b
+      go true c =
+          let (n, d, i) = among_map (bound_in bound.Lexical (innermost (environments q.node q.path)) (record { kind = environment.Class; maker = q.node.node_id } ∷ []) []) (names_at role.Id q.node) b c in
+          inl (sym (ap (is_bound_as bound.Lexical) i))
+      go false c =
+          let (n, d, i) = among_map (bound_in bound.OwnName (record { kind = environment.Class; maker = q.node.node_id }) [] []) (names_at role.Id q.node) b c in
+          absurd (never (ap (is_bound_as bound.OwnName) i ∙ no_own b plain_bound))
+
+  parameter : is_parameter q.node.kind ≡ true → Among b (map (bound_here bound.Parameter (environments q.node q.path)) (bound_names q.node)) → LexicalOrTaken b
+  parameter k a =
+      let (n, c, i) = among_map (bound_here bound.Parameter (environments q.node q.path)) (bound_names q.node) b a in
+      inr (subst (λ z. takes_variables z ≡ true) (ap (λ z. z.environment) i) (parameter_takes q.node q.path k f rooted))
+
+  catch : (patterns : List Node) → Among b (flat_map (bound_by_catch (environments q.node q.path)) patterns) → LexicalOrTaken b
+  catch patterns a =
+      let (n, c, d) = among_flat (bound_by_catch (environments q.node q.path)) patterns b a in
+      go (is kind.BindingIdentifier n) n d
+    where
+      go : (t : Bool) (n : Node) → Among b (map (bound_here (cond t bound.CatchName bound.Lexical) (environments q.node q.path)) (bound_names n)) → LexicalOrTaken b
+      go true n c =
+          let (m, d, i) = among_map (bound_here bound.CatchName (environments q.node q.path)) (bound_names n) b c in
+          absurd (never (ap (is_bound_as bound.CatchName) i ∙ no_catch_name b plain_bound))
+      go false n c = lexical_names (environments q.node q.path) (bound_names n) c
+
+  lexical_or_taken : (k : AstType) → q.node.kind ≡ k → Among b (bound_by k s q.node q.path) → LexicalOrTaken b
+  lexical_or_taken kind.VariableDeclarator w a = declarator q.path refl a
+  lexical_or_taken kind.Function w a = function a
+  lexical_or_taken kind.Class w a = class a
+  lexical_or_taken kind.FormalParameter w a = parameter (ap is_parameter w) a
+  lexical_or_taken kind.FormalParameterRest w a = parameter (ap is_parameter w) a
+  lexical_or_taken kind.CatchParameter w a = catch (children_of role.Pattern q.node.children) a
+  lexical_or_taken kind.ImportSpecifier w a = lexical_names (environments q.node q.path) (names_at role.Local q.node) a
+  lexical_or_taken kind.ImportDefaultSpecifier w a = lexical_names (environments q.node q.path) (names_at role.Local q.node) a
+  lexical_or_taken kind.ImportNamespaceSpecifier w a = lexical_names (environments q.node q.path) (names_at role.Local q.node) a
+  lexical_or_taken _ w a = absurd a
+
+among_written : (s : SourceType) (b : Bound) (q : Place) (ss : List Step) → Among (entering q) ss → Among b (bound_by q.node.kind s q.node q.path) → Among b (written s ss)
+among_written s b q [] i j = absurd i
+among_written s b q (y ∷ ss) (inl i) j = among_left b (bound_at s y) (written s ss) (subst (λ z. Among b (bound_at s z)) (sym i) j)
+among_written s b q (y ∷ ss) (inr i) j = among_right b (bound_at s y) (written s ss) (among_written s b q ss i j)
+
+-- ---- clashes
+
+any_of : {A : Type 0} → (g : A → Bool) (xs : List A) (y : A) → Among y xs → g y ≡ true → list_any g xs ≡ true
+any_of g [] y a k = absurd a
+any_of g (z ∷ xs) y (inl i) k = rw (subst (λ w. g w ≡ true) (sym i) k) refl
+any_of g (z ∷ xs) y (inr a) k = or_second (g z) (list_any g xs) (any_of g xs y a k)
+  where
+    or_second : (b c : Bool) → c ≡ true → (b || c) ≡ true
+    or_second true c w = refl
+    or_second false c w = w
+
+-- a variable and what is lexical in an environment that it passes
+unmoved_variable : (ws : List Bound) (b : Bound) → is_bound_as bound.Function b ≡ false → moved_by ws b ≡ b
+unmoved_variable ws b h = ap (λ t. cond t (record b { also = unless_barred ws b b.also }) b) h
+
+no_function : (b : Bound) (k : BoundAs) → is_bound_as k b ≡ true → is_bound_as k (record b { sort = bound.Function }) ≡ false → is_bound_as bound.Function b ≡ false
+no_function b k h n = elim (cases_Bool (is_bound_as bound.Function b)) [
+  | inr q ↦ q
+  | inl q ↦ (let s : b.sort ≡ bound.Function = same_true the_ways tt b.sort bound.Function q in absurd (never (sym h ∙ subst (λ w. is_bound_as k (record b { sort = w }) ≡ false) (sym s) n)))
+]
+
+module _ (p : Tree) (h : first_fault p ≡ None) (e : is_ecmascript p ≡ true) (numbered : IsNumbered p.root) (none : HasNoWith p) (x : Name) (plain_name : IsPlainName p x) (no_clash : has_clash p x ≡ false) where
+  abbrev ws : List Bound
+  ws = written p.source_type (steps p)
+
+  abbrev bs : List Bound
+  bs = bound_of p
+
+  abbrev ds : List Declaration
+  ds = declarations (events (steps p))
+
+  clash : (b c : Bound) (d : Environment) → Among b ws → Among c ws → b.name ≡ x → c.name ≡ x → is_bound_as bound.Var b ≡ true → is_bound_as bound.Lexical c ≡ true → Among d b.passed → c.environment ≡ d → ⊥
+  clash b c d i j n m var lexical a q =
+      let there : Among b bs = subst (λ z. Among z bs) (unmoved_variable ws b (no_function b bound.Var var refl)) (of_map (moved_by ws) ws b i) in
+      let other : Among c bs = subst (λ z. Among z bs) (unmoved_variable ws c (no_function c bound.Lexical lexical refl)) (of_map (moved_by ws) ws c j) in
+      let same : bytes_eq c.name b.name ≡ true = elim (name_tells c.name b.name) [ inl k ↦ k.0 | inr k ↦ absurd (k.1 (m ∙ sym n)) ] in
+      let named : bytes_eq b.name x ≡ true = elim (name_tells b.name x) [ inl k ↦ k.0 | inr k ↦ absurd (k.1 n) ] in
+      let in_it : is_lexical_in d c ≡ true = rw (subst (λ z. same_environment c.environment z ≡ true) q (same_again c.environment), lexical) refl in
+      let meets : meets_lexical b c ≡ true = rw (same, any_of (λ z. is_lexical_in z c) (b.passed ++ b.environment ∷ []) d (among_left d b.passed (b.environment ∷ []) a) in_it) refl in
+      let clashing : clashes bs x b ≡ true = rw (var, named, any_of (meets_lexical b) bs c other meets) refl in
+      never (sym (any_of (clashes bs x) bs b there clashing) ∙ no_clash)
+
+  -- a declaration of the name, by what binds it
+  record IsExplained (d : Declaration) : Type 0 where
+    bind : Bound
+    among : Among bind ws
+    named : bind.name ≡ x
+    known : KnownBound p h e numbered none x plain_name bind
+    same : known.declares.declaration ≡ d
+
+  explained : (d : Declaration) → Among d ds → d.naming.name ≡ x → IsExplained d
+  explained d a n =
+      let (b, i, m, j) = each_identifier p.source_type x (λ k. (b : Bound) × Among b ws × (b.name ≡ x) × (b.identifier ≡ k)) p h e (λ b i m. (b, i, m, refl)) d a n in
+      let k : KnownBound p h e numbered none x plain_name b = known_bound p h e numbered none x plain_name b i m in
+      let one : identifier_of k.declares.declaration ≡ identifier_of d = k.declares.identifier ∙ j in
+      record { bind = b; among = i; named = m; known = k; same = same_declaration k.declares.declaration d ds k.declares.among a one (declared_once p (identifier_of k.declares.declaration) h numbered) }
+
+  familiar_at : (q : Place) → Among (entering q) (steps p) → IsFamiliar (node_at p) q
+  familiar_at q a = each_at (FamiliarAt (node_at p)) (steps p) (entering q) (familiar_program p h e numbered) a
+
+  -- a `var` passes no scope that binds the name
+  passes_none : (d c : Declaration) (v : IsExplained d) (w : IsExplained c) → v.known.declares.declaration.how ≡ hoisted → (n : ℕ) → contains (map (λ s. s.number) v.known.declares.declaration.route.passed) n ≡ true → w.known.declares.declaration.route.target.number ≡ n → ⊥
+  passes_none d c v w how n i t =
+      let q : Place = v.known.declares.place in
+      let there : Among (entering q) (steps p) = v.known.declares.entered in
+      let variable : IsVariable q v.known.declares.declaration = hoisted_is q v.known.declares.declaration v.known.declares.told how in
+      let kind_of : q.node.kind ≡ kind.VariableDeclarator = declared_at (λ z. z.how ≡ hoisted → q.node.kind ≡ kind.VariableDeclarator) (declared_on_entering q) v.known.declares.declaration (hoisted_kind q) v.known.declares.told how in
+      let binds : (is_bound_as bound.Var v.bind ≡ true) × (v.bind.passed ≡ passed (environments q.node q.path)) = variable_bound p.source_type q v.known.declares.declaration variable v.bind kind_of v.known.declares.binds in
+      let (s, at, number) = scope_of_number v.known.declares.declaration.route.passed n i in
+      let before : Among s (passed_before is_var q.chain) = route_passes q.chain s (subst (λ r. Among s r.passed) variable.route at) in
+      let known : IsKnown q = each_at KnownAt (steps p) (entering q) (known_program p h e) there in
+      let round : map maker_of_scope q.chain ≡ makers (environments q.node q.path) = known.round (each_at IsOutsideWith (steps p) (entering q) none there) in
+      let passing : IsPassed (environments q.node q.path) s = passes_scope q.chain q.node q.path s round before in
+      let takes : (takes_variables passing.passes ≡ false) × Among passing.passes (environments q.node q.path) = passed_takes_none (environments q.node q.path) passing.passes passing.among in
+      let opened : AllOpened (openers (steps p)) q.chain = each_at (IsPlaceOpened (openers (steps p))) (steps p) (entering q) (places_opened p) there in
+      let s_opened : IsOpened (openers (steps p)) s = opened_among q.chain s opened (before_among q.chain s before) in
+      let opener : Some w.known.declares.declaration.route.target.opener ≡ Some s.opener = sym w.known.declares.opened ∙ ap (slice_get (openers (steps p))) (t ∙ sym number) ∙ s_opened in
+      let maker : w.bind.environment.maker ≡ passing.passes.maker = sym w.known.declares.maker ∙ some_is w.known.declares.declaration.route.target.opener s.opener opener ∙ sym passing.maker in
+      let made : IsMadeBy (q.node ∷ q.path) passing.passes = made_in q.node q.path passing.passes takes.1 in
+      let familiar : IsFamiliar (node_at p) q = familiar_at q there in
+      let one_maker : w.known.placed.maker ≡ made.maker = some_is w.known.placed.maker made.maker (sym w.known.placed.found ∙ ap (node_at p) (maker ∙ made.is) ∙ known_among (node_at p) (q.node ∷ q.path) made.maker (familiar.node, familiar.path) made.among) in
+      let kinds : w.bind.environment.kind ≡ passing.passes.kind = one_kind made.maker.kind w.bind.environment.kind passing.passes.kind passing.passes.maker (subst (λ z. may_make z.kind w.bind.environment.kind ≡ true) one_maker w.known.placed.makes) made.makes passing.scoped takes.0 in
+      let same : w.bind.environment ≡ passing.passes = λ z. record { kind = kinds z; maker = maker z } in
+      let r : Place = w.known.declares.place in
+      let familiar_other : IsFamiliar (node_at p) r = familiar_at r w.known.declares.entered in
+      elim (lexical_or_taken p.source_type r familiar_other.parents familiar_other.rooted w.bind w.known.plainly r.node.kind refl w.known.declares.binds) [
+        | inl lexical ↦ clash v.bind w.bind passing.passes v.among w.among v.named w.named binds.0 lexical (subst (Among passing.passes) (sym binds.1) passing.among) same
+        | inr taken ↦ never (sym taken ∙ ap takes_variables same ∙ takes.0)
+      ]
+    where
+      opened_among : (chain : List OpenScope) (s : OpenScope) → AllOpened (openers (steps p)) chain → Among s chain → IsOpened (openers (steps p)) s
+      opened_among [] s k a = absurd a
+      opened_among (z ∷ chain) s k (inl j) = subst (IsOpened (openers (steps p))) j k.0
+      opened_among (z ∷ chain) s k (inr a) = opened_among chain s k.1 a
+
+  keeps_clear : (d c : Declaration) → IsExplained d → IsExplained c → KeepsClear d c
+  keeps_clear d c v w = subst (λ z. KeepsClear z c) v.same (subst (KeepsClear v.known.declares.declaration) w.same (record {
+    as_variable = λ how n i b. elim b [
+      | inl t ↦ passes_none d c v w how n i t
+      | inr t ↦ nowhere n (sym (bodiless p h e numbered none x plain_name w.bind w.known) ∙ t)
+    ];
+    as_function = λ how m. v.known.declares.unmoved how;
+    as_catch_name = λ how b. caught_never v how;
+  }))
+    where
+      nowhere : (n : ℕ) → None ≡ Some n → ⊥
+      nowhere n z = absurd cc
+
+      caught_never : (v : IsExplained d) → v.known.declares.declaration.how ≡ caught → ⊥
+      caught_never v how =
+          let q : Place = v.known.declares.place in
+          let familiar : IsFamiliar (node_at p) q = familiar_at q v.known.declares.entered in
+          none_caught p.source_type q x (λ b a n. no_catch_name b (plain_name b (among_written p.source_type b q (steps p) v.known.declares.entered a) n)) q.node.kind refl familiar.ecmascript v.known.declares.declaration v.known.declares.told v.known.declares.named how
+
+  clear_list : (cs : List Declaration) → ((d : Declaration) → Among d cs → Among d ds) → AllKeepClear x cs
+  clear_list [] k = tt
+  clear_list (d ∷ cs) k = (
+    λ n c a m. (let v : IsExplained d = explained d (k d (inl refl)) n in let w : IsExplained c = explained c (k c (inr a)) m in (keeps_clear d c v w, keeps_clear c d w v)),
+    clear_list cs (λ c a. k c (inr a)),
+  )
+
+  pub unclashed_clear : AllKeepClear x ds
+  unclashed_clear = clear_list ds (λ d a. a)

@@ -1,0 +1,13 @@
+use Rattle.language_ties.proofs.clear.LexicalNames.{lexical_clear}
+use Rattle.language_ties.proofs.clear.SingleNames.{single_clear}
+use Rattle.language_ties.proofs.clear.UnclashedNames.{unclashed_clear}
+use Rattle.language_ties.proofs.laws.names_keep_clear.Goals as goal
+
+pub returns-clause-lexical : goal.returns-clause-lexical
+returns-clause-lexical c = λ p name h e inside. lexical_clear p name h e inside
+
+pub returns-clause-once : goal.returns-clause-once
+returns-clause-once c = λ p name h e numbered once. single_clear p name h e numbered once
+
+pub returns-clause-unclashed : goal.returns-clause-unclashed
+returns-clause-unclashed c = λ p name h e numbered none plain no_clash. unclashed_clear p h e numbered none name plain no_clash

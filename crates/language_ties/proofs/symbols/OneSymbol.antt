@@ -1,0 +1,231 @@
+-- Where the declarations of a name keep clear of each other, those that one environment binds have one symbol.
+use Rattle.std.proofs.Common.{◌≡◌, ℕ, List, [], ◌∷◌, ◌++◌, Option, Some, None, Bool, true, false, ◌&&◌, ◌||◌, not, inl, inr, cond, map, flat_map, refl, sym, ap, subst, ◌∙◌}
+use Rattle.std.specs.Prelude.{slice_get}
+use Rattle.semantic_kinds.specs.declared.kind.AstType.{AstType}
+use Rattle.semantic_kinds.specs.declared.kind.AstType.TheVariants as kind
+use Rattle.semantic_syntax.specs.Reading as reading
+use Rattle.semantic_syntax.specs.SourceTypes.{is_typescript}
+use Rattle.semantic_syntax.specs.Tables.{Name}
+use Rattle.semantic_tree.specs.Faults.{first_fault}
+use Rattle.semantic_tree.specs.Tree.{Tree, IsNumbered}
+use Rattle.semantic_tree.specs.Views.{is}
+use Rattle.semantic_tree.specs.declared.node.Node.{Node}
+use Rattle.semantic_model.specs.Analysis.{analysis_of, symbol_at}
+use Rattle.semantic_model.specs.Binder.{is_var, is_clause, is_special, is_statement, is_block_function, declared_by, declared_inside, declared_on_entering, declared_on_opening}
+use Rattle.semantic_model.specs.Declaration.{Declaration, How, plain, hoisted, moved, caught, home, body_or}
+use Rattle.semantic_model.specs.EachStep.{EachStep}
+use Rattle.semantic_model.specs.Entries.{Among}
+use Rattle.semantic_model.specs.Event.{declares, declared, declarations, events, events_of, placed, placed_by, written_declarations}
+use Rattle.semantic_model.specs.NodeTable.{node_tables}
+use Rattle.semantic_model.specs.Place as place
+use Rattle.semantic_model.specs.Place.{Place, OpenScope, is_strict}
+use Rattle.semantic_model.specs.ScopeKind.{opened_scope}
+use Rattle.semantic_model.specs.Step.{Step, entering, steps}
+use Rattle.semantic_model.specs.TablesOf.{tables_of}
+use Rattle.semantic_model.proofs.alone.Targets.{IsOwn, entering_own}
+use Rattle.semantic_model.proofs.fold.BodyChains.{AllInTable, IsStepIn}
+use Rattle.semantic_model.proofs.fold.Declared.{IsDeclaredIn, entering_in}
+use Rattle.semantic_model.proofs.fold.EachDeclared.{EachDeclared, each_on_entering}
+use Rattle.semantic_model.proofs.fold.Orders.{HasForm, table_of, root_body, steps_in}
+use Rattle.semantic_model.proofs.form.Shape.{has_form}
+use Rattle.semantic_model.proofs.lists.Members.{among_left, among_right}
+use Rattle.tangle_model.specs.Surroundings.{in_with_under}
+use Rattle.language_ties.specs.Bound.{Bound, bound_in, bound_by, is_bound_as}
+use Rattle.language_ties.specs.EcmaScript.{is_ecmascript_kind, is_ecmascript}
+use Rattle.language_ties.specs.Environments.{environments, innermost, takes_variables}
+use Rattle.language_ties.specs.OneSymbol.{IsBoundByNode, EnvironmentsHaveOneSymbol}
+use Rattle.language_ties.specs.SharedSymbols.{is_own_name, HasHomesSymbol, ShareSymbols}
+use Rattle.language_ties.specs.ToldNames.{told_by_declaration, told_by_bound, is_function_in_block, Declares}
+use Rattle.language_ties.specs.declared.bound_as.BoundAs.TheVariants as bound
+use Rattle.language_ties.specs.declared.environment_kind.EnvironmentKind.TheVariants as environment
+use Rattle.language_ties.proofs.DeclaredAsBound.{declarations_are_bound}
+use Rattle.language_ties.proofs.EnvironmentsRound.{IsKnown, KnownAt, known_program}
+use Rattle.language_ties.proofs.Innermost.{innermost_made}
+use Rattle.language_ties.proofs.shared.Events.{entering_visible}
+use Rattle.language_ties.proofs.shared.PlainNodes.{IsPlainPlace, IsEcmaScriptAt, ecmascript_program}
+use Rattle.language_ties.proofs.symbols.ScopeOpeners.{openers, IsOpened, AllOpened, IsPlaceOpened, targets_opened, places_opened, root_opener, one_scope}
+use Rattle.language_ties.proofs.symbols.SymbolNumbers.{symbol_is}
+
+-- ---- lists
+
+pub of_map : {A B : Type 0} → (f : A → B) (xs : List A) (x : A) → Among x xs → Among (f x) (map f xs)
+of_map f [] x a = absurd a
+of_map f (y ∷ xs) x (inl e) = inl (ap f e)
+of_map f (y ∷ xs) x (inr a) = inr (of_map f xs x a)
+
+pub of_flat : {A B : Type 0} → (f : A → List B) (xs : List A) (x : A) (y : B) → Among x xs → Among y (f x) → Among y (flat_map f xs)
+of_flat f [] x y a b = absurd a
+of_flat f (z ∷ xs) x y (inl e) b = among_left y (f z) (flat_map f xs) (subst (λ w. Among y (f w)) (sym e) b)
+of_flat f (z ∷ xs) x y (inr a) b = among_right y (f z) (flat_map f xs) (of_flat f xs x y a b)
+
+pub each_at : (P : Step → Type 0) (ss : List Step) (st : Step) → EachStep P ss → Among st ss → P st
+each_at P [] st h a = absurd a
+each_at P (y ∷ ss) st h (inl e) = subst P e h.0
+each_at P (y ∷ ss) st h (inr a) = each_at P ss st h.1 a
+
+pub declared_at : (P : Declaration → Type 0) (ds : List Declaration) (d : Declaration) → EachDeclared P ds → Among d ds → P d
+declared_at P [] d h a = absurd a
+declared_at P (e ∷ ds) d h (inl q) = subst P q h.0
+declared_at P (e ∷ ds) d h (inr a) = declared_at P ds d h.1 a
+
+-- what is bound is told to be declared
+pub told_too : (ds : List Declaration) (bs : List Bound) → map told_by_declaration ds ≡ map told_by_bound bs → (b : Bound) → Among b bs → (d : Declaration) × Among d ds × (told_by_declaration d ≡ told_by_bound b)
+told_too ds [] h b a = absurd a
+told_too [] (c ∷ bs) h b a = absurd cc
+told_too (d ∷ ds) (c ∷ bs) h b (inl e) = let q : told_by_declaration d ≡ told_by_bound c = cc in (d, inl refl, q ∙ ap told_by_bound e)
+told_too (d ∷ ds) (c ∷ bs) h b (inr a) =
+    let q : map told_by_declaration ds ≡ map told_by_bound bs = cc in
+    let (e, i, j) = told_too ds bs q b a in (e, inr i, j)
+
+-- ---- declarations of a node
+
+-- what isn't an own name is declared on entering the node
+own_names : (b : Bool) (x : Node) (f : Node → Bound) (c : Bound) (names : List Node) → Among c (map (cond b f (bound_in bound.OwnName (record { kind = environment.OwnName; maker = x.node_id }) [] [])) names) → is_bound_as bound.OwnName c ≡ false → b ≡ true
+own_names true x f c names a n = refl
+own_names false x f c [] a n = absurd a
+own_names false x f c (y ∷ ys) (inl e) n = let w : true ≡ false = ap (is_bound_as bound.OwnName) e ∙ n in absurd cc
+own_names false x f c (y ∷ ys) (inr a) n = own_names false x f c ys a n
+
+class_names : (b : Bool) (x : Node) (f : Node → Bound) (c : Bound) (names : List Node) → Among c (map (cond b f (bound_in bound.OwnName (record { kind = environment.Class; maker = x.node_id }) [] [])) names) → is_bound_as bound.OwnName c ≡ false → b ≡ true
+class_names true x f c names a n = refl
+class_names false x f c [] a n = absurd a
+class_names false x f c (y ∷ ys) (inl e) n = let w : true ≡ false = ap (is_bound_as bound.OwnName) e ∙ n in absurd cc
+class_names false x f c (y ∷ ys) (inr a) n = class_names false x f c ys a n
+
+none_inside : (s : _) (p : Place) (own : OpenScope) (c : Bound) (k : AstType) → is_ecmascript_kind k ≡ true → Among c (bound_by k s p.node p.path) → is_bound_as bound.OwnName c ≡ false → declared_inside k p own ≡ []
+none_inside s p own c kind.Function i a n = rw (own_names (is_statement p.node) p.node _ c _ a n) refl
+none_inside s p own c kind.Class i a n = rw (class_names (is_statement p.node) p.node _ c _ a n) refl
+none_inside s p own c kind.TSMappedType i a n = absurd cc
+none_inside s p own c _ i a n = refl
+
+-- a declaration at a node that is no function in a block doesn't move
+stays_put : (s t : Bool) → (s && t) ≡ false → s ≡ true → t ≡ false
+stays_put true t h e = h
+stays_put false t h e = absurd cc
+
+not_block : (a b c v w : Bool) → v ≡ true → (a && b && c && not (v || w)) ≡ true → ⊥
+not_block true true true true w e h = absurd cc
+not_block true true false true w e h = absurd cc
+not_block true false c true w e h = absurd cc
+not_block false b c true w e h = absurd cc
+not_block a b c false w e h = absurd cc
+
+takes_of : (b : Bool) → not b ≡ false → b ≡ true
+takes_of true h = refl
+takes_of false h = absurd cc
+
+module _ (p : Place) (known : IsKnown p) (w : in_with_under p.path ≡ false) (f : is_function_in_block p.node p.path ≡ false) where
+  never_moved : p.node.kind ≡ kind.Function → is_statement p.node ≡ true → is_block_function p ≡ true → ⊥
+  never_moved k s b =
+      let function : (is kind.Function p.node && is_statement p.node) ≡ true = rw (k, s) refl in
+      let takes : takes_variables (innermost (environments p.node p.path)) ≡ true = takes_of (takes_variables (innermost (environments p.node p.path))) (stays_put (is kind.Function p.node && is_statement p.node) (not (takes_variables (innermost (environments p.node p.path)))) f function) in
+      let variable : is_var (place.innermost p.chain) ≡ true = ap (λ m. m.takes_variables) (innermost_made p.chain p.node p.path (known.round w) (inr takes)) ∙ takes in
+      not_block (not (is_special p.node)) (not (is_typescript p.source_type)) (not (is_strict p.chain)) (is_var (place.innermost p.chain)) (is_clause (place.innermost p.chain)) variable b
+
+  none_moves : EachDeclared (λ d. d.how ≡ moved → ⊥) (declared_by p.node.kind p)
+  none_moves = each_on_entering (λ d. d.how ≡ moved → ⊥) (λ how r. how ≡ moved → ⊥) (λ node row is_pure name r. r) p.node.kind p (record {
+    at_home = λ q. absurd cc;
+    when_caught = λ q. absurd cc;
+    when_hoisted = λ e q. absurd cc;
+    when_moved = λ e s b q. never_moved e s b;
+    when_inferred = λ q. absurd cc;
+  })
+
+  placed_stays : (ds : List Declaration) (how : How) (d : Declaration) → d.how ≡ how → (d.how ≡ moved → ⊥) → placed_by how ds d ≡ d
+  placed_stays ds plain d e n = refl
+  placed_stays ds hoisted d e n = refl
+  placed_stays ds caught d e n = refl
+  placed_stays ds moved d e n = absurd (n e)
+
+-- ---- the program
+
+module _ (p : Tree) (h : first_fault p ≡ None) (e : is_ecmascript p ≡ true) (numbered : IsNumbered p.root) (x : Name) where
+  abbrev form : HasForm p
+  form = has_form p h
+
+  abbrev ds : List Declaration
+  ds = written_declarations (steps p)
+
+  -- the declaration of what is bound
+  pub record DeclarationOf (b : Bound) : Type 0 where
+    pub declaration : Declaration
+    pub among : Among declaration (declarations (events (steps p)))
+    pub named : declaration.naming.name ≡ x
+    pub identifier : declaration.naming.identifier ≡ b.identifier
+    pub visible : is_own_name declaration ≡ false
+    pub opened : IsOpened (openers (steps p)) declaration.route.target
+    pub maker : declaration.route.target.opener ≡ b.environment.maker
+    pub entry : slice_get (table_of p) declaration.route.target.number ≡ Some declaration.route.target.body
+    -- a target with a body is the innermost scope of the place
+    pub place : Place
+    pub entered : Among (entering place) (steps p)
+    pub told : Among declaration (declared_on_entering place)
+    pub binds : Among b (bound_by place.node.kind p.source_type place.node place.path)
+    pub unmoved : declaration.how ≡ moved → ⊥
+    pub bodied : IsOwn (table_of p) place.chain declaration.route.target
+
+  known_at : (b : Bound) (c : IsBoundByNode p b) → IsKnown c.place
+  known_at b c = each_at KnownAt (steps p) (entering c.place) (known_program p h e) c.entered
+
+  plain_at : (b : Bound) (c : IsBoundByNode p b) → IsPlainPlace c.place
+  plain_at b c = each_at IsEcmaScriptAt (steps p) (entering c.place) (ecmascript_program p h form.root e) c.entered
+
+  pub declaration_of : (b : Bound) → IsBoundByNode p b → b.name ≡ x → DeclarationOf b
+  declaration_of b c n =
+      let q : Place = c.place in
+      let own : OpenScope = opened_scope q 0 in
+      let known : IsKnown q = known_at b c in
+      let plain_place : IsPlainPlace q = plain_at b c in
+      let told : map told_by_declaration (declared_on_opening q own ++ declared_on_entering q) ≡ map told_by_bound (bound_by q.node.kind p.source_type q.node q.path) =
+      each_at (Declares p.source_type) (steps p) (entering q) (declarations_are_bound p h e) c.entered c.apart_from_with c.no_block_function in
+      let empty : declared_on_opening q own ≡ [] = none_inside p.source_type q own b q.node.kind known.ecmascript c.binds c.no_own_name in
+      let (d, a, t) = told_too (declared_on_entering q) (bound_by q.node.kind p.source_type q.node q.path) (subst (λ os. map told_by_declaration (os ++ declared_on_entering q) ≡ map told_by_bound (bound_by q.node.kind p.source_type q.node q.path)) empty told) b c.binds in
+      let stays : placed ds d ≡ d = placed_stays q known c.apart_from_with c.no_block_function ds d.how d refl (declared_at (λ i. i.how ≡ moved → ⊥) (declared_on_entering q) d (none_moves q known c.apart_from_with c.no_block_function) a) in
+      let event : Among (declares d) (events_of ds (entering q)) = subst (λ i. Among (declares i) (events_of ds (entering q))) stays (of_map (λ i. declares (placed ds i)) (declared_on_entering q) d a) in
+      let chain_in : AllInTable (table_of p) q.chain = entered_chain q (steps p) (steps_in p form) c.entered in
+      let opened : AllOpened (openers (steps p)) q.chain = each_at (IsPlaceOpened (openers (steps p))) (steps p) (entering q) (places_opened p) c.entered in
+      record {
+        declaration = d;
+        among = of_flat declared (events (steps p)) (declares d) d (of_flat (events_of ds) (steps p) (entering q) (declares d) c.entered event) (inl refl);
+        named = ap (λ i. i.name) t ∙ n;
+        identifier = ap (λ i. i.identifier) t;
+        visible = declared_at (λ i. is_own_name i ≡ false) (declared_on_entering q) d (entering_visible q.node.kind q plain_place plain_place.node.of_kind) a;
+        opened = declared_at (λ i. IsOpened (openers (steps p)) i.route.target) (declared_on_entering q) d (targets_opened (openers (steps p)) (root_opener p form.root numbered) q opened) a;
+        maker = ap (λ i. i.maker) t;
+        place = q;
+        entered = c.entered;
+        told = a;
+        binds = c.binds;
+        unmoved = declared_at (λ i. i.how ≡ moved → ⊥) (declared_on_entering q) d (none_moves q known c.apart_from_with c.no_block_function) a;
+        bodied = declared_at (λ i. IsOwn (table_of p) q.chain i.route.target) (declared_on_entering q) d (entering_own (table_of p) q.node.kind q chain_in) a;
+        entry = (declared_at (IsDeclaredIn (table_of p) (root_body p form)) (declared_on_entering q) d (entering_in (table_of p) (root_body p form) q.node.kind q chain_in) a).target.entry;
+      }
+    where
+      entered_chain : (q : Place) (ss : List Step) → EachStep (IsStepIn (table_of p)) ss → Among (entering q) ss → AllInTable (table_of p) q.chain
+      entered_chain q ss k a = each_at (IsStepIn (table_of p)) ss (entering q) k a
+
+  same_home : (b c : Bound) (d : DeclarationOf b) (f : DeclarationOf c) → b.environment.maker ≡ c.environment.maker → home d.declaration ≡ home f.declaration
+  same_home b c d f q =
+      let number : d.declaration.route.target.number ≡ f.declaration.route.target.number = one_scope p numbered d.declaration.route.target f.declaration.route.target d.opened f.opened (d.maker ∙ q ∙ sym f.maker) in
+      let body : Some d.declaration.route.target.body ≡ Some f.declaration.route.target.body = sym d.entry ∙ ap (slice_get (table_of p)) number ∙ f.entry in
+      let same : d.declaration.route.target.body ≡ f.declaration.route.target.body = cc in
+      λ i. body_or (number i) (same i)
+
+  abbrev bound_in_tables : ℕ → Name → Option ℕ
+  bound_in_tables k y = reading.bound_in (tables_of p) k y
+
+  pub one_symbol : ShareSymbols p x → EnvironmentsHaveOneSymbol p x
+  one_symbol shared b c i j n m q =
+      let d : DeclarationOf b = declaration_of b i n in
+      let f : DeclarationOf c = declaration_of c j m in
+      let s : HasHomesSymbol p d.declaration = shared.share d.declaration d.among d.named d.visible in
+      let t : HasHomesSymbol p f.declaration = shared.share f.declaration f.among f.named f.visible in
+      let there : bound_in_tables (home d.declaration) x ≡ Some s.symbol = subst (λ y. bound_in_tables (home d.declaration) y ≡ Some s.symbol) d.named s.bound in
+      let here : bound_in_tables (home f.declaration) x ≡ Some t.symbol = subst (λ y. bound_in_tables (home f.declaration) y ≡ Some t.symbol) f.named t.bound in
+      let both : Some s.symbol ≡ Some t.symbol = sym there ∙ ap (λ k. bound_in_tables k x) (same_home b c d f q) ∙ here in
+      let same : s.symbol ≡ t.symbol = cc in
+      record {
+        symbol = s.symbol;
+        first = subst (λ k. symbol_at (analysis_of p) k ≡ Some s.symbol) d.identifier (symbol_is p d.declaration.naming.identifier s.symbol h numbered s.declared);
+        second = subst (λ k. symbol_at (analysis_of p) k ≡ Some s.symbol) f.identifier (symbol_is p f.declaration.naming.identifier s.symbol h numbered (subst (λ k. Among (record { node = f.declaration.naming.identifier; number = k }) (node_tables (steps p)).symbols) (sym same) t.declared));
+      }

@@ -1,0 +1,32 @@
+-- The symbols of the identifiers by which an environment binds a name.
+use Rattle.std.specs.Prelude.{◌≡◌, ℕ, false, Some}
+use Rattle.semantic_syntax.specs.Tables.{Name}
+use Rattle.semantic_tree.specs.Tree.{Tree}
+use Rattle.semantic_model.specs.Analysis.{analysis_of, symbol_at}
+use Rattle.semantic_model.specs.Entries.{Among}
+use Rattle.semantic_model.specs.Place.{Place}
+use Rattle.semantic_model.specs.Step.{entering, steps}
+use Rattle.tangle_model.specs.Surroundings.{in_with_under}
+use Rattle.language_ties.specs.Bound.{Bound, bound_by, is_bound_as}
+use Rattle.language_ties.specs.ToldNames.{is_function_in_block}
+use Rattle.language_ties.specs.declared.bound_as.BoundAs.TheVariants as bound
+
+-- a node binds it, outside of `with`, neither as a function in a block nor as the own name of an expression
+pub record IsBoundByNode (p : Tree) (b : Bound) : Type 0 where
+  pub place : Place
+  pub entered : Among (entering place) (steps p)
+  pub apart_from_with : in_with_under place.path ≡ false
+  pub no_block_function : is_function_in_block place.node place.path ≡ false
+  pub no_own_name : is_bound_as bound.OwnName b ≡ false
+  pub binds : Among b (bound_by place.node.kind p.source_type place.node place.path)
+
+-- both identifiers have one symbol
+pub record HaveOneSymbol (p : Tree) (b c : Bound) : Type 0 where
+  pub symbol : ℕ
+  pub first : symbol_at (analysis_of p) b.identifier ≡ Some symbol
+  pub second : symbol_at (analysis_of p) c.identifier ≡ Some symbol
+
+-- any two by which the environments of one node bind the name
+abbrev pub EnvironmentsHaveOneSymbol : Tree → Name → Type 0
+EnvironmentsHaveOneSymbol p name =
+    (b c : Bound) → IsBoundByNode p b → IsBoundByNode p c → b.name ≡ name → c.name ≡ name → b.environment.maker ≡ c.environment.maker → HaveOneSymbol p b c
