@@ -1,9 +1,9 @@
 'use strict';
 // Reads one line of a report from left to right.
 
-const WORD = /[^ ]+/y;
-const NUMBER = /0|[1-9][0-9]*/y;
 const QUOTED = /"(?:[^"\\]|\\.)*"/y;
+const ZERO = 0x30;
+const TEN = 10;
 
 class Cursor {
   constructor(line) {
@@ -56,11 +56,35 @@ class Cursor {
   }
 
   word() {
-    return this.match(WORD, 'a word');
+    const { line, place } = this;
+    const space = line.indexOf(' ', place);
+    const end = space === -1 ? line.length : space;
+    if (end === place) {
+      this.fail('a word');
+    }
+    this.place = end;
+    return line.slice(place, end);
   }
 
+  // The digit here, above nine or below zero where none stands.
+  digit() {
+    return this.line.charCodeAt(this.place) - ZERO;
+  }
+
+  // Zero, or digits that don't begin with it.
   number() {
-    return Number(this.match(NUMBER, 'a number'));
+    let value = this.digit();
+    if (!(value >= 0 && value < TEN)) {
+      this.fail('a number');
+    }
+    this.place += 1;
+    if (value > 0) {
+      for (let digit = this.digit(); digit >= 0 && digit < TEN; digit = this.digit()) {
+        value = TEN * value + digit;
+        this.place += 1;
+      }
+    }
+    return value;
   }
 
   // A number, or null where a dash stands.
@@ -74,9 +98,16 @@ class Cursor {
     return this.number();
   }
 
+  // Most texts have no escapes, and end with the next quote.
   quoted() {
-    const text = this.match(QUOTED, 'a quoted text');
-    return text.includes('\\') ? JSON.parse(text) : text.slice(1, -1);
+    const { line, place } = this;
+    const end = line.indexOf('"', place + 1);
+    const text = line.slice(place + 1, end);
+    if (line[place] !== '"' || end === -1 || text.includes('\\')) {
+      return JSON.parse(this.match(QUOTED, 'a quoted text'));
+    }
+    this.place = end + 1;
+    return text;
   }
 
   quotedOrDash() {

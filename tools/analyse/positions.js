@@ -46,8 +46,9 @@ function lastAtMost(list, value) {
 // A byte order mark belongs to no line.
 function lineStartsOf(text) {
   const starts = [text.startsWith('\ufeff') ? 1 : 0];
-  for (const end of text.matchAll(LINE_ENDS)) {
-    starts.push(end.index + end[0].length);
+  LINE_ENDS.lastIndex = 0;
+  while (LINE_ENDS.test(text)) {
+    starts.push(LINE_ENDS.lastIndex);
   }
   return starts;
 }

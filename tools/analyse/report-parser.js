@@ -35,12 +35,17 @@ function entry(list, id, what) {
   return list[id];
 }
 
+// An entry that has this id.
+function checked(made, id, what) {
+  if (made.id !== id) {
+    throw new SyntaxError(`${what} ${id} wanted`);
+  }
+  return made;
+}
+
 // Adds an entry whose id is the next one.
 function add(list, made, what) {
-  if (made.id !== list.length) {
-    throw new SyntaxError(`${what} ${list.length} wanted`);
-  }
-  list.push(made);
+  list.push(checked(made, list.length, what));
 }
 
 function readNode(cursor, report) {
@@ -99,7 +104,7 @@ function readPure(cursor, report) {
   entry(report.symbols, cursor.number(), 'symbol').pure = true;
 }
 
-function readReference(cursor, report) {
+function referenceOf(cursor) {
   const id = cursor.number();
   cursor.expect(' ');
   const name = cursor.quoted();
@@ -108,7 +113,11 @@ function readReference(cursor, report) {
   cursor.expect(' flags ');
   const flags = cursor.flags();
   cursor.expect(' symbol ');
-  add(report.references, { id, name, node, scope, flags, symbol: cursor.numberOrDash() }, 'reference');
+  return { id, name, node, scope, flags, symbol: cursor.numberOrDash() };
+}
+
+function readReference(cursor, report) {
+  add(report.references, referenceOf(cursor), 'reference');
 }
 
 function readFree(cursor, report) {
@@ -244,4 +253,17 @@ function parseReport(text, wanted = null) {
   return report;
 }
 
-module.exports = { ReportFault, parseReport };
+// The reference of this id, whose line this is.
+function parseReference(line, id) {
+  const cursor = new Cursor(line);
+  try {
+    cursor.expect('ref ');
+    const reference = referenceOf(cursor);
+    cursor.end();
+    return checked(reference, id, 'reference');
+  } catch (error) {
+    throw error instanceof SyntaxError ? new RunFault(`the line of reference ${id} isn't known: ${error.message}: ${line}`) : error;
+  }
+}
+
+module.exports = { ReportFault, parseReference, parseReport };

@@ -1,43 +1,30 @@
 'use strict';
 // Where the rows of a tree stand in its text, as the converter writes it, so that single ones are read and the whole isn't.
 
+const { placesOf } = require('../source-to-tree/row-places.js');
+
 const QUOTE = 0x22;
 const COMMA = 0x2c;
 const ZERO = 0x30;
 const NINE = 0x39;
-const OPEN = 0x5b;
-const BACKSLASH = 0x5c;
-const CLOSE = 0x5d;
 
-const BEGIN = ',"rows":[';
-const FEW = 1024;
+const NOTHING_MORE = '"",[]]'.length; // a row's end without text or marks
 
-// The place behind the string that begins here.
-function behindString(bytes, from) {
-  let at = from + 1;
+// The place of the next quote.
+function quoteFrom(bytes, from) {
+  let at = from;
   while (bytes[at] !== QUOTE) {
-    at += bytes[at] === BACKSLASH ? 2 : 1;
+    at += 1;
   }
-  return at + 1;
+  return at;
 }
 
-// The place behind the list that begins here.
-function behindList(bytes, from) {
+// The place of the next comma.
+function commaFrom(bytes, from) {
   let at = from;
-  let open = 0;
-  do {
-    const byte = bytes[at];
-    if (byte === QUOTE) {
-      at = behindString(bytes, at);
-      continue;
-    }
-    if (byte === OPEN) {
-      open += 1;
-    } else if (byte === CLOSE) {
-      open -= 1;
-    }
+  while (bytes[at] !== COMMA) {
     at += 1;
-  } while (open > 0);
+  }
   return at;
 }
 
@@ -48,12 +35,6 @@ function numberAt(bytes, from) {
     value = 10 * value + bytes[at] - ZERO;
   }
   return value;
-}
-
-function grown(list) {
-  const longer = new Uint32Array(2 * list.length);
-  longer.set(list);
-  return longer;
 }
 
 // The last place in a sorted list, up to a length, whose value is at most the one asked for.
@@ -72,34 +53,30 @@ function lastAtMost(list, length, value) {
 }
 
 class Rows {
-  constructor(json) {
+  // The places of the rows and of the last one's end, where they are known.
+  constructor(json, places = placesOf(json)) {
     this.json = json;
-    this.count = 0;
-    this.places = new Uint32Array(FEW); // of each row, and the last one's end
-    this.find(json.indexOf(BEGIN) + BEGIN.length);
+    this.places = places;
+    this.count = places.length - 1;
     this.parents = null;
     this.sought = 0; // where the last node was found that was looked for
   }
 
-  find(first) {
-    const { json } = this;
-    let at = first;
-    while (json[at] === OPEN) {
-      if (this.count + 1 === this.places.length) {
-        this.places = grown(this.places);
-      }
-      this.places[this.count] = at;
-      this.count += 1;
-      at = behindList(json, at);
-      at += json[at] === COMMA ? 1 : 0;
-    }
-    this.places[this.count] = at;
-  }
-
-  // The fields of a row.
+  // The fields of a row. Neither roles nor kinds have anything that stands behind a backslash.
   at(node) {
+    const { json } = this;
+    const first = this.places[node];
     const end = this.places[node + 1] - (node + 1 < this.count ? 1 : 0);
-    return JSON.parse(this.json.toString('utf8', this.places[node], end));
+    const role = quoteFrom(json, first) + 1;
+    const behindRole = quoteFrom(json, role);
+    const kind = behindRole + '","'.length;
+    const behindKind = quoteFrom(json, kind);
+    const start = behindKind + '",'.length;
+    const stop = commaFrom(json, start) + 1;
+    const rest = commaFrom(json, stop) + 1;
+    const [text, marks] = end - rest === NOTHING_MORE ? ['', []] : JSON.parse(`[${json.toString('utf8', rest, end)}`);
+    const names = [json.latin1Slice(role, behindRole), json.latin1Slice(kind, behindKind)];
+    return [numberAt(json, first + 1), ...names, numberAt(json, start), numberAt(json, stop), text, marks];
   }
 
   // The number of each node's parent, -1 for the root's: the last node before it that is one level higher.

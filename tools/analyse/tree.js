@@ -45,9 +45,12 @@ function headOf(json) {
 
 // A tree's text as the converter writes it, and what stands in it once that is asked for.
 class Tree {
-  constructor(json) {
+  // The places of the rows, where they are known.
+  constructor(json, places) {
     this.json = json;
+    this.places = places;
     this.known = {};
+    this.read = new Map(); // the rows that were read, by their nodes
   }
 
   kept(name, make) {
@@ -71,11 +74,15 @@ class Tree {
 
   // The rows one by one, without a reading of the whole tree.
   get rows() {
-    return this.kept('rows', () => new Rows(this.json));
+    return this.kept('rows', () => new Rows(this.json, this.places));
   }
 
+  // A row, which isn't to be changed: the next one who asks gets it, too.
   row(node) {
-    return rowOf(this.known.value === undefined ? this.rows.at(node) : this.value.rows[node]);
+    if (!this.read.has(node)) {
+      this.read.set(node, rowOf(this.known.value === undefined ? this.rows.at(node) : this.value.rows[node]));
+    }
+    return this.read.get(node);
   }
 
   // The number of a node's parent, null for the root.
@@ -85,12 +92,12 @@ class Tree {
 }
 
 // The tree that a parser makes of a text. Options: `file`, whose name tells language and goal; `parser` and `goal` in place
-// of what it tells; `clock`, which gets the milliseconds of parser and conversion.
-function convertText(text, { file, parser, goal, clock = {} }) {
-  const { treeOf } = require(CONVERTER);
+// of what it tells; `clock`, which gets the milliseconds of parser and conversion; `changing`, the trees of a text that changes.
+function convertText(text, { file, parser, goal, clock = {}, changing = require(CONVERTER) }) {
   try {
     const options = { filename: file, clock, ...(parser && { parser }), ...(goal && { goal }) };
-    return new Tree(treeOf(text, options).json);
+    const { json, places } = changing.treeOf(text, options);
+    return new Tree(json, places);
   } catch (error) {
     throw refusalOf(error, text);
   }

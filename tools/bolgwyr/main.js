@@ -8,13 +8,12 @@ const { COMMANDS } = require('./commands/index.js');
 const { STATUS } = require('./faults.js');
 const { versionText } = require('./version.js');
 
-const { Command, CommanderError } = load('commander');
-
 const STATUSES = `
 Status: 0 nothing found; 1 findings; 2 words that aren't known; 3 something could not be read or run.`;
 
 function tellVersion() {
   say(versionText());
+  const { CommanderError } = load('commander');
   throw new CommanderError(0, 'commander.version', '');
 }
 
@@ -26,6 +25,7 @@ function commandsFor([word]) {
 
 // The program with the command that the words ask for, or with all of them where there are no words.
 function programOf(words = []) {
+  const { Command } = load('commander');
   const program = new Command('bolgwyr')
     .description('Scopes, names and early errors of JavaScript and TypeScript, by an analysis that is proved.')
     .option('--version', 'tell the version, and how the programs were made')
@@ -44,9 +44,12 @@ function programOf(words = []) {
   return program;
 }
 
+// What commander ends with has a code of its own; it may be what is missing.
+const isCommanders = ({ code }) => typeof code === 'string' && code.startsWith('commander.');
+
 // Help and the version are answers; all else that commander ends with is a fault of the words.
 function statusOf(error) {
-  if (error instanceof CommanderError) {
+  if (isCommanders(error)) {
     return error.exitCode === 0 ? STATUS.CLEAN : STATUS.USAGE;
   }
   // A module that isn't installed is a refusal of the converter's; what the system refuses names the call.

@@ -145,7 +145,7 @@ function unusedHow(symbol, answers) {
   if (symbol.references.length === 0) {
     return 'is never used';
   }
-  const reads = symbol.references.some((id) => answers.references[id].flags.some((flag) => flag !== 'Write'));
+  const reads = symbol.references.some((id) => answers.reference(id).flags.some((flag) => flag !== 'Write'));
   return reads ? 'is used only by what is never used' : 'is assigned a value but never used';
 }
 

@@ -25,8 +25,9 @@ function sound(tree, tool, run) {
 }
 
 class AnalysedDocument {
-  constructor({ uri, version, name, text }, { encoding }) {
-    Object.assign(this, { uri, version, name, text });
+  // `changing` has the trees of the document as it changes.
+  constructor({ uri, version, name, text }, { encoding }, changing) {
+    Object.assign(this, { uri, version, name, text, changing });
     this.places = new Places(text, encoding);
     this.clock = {};
     this.kept = new Map();
@@ -64,14 +65,25 @@ class AnalysedDocument {
     if (LONE_HALF.test(text)) {
       throw new Refusal('half of a character can\'t be written as UTF-8');
     }
-    const tree = convertText(text, { file: name, clock });
+    const tree = convertText(text, { file: name, clock, changing: this.changing });
     checkSize(tree.json.length, 'its tree');
     const started = performance.now();
-    const tools = Object.keys(WORDS);
-    const runs = await Promise.all(tools.map((tool) => runBeside(tool, WORDS[tool], tree.json)));
+    const [report, names] = await this.ask(tree);
     clock.programs = performance.now() - started;
-    const [report, names] = tools.map((tool, at) => sound(tree, tool, runs[at]));
-    return new Answers({ text, tree, names, report });
+    return new Answers({ text, tree, names, report, positions: this.places.positions });
+  }
+
+  // What the programs answer on the tree. Once they have it there is time to prepare what their answers are read with.
+  ask(tree) {
+    const tools = Object.keys(WORDS);
+    let waiting = tools.length;
+    const sent = () => {
+      waiting -= 1;
+      if (waiting === 0) {
+        this.places.prepare();
+      }
+    };
+    return Promise.all(tools.map(async (tool) => sound(tree, tool, await runBeside(tool, WORDS[tool], tree.json, sent))));
   }
 
   // The tables, as the renamer takes them.

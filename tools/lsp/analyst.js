@@ -6,11 +6,15 @@ const path = require('path');
 const { Worker } = require('worker_threads');
 const { textOf } = require('./documents.js');
 const { ResponseFault } = require('./faults.js');
+const { JsonText } = require('./frames.js');
 
 const WORKER = path.join(__dirname, 'worker.js');
 
 // What is asked when no question waits.
 const LATER = ['diagnostics', 'tables'];
+
+// A tree and its tables are some megabytes that are soon thrown away: with more room for what is new less is moved about.
+const LIMITS = { maxYoungGenerationSizeMb: 96 };
 
 // A thread that dies is started again, but not for ever.
 const MOST_DEATHS = 5;
@@ -28,7 +32,8 @@ class Analyst {
 
   start() {
     this.known = new Map(); // the revision of each document that the thread has
-    this.worker = new Worker(WORKER, { workerData: { client: this.client }, stdout: true });
+    const { client } = this;
+    this.worker = new Worker(WORKER, { workerData: { client }, stdout: true, resourceLimits: LIMITS });
     this.worker.stdout.pipe(process.stderr);
     this.worker.on('message', (message) => this.hear(message));
     let cause = new Error('it ended by itself');
@@ -116,7 +121,7 @@ class Analyst {
     if (!job.isVoid) {
       notices.forEach(this.told);
       if (fault === undefined) {
-        job.resolve(result);
+        job.resolve(new JsonText(result));
       } else {
         job.reject(new ResponseFault(fault.kind, fault.message, fault.data));
       }
@@ -138,6 +143,14 @@ class Analyst {
     }
   }
 
+  // Has the thread leave a question on a document that has changed, as soon as it waits for a program.
+  leave(uri) {
+    if (this.running !== null && this.running.uri === uri && !this.running.isLeft) {
+      this.running.isLeft = true;
+      this.worker.postMessage({ isVoid: true });
+    }
+  }
+
   cancel(key) {
     this.drop((job) => job.key === key, 'requestCancelled', 'the client took the request back');
   }
@@ -145,6 +158,7 @@ class Analyst {
   changed(uri) {
     LATER.forEach((method) => this.due.delete(`${method} ${uri}`));
     this.drop((job) => job.uri === uri, 'contentModified', 'the document has changed since it was asked');
+    this.leave(uri);
   }
 
   closed(uri) {

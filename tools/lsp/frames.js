@@ -81,10 +81,31 @@ class FrameReader {
   }
 }
 
+// A value that is JSON already.
+class JsonText {
+  constructor(text) {
+    this.text = text;
+  }
+}
+
+const isObject = (value) => value !== null && typeof value === 'object' && !Array.isArray(value);
+
+// The JSON of a value, of which parts of objects may be JSON already.
+function jsonOf(value) {
+  if (value instanceof JsonText) {
+    return value.text;
+  }
+  if (!isObject(value)) {
+    return JSON.stringify(value);
+  }
+  const parts = Object.entries(value).filter(([, part]) => part !== undefined);
+  return `{${parts.map(([name, part]) => `${JSON.stringify(name)}:${jsonOf(part)}`).join(',')}}`;
+}
+
 // The bytes of a message's frame.
 function frameOf(message) {
-  const content = Buffer.from(JSON.stringify(message), 'utf8');
+  const content = Buffer.from(jsonOf(message), 'utf8');
   return Buffer.concat([Buffer.from(`Content-Length: ${content.length}\r\n\r\n`, 'latin1'), content]);
 }
 
-module.exports = { FrameReader, frameOf };
+module.exports = { FrameReader, JsonText, frameOf };

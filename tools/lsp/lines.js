@@ -9,9 +9,10 @@ const LAST_ENDING = /(?:\r\n|\n|\r)$/;
 function splitLines(text) {
   const lines = [];
   let start = 0;
-  for (const { index, 0: ending } of text.matchAll(ENDING)) {
-    lines.push(text.slice(start, index + ending.length));
-    start = index + ending.length;
+  ENDING.lastIndex = 0;
+  while (ENDING.test(text)) {
+    lines.push(text.slice(start, ENDING.lastIndex));
+    start = ENDING.lastIndex;
   }
   lines.push(text.slice(start));
   return lines;

@@ -10,7 +10,8 @@ function declared(symbol) {
 
 function referring(analysed, reference) {
   const symbol = reference.symbol === null ? null : analysed.report.symbols[reference.symbol];
-  return { ...analysed.spanOf(reference.node), name: reference.name, symbol, reference };
+  const { start, end } = analysed.spanOf(reference.node);
+  return { start, end, name: reference.name, symbol, reference };
 }
 
 // Each name is `{ start, end, name, symbol, reference }`: `symbol` is null where nothing declares it, `reference` where it declares.

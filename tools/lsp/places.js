@@ -60,6 +60,11 @@ class Places {
     return this.positions.ascii ? this.unitStarts : this.kept('byteStarts', () => startsOf(this.lines, (line) => Buffer.byteLength(line)));
   }
 
+  // Makes what places are looked up in.
+  prepare() {
+    return [this.unitStarts, this.byteStarts];
+  }
+
   positionOf(byte) {
     const line = lastAtMost(this.byteStarts, byte);
     const character = this.encoding === 'utf-8' ? byte - this.byteStarts[line] : this.positions.indexOf(byte) - this.unitStarts[line];

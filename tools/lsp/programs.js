@@ -27,10 +27,13 @@ function prepareFirst(told) {
 
 let pool = null;
 
-// The run of a tool on a tree, in the form of `runTool`.
-function runBeside(tool, words, input) {
+// The run of a tool on a tree, in the form of `runTool`; `sent()` hears that the program has the tree.
+function runBeside(tool, words, input, sent) {
   pool ??= new Pool({ size: SIDE_BY_SIDE, programs: programsFor(TOOLS), isTogether: false });
-  return pool.run(tool, words, input);
+  return pool.run(tool, words, input, { sent });
 }
 
-module.exports = { prepareFirst, runBeside };
+// Has the programs drop what they are at.
+const abandonRuns = () => pool?.abandon();
+
+module.exports = { abandonRuns, prepareFirst, runBeside };

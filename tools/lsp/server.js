@@ -9,7 +9,10 @@ const { ResponseFault } = require('./faults.js');
 const { uriOf } = require('./methods.js');
 
 // How long no key may have been pressed before a text is analysed unasked.
-const PAUSE_MILLISECONDS = 100;
+const PAUSE_MILLISECONDS = 40;
+
+// How long after its diagnostics the tables of a text are made ready for the next request.
+const LEISURE_MILLISECONDS = 400;
 
 const PUBLISH = 'textDocument/publishDiagnostics';
 const SHOW = 'window/showMessage';
@@ -64,17 +67,23 @@ class Server {
 
   // Has a document's diagnostics published, once no key was pressed for a while.
   diagnose(uri, pause = 0) {
+    this.after(pause, uri, () => {
+      this.analyst.askLater(uri, 'diagnostics', (diagnostics, version) => this.publish(uri, version, diagnostics));
+    });
+  }
+
+  publish(uri, version, diagnostics) {
+    this.connection.notify(PUBLISH, { uri, version, diagnostics });
+    this.after(LEISURE_MILLISECONDS, uri, () => this.analyst.askLater(uri, 'tables', () => {}));
+  }
+
+  // Does something on a document after a while in which nothing else was to be done on it.
+  after(pause, uri, act) {
     this.forget(uri);
     this.timers.set(uri, setTimeout(() => {
       this.timers.delete(uri);
-      this.analyst.askLater(uri, 'diagnostics', (diagnostics, version) => this.publish(uri, version, diagnostics));
+      act();
     }, pause));
-  }
-
-  // While nobody asks, the tables are made ready for the next request.
-  publish(uri, version, diagnostics) {
-    this.connection.notify(PUBLISH, { uri, version, diagnostics });
-    this.analyst.askLater(uri, 'tables', () => {});
   }
 
   forget(uri) {

@@ -36,7 +36,7 @@ class Pool {
   // The runs of some tools on an input; each is asked with the words that it has in the table.
   runAll(tools, words, input) {
     const one = this.isTogether ? this.idlest() : undefined;
-    return Promise.all(tools.map((tool) => this.run(tool, words[tool], input, one)));
+    return Promise.all(tools.map((tool) => this.run(tool, words[tool], input, { program: one })));
   }
 
   // The program that has least to do, or one more where all are at work.
@@ -50,11 +50,16 @@ class Pool {
     return more;
   }
 
-  // The run of a tool on an input, in the form of `runTool`.
-  run(tool, words, input, program = this.idlest()) {
+  // The run of a tool on an input, in the form of `runTool`; `sent()` hears that a program that stays has the input.
+  run(tool, words, input, { program = this.idlest(), sent } = {}) {
     const { crate, words: own } = servedBy(tool);
     const all = [...own, ...words];
-    return crate === SERVING ? program.run(all, input) : runOnce(this.programs[crate], all, input);
+    return crate === SERVING ? program.run(all, input, sent) : runOnce(this.programs[crate], all, input);
+  }
+
+  // Drops all that programs that stay are asked.
+  abandon() {
+    this.served.forEach((program) => program.abandon());
   }
 
   close() {

@@ -6,6 +6,7 @@ const { RunFault } = require('../bolgwyr/faults.js');
 const { AnswerReader, requestHead } = require('./frames.js');
 
 const NOTHING = Buffer.alloc(0);
+const UNHEARD = () => {};
 
 class Served {
   constructor(program) {
@@ -14,10 +15,10 @@ class Served {
     this.child = null;
   }
 
-  // The run of a tool on an input, in the form of `runTool`.
-  run(words, input) {
+  // The run of a tool on an input, in the form of `runTool`; `sent()` hears that the program has the input.
+  run(words, input, sent = UNHEARD) {
     return new Promise((resolve, reject) => {
-      const request = { words, input, resolve, reject };
+      const request = { words, input, sent, resolve, reject };
       this.waiting.push(request);
       if (this.child === null) {
         this.start();
@@ -31,26 +32,28 @@ class Served {
   start() {
     const child = spawn(this.program, ['serve']);
     const errors = [];
-    const reader = new AnswerReader((answer) => this.take(answer));
+    const isMine = () => this.child === child;
+    const reader = new AnswerReader((answer) => isMine() && this.take(answer));
     child.stdout.on('data', (piece) => reader.push(piece));
     child.stderr.on('data', (piece) => errors.push(piece));
     // A program that ends needn't have read all.
     child.stdin.on('error', () => {});
-    child.on('error', (error) => this.fail(new RunFault(`${this.program} can't be run: ${error.message}`)));
-    child.on('close', (status, signal) => this.ended({ status, signal, stdout: NOTHING, stderr: Buffer.concat(errors).toString('utf8') }));
+    child.on('error', (error) => isMine() && this.fail(new RunFault(`${this.program} can't be run: ${error.message}`)));
+    const ended = (status, signal) => this.ended({ status, signal, stdout: NOTHING, stderr: Buffer.concat(errors).toString('utf8') });
+    child.on('close', (status, signal) => isMine() && ended(status, signal));
     this.child = child;
     this.waiting.forEach((request) => this.send(request));
   }
 
   // What is asked in one go is written in one.
-  send({ words, input }) {
+  send({ words, input, sent }) {
     const { stdin } = this.child;
     if (stdin.writableCorked === 0) {
       stdin.cork();
       process.nextTick(() => stdin.uncork());
     }
     stdin.write(requestHead(words, input));
-    stdin.write(input);
+    stdin.write(input, sent);
   }
 
   take({ status, stdout, stderr }) {
@@ -77,6 +80,17 @@ class Served {
   // Ends all that waits.
   fail(fault) {
     this.waiting.splice(0).forEach(({ reject }) => reject(fault));
+  }
+
+  // Drops what waits: nobody wants the answers any more. Another program stands ready instead of the one that is at work.
+  abandon() {
+    if (this.waiting.length > 0) {
+      const { child } = this;
+      this.child = null;
+      this.fail(new RunFault('nobody wants the answer any more'));
+      child.kill('SIGKILL');
+      this.start();
+    }
   }
 
   // Has the program end once it has answered what waits.

@@ -1,7 +1,7 @@
 'use strict';
 // A source text with its tree and tables, and what of them is asked for more than once. It runs nothing, so a page can ask it, too.
 
-const { KIND, ROLE, START, endsOf, parentsOf } = require('../edits/rows.js');
+const { END, KIND, ROLE, START, endsOf, parentsOf } = require('../edits/rows.js');
 
 // The spans of all declarations of a symbol, the first one first.
 function declarationsOf(symbol) {
@@ -91,8 +91,8 @@ class Analysed {
   }
 
   spanOf(node) {
-    const [, , , start, end] = this.rows[node];
-    return { start, end };
+    const row = this.rows[node];
+    return { start: row[START], end: row[END] };
   }
 
   placeOf(node) {

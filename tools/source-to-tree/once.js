@@ -76,4 +76,4 @@ function convertOnce(source, options) {
   }
 }
 
-module.exports = { convertOnce, write, isOverflow };
+module.exports = { convertOnce, write, isOverflow, hashbang, commentTexts, roomFor, MARK };

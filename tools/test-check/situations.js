@@ -56,6 +56,38 @@ async function noNode({ folder, run }) {
   return [['status', found.status, 3], ['line', found.err, /^bolgwyr: Node is wanted[^\n]*\n$/]];
 }
 
+// Has Node say that a module isn't there, as on a machine without it.
+const HIDING = `
+const Module = require('module');
+const resolve = Module._resolveFilename;
+Module._resolveFilename = (name, ...rest) => {
+  if (name === process.env.HIDDEN) throw Object.assign(new Error(name), { code: 'MODULE_NOT_FOUND' });
+  return resolve(name, ...rest);
+};
+`;
+
+// What each module is needed for, on a machine that has Node alone.
+const NEEDED = [
+  ['commander', ['prove', '--help']],
+  ['commander', ['--version']],
+  ['commander', []],
+  ['globals', ['check', 'found.mjs']],
+  ['globby', ['check', '**/found.mjs']],
+  ['magic-string', ['mangle', 'found.mjs']],
+];
+
+async function noModules({ folder, run }) {
+  const hiding = path.join(folder, 'hiding.js');
+  fs.writeFileSync(hiding, HIDING);
+  const found = [];
+  for (const [module, words] of NEEDED) {
+    const said = await run(words, { cwd: folder, env: { NODE_OPTIONS: `--require ${hiding}`, HIDDEN: module } });
+    found.push([`${module}, ${words.join(' ')}: status`, said.status, 3]);
+    found.push([`${module}, ${words.join(' ')}: line`, said.err, `bolgwyr: the module ${module} isn't installed: run tools/setup.sh\n`]);
+  }
+  return found;
+}
+
 // A program that keeps what it is asked, over the one that there is.
 function countingPrograms(folder) {
   const programs = path.join(folder, 'counting');
@@ -136,6 +168,7 @@ const SITUATIONS = [
   { name: 'a full disk', attempt: fullDisk },
   { name: 'a reader that goes away', attempt: closedPipe },
   { name: 'no Node', attempt: noNode },
+  { name: 'no modules', attempt: noModules },
   { name: 'second runs', attempt: secondRuns },
   { name: 'an interruption', attempt: interruption },
   { name: 'a folder by GNU parallel', attempt: tablesOfFolder },

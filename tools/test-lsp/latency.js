@@ -2,7 +2,7 @@
 'use strict';
 // How long after the last of some keys bolgwyr lsp says what it finds in a file of ten thousand lines, and answers a hover: in
 // milliseconds by the clock, and the processor time of the server with the programs that it runs. Other work on the machine counts in
-// the first and not in the second.
+// the first and not in the second. A fixed loop between the rounds tells how fast the machine is meanwhile, by the same two measures.
 // usage: latency.js [--rounds N] [--within MILLISECONDS]   (status 1 where the median of the clock's is more)
 
 const fs = require('fs');
@@ -18,6 +18,19 @@ const URI = 'file:///tmp/long.mjs';
 const KEYS = 'fresh';
 const BETWEEN_KEYS = 60; // milliseconds
 const TICK = 1000 / Number(execFileSync('getconf', ['CLK_TCK'], { encoding: 'utf8' }));
+
+const STEPS = 30_000_000;
+
+// The time that the loop takes, by the clock and of the processor, in milliseconds.
+function measureLoop() {
+  const [started, before] = [performance.now(), process.cpuUsage()];
+  let value = 0;
+  for (let step = 0; step < STEPS; step += 1) {
+    value = (31 * value + step) | 0;
+  }
+  const { user, system } = process.cpuUsage(before);
+  return { value, clock: performance.now() - started, processor: (user + system) / 1000 };
+}
 
 const sleep = (time) => new Promise((resolve) => setTimeout(resolve, time));
 
@@ -80,6 +93,11 @@ function inWords(what, values) {
 
 const medianOf = (values) => [...values].sort((left, right) => left - right)[values.length >> 1];
 
+// How many times as long as the loop, in the middle.
+function inLoops(what, pairs) {
+  return `${what}: ${medianOf(pairs.map(([time, loop]) => time / loop)).toFixed(1)} times as long`;
+}
+
 async function main() {
   const program = new Command('latency')
     .option('--rounds <number>', 'how many times', Number, 15)
@@ -94,7 +112,8 @@ async function main() {
   await client.diagnosticsOf(URI, 1);
   const found = [];
   for (let at = 0; at <= rounds; at += 1) {
-    found.push(await round(client, placeIn(text), 1 + at * (KEYS.length + 1)));
+    const loop = measureLoop();
+    found.push({ ...await round(client, placeIn(text), 1 + at * (KEYS.length + 1)), loop });
   }
   await client.end();
   const counted = found.slice(1); // the first is for the code to be compiled
@@ -102,6 +121,9 @@ async function main() {
   console.log(inWords('from the last key until the findings are told, by the clock', counted.map(({ told }) => told)));
   console.log(inWords('processor time of that', counted.map(({ spent }) => spent)));
   console.log(inWords('a hover right behind a key, by the clock', counted.map(({ answered }) => answered)));
+  console.log(inWords(`a loop of ${STEPS} steps, by the clock`, counted.map(({ loop }) => loop.clock)));
+  console.log(inLoops('the findings against the loop, by the clock', counted.map(({ told, loop }) => [told, loop.clock])));
+  console.log(inLoops('the same in processor time', counted.map(({ spent, loop }) => [spent, loop.processor])));
   process.exitCode = medianOf(counted.map(({ told }) => told)) > within ? 1 : 0;
 }
 

@@ -9,6 +9,7 @@ const { checkDifferences } = require('./compare-scopes');
 const { checkCommands } = require('./commands');
 const { checkDialects } = require('./dialects');
 const { checkAges } = require('./ages');
+const { checkChanging } = require('./changing');
 const { checkParsers } = require('./parsers');
 const { checkTest262 } = require('./test262');
 const { checkTypeScript } = require('./typescript-cases');
@@ -58,6 +59,7 @@ function checkAll(tally, words) {
   checkDifferences(tally);
   checkCommands(tally);
   checkAges(tally);
+  checkChanging(tally);
   checkParsers(tally);
   console.log(`${checkStored(tally)} stored trees`);
   const files = new Files(tally);

@@ -14,11 +14,11 @@ const checkSettings = (file, configs) => settingsOf(configs.of(file), NOTHING);
 // Settings: `file`, the name for people; `parser`, `goal`, `tree`, as `analyseText` knows them; `configs`.
 function analysedText(text, { file, parser, goal, tree = false, configs = new Configs() }) {
   const found = analyseText(text, { file, words: ['--check'], parser, goal, tree });
-  const names = askAbout(found.tree, 'name_lint', []).stdout.toString('utf8');
+  const names = askAbout(found.tree, 'name_lint', []).stdout;
   const analysis = readAnalysis(found);
-  const answers = new Answers({ text: analysis.positions.text, tree: found.tree, names, report: found.bytes.toString('utf8') });
+  const answers = new Answers({ text: analysis.positions.text, tree: found.tree, names, report: found.bytes });
   const settings = checkSettings(file, configs);
-  return { analysis, tree: found.tree.value, unused: unusedSymbols(names), findings: findingsOf(answers, settings), settings };
+  return { analysis, tree: found.tree.value, unused: unusedSymbols(names.toString('utf8')), findings: findingsOf(answers, settings), settings };
 }
 
 const analysedFile = (file, settings) => analysedText(readText(file), settings);

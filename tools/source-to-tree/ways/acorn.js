@@ -47,17 +47,19 @@ function jsxClassFor(parser, folder) {
   return jsx && classFor(parser, jsx);
 }
 
+// The options of the parser; comments go to the list.
+const optionsFor = (sourceType, comments) => ({
+  ecmaVersion: 'latest',
+  sourceType,
+  allowHashBang: true,
+  allowReturnOutsideFunction: sourceType === 'script',
+  preserveParens: true,
+  onComment: (block, value, start, end) => comments.push({ block, start, end }),
+});
+
 function parseAs(Parser, sourceType, text) {
   const comments = [];
-  const options = {
-    ecmaVersion: 'latest',
-    sourceType,
-    allowHashBang: true,
-    allowReturnOutsideFunction: sourceType === 'script',
-    preserveParens: true,
-    onComment: (block, value, start, end) => comments.push({ block, start, end }),
-  };
-  return { ast: Parser.parse(text, options), comments, goal: sourceType };
+  return { ast: Parser.parse(text, optionsFor(sourceType, comments)), comments, goal: sourceType };
 }
 
 // A line that begins as a statement does which makes a file a module.
@@ -129,9 +131,22 @@ function read(text, request) {
   return parsed;
 }
 
+// A hashbang is none of the tree's comments.
+const withoutHashbang = (comments, text) => comments.filter(({ start }) => start > 0 || !text.startsWith('#!'));
+
 function write(parsed, text, writer, annotations) {
   new EstreeConversion(text, writer, annotations).program(parsed.ast);
-  return parsed.comments.filter(({ start }) => start > 0 || !text.startsWith('#!'));
+  return withoutHashbang(parsed.comments, text);
 }
 
-module.exports = { module: 'acorn', parsersIn: (folder) => parsersFor('acorn', folder), read, write };
+module.exports = {
+  module: 'acorn',
+  parsersIn: (folder) => parsersFor('acorn', folder),
+  read,
+  write,
+  scriptClassFor: (parser) => classFor(parser, null),
+  optionsFor,
+  withoutHashbang,
+  isModuleStatement,
+  LIKE_A_MODULE,
+};
