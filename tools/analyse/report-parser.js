@@ -222,9 +222,8 @@ function readLine(line, report, wanted) {
   cursor.end();
 }
 
-// The report that this text is. Anything else is a fault. With a set of first words, what other lines tell is left out.
-function parseReport(text, wanted = null) {
-  const report = emptyReport();
+// Adds to a report what the lines of a text tell. Any other line is a fault. With a set of first words, what other lines tell is left out.
+function readLines(text, report, wanted) {
   let number = 0;
   let start = 0;
   while (start < text.length) {
@@ -244,4 +243,16 @@ function parseReport(text, wanted = null) {
   return report;
 }
 
-module.exports = { ReportFault, parseReport };
+// The report that this text is.
+function parseReport(text, wanted = null) {
+  return readLines(text, emptyReport(), wanted);
+}
+
+// The entry of this id in a list of a report, of which these lines are.
+function parseEntry(text, list, id) {
+  const report = emptyReport();
+  report[list].length = id;
+  return readLines(text, report, null)[list][id];
+}
+
+module.exports = { ReportFault, parseEntry, parseReport };

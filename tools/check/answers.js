@@ -2,6 +2,7 @@
 // What the programs say of one file, read as far as it is asked for.
 
 const { Positions } = require('../analyse/positions.js');
+const { ReportEntries } = require('../analyse/report-entries.js');
 const { parseReport } = require('../analyse/report-parser.js');
 const { RunFault } = require('../bolgwyr/faults.js');
 
@@ -13,7 +14,8 @@ function readNameLine(line) {
     throw new RunFault(`a line of the lint of names isn't known: ${line}`);
   }
   const [, kind, id, name, start, end] = found;
-  return { kind, id: Number(id), name: JSON.parse(name), span: { start: Number(start), end: Number(end) } };
+  const plain = name.includes('\\') ? JSON.parse(name) : name.slice(1, -1);
+  return { kind, id: Number(id), name: plain, span: { start: Number(start), end: Number(end) } };
 }
 
 function readNames(text) {
@@ -25,7 +27,8 @@ function unusedSymbols(nameText) {
   return new Set(readNames(nameText).filter(({ kind }) => kind === 'unused').map(({ id }) => id));
 }
 
-const SEPARATOR = '+';
+// First words of the lines that are findings.
+const FINDINGS = new Set(['label', 'diag']);
 
 // The answers of the lint of names and of the report on a tree, as bytes. Either may be absent where no rule needs it.
 class Answers {
@@ -63,26 +66,26 @@ class Answers {
     return this.names.filter((name) => name.kind === kind);
   }
 
-  // Lines of the report that begin with these words. Most reports have no findings, and aren't read for them.
-  lines(...words) {
-    return this.kept(words.join(SEPARATOR), () => parseReport(words.some((word) => this.tells(word)) ? this.reportText : '', new Set(words)));
-  }
-
+  // What is told by lines. Most reports have none of them, and aren't read for them.
   get findings() {
-    return this.lines('label', 'diag');
+    return this.kept('findings', () => parseReport([...FINDINGS].some((word) => this.tells(word)) ? this.reportText : '', FINDINGS));
   }
 
-  get symbols() {
-    return this.lines('symbol', 'uses', 'redecl').symbols;
+  get entries() {
+    return this.kept('entries', () => new ReportEntries(this.report));
   }
 
-  get references() {
-    return this.lines('ref').references;
+  symbol(id) {
+    return this.entries.symbol(id);
   }
 
-  // Whether a name is declared more than once.
-  get redeclares() {
-    return this.tells('redecl');
+  reference(id) {
+    return this.entries.reference(id);
+  }
+
+  // The symbols that are declared more than once.
+  get redeclared() {
+    return this.tells('redecl') ? this.entries.redeclared().map((id) => this.symbol(id)) : [];
   }
 }
 

@@ -17,7 +17,7 @@ function isUnderTypeof(tree, span) {
 
 // A name that stands for a type alone: compilers know these better.
 function isType(answers, id) {
-  return answers.tree.isTyped && !answers.references[id].flags.some((flag) => VALUES.includes(flag));
+  return answers.tree.isTyped && !answers.reference(id).flags.some((flag) => VALUES.includes(flag));
 }
 
 // `globals`: true for names that are known, false for those that aren't, also where an environment has them.

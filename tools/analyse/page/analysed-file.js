@@ -16,7 +16,7 @@ function analysedText(text, { file, parser, goal, tree = false, configs = new Co
   const found = analyseText(text, { file, words: ['--check'], parser, goal, tree });
   const names = askAbout(found.tree, 'name_lint', []).stdout.toString('utf8');
   const analysis = readAnalysis(found);
-  const answers = new Answers({ text: analysis.positions.text, tree: found.tree, names, report: found.bytes.toString('utf8') });
+  const answers = new Answers({ text: analysis.positions.text, tree: found.tree, names, report: found.bytes });
   const settings = checkSettings(file, configs);
   return { analysis, tree: found.tree.value, unused: unusedSymbols(names), findings: findingsOf(answers, settings), settings };
 }
