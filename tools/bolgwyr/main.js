@@ -6,7 +6,6 @@ const { load } = require('../source-to-tree/load.js');
 const { say, tell } = require('../analyse/output.js');
 const { COMMANDS } = require('./commands/index.js');
 const { STATUS } = require('./faults.js');
-const { versionText } = require('./version.js');
 
 const { Command, CommanderError } = load('commander');
 
@@ -14,7 +13,7 @@ const STATUSES = `
 Status: 0 nothing found; 1 findings; 2 words that aren't known; 3 something could not be read or run.`;
 
 function tellVersion() {
-  say(versionText());
+  say(require('./version.js').versionText());
   throw new CommanderError(0, 'commander.version', '');
 }
 
