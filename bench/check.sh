@@ -24,11 +24,15 @@ if [ "$program" = none ]; then
 fi
 program="${program#* }"
 
+# Certificates that Node would read at each start.
+unset NODE_EXTRA_CA_CERTS
 # As bin/bolgwyr calls Node.
-part() { node --max-old-space-size=8192 --max-semi-space-size=32 bench/check-parts.js "$@"; }
+flags="$(sed -n 's/^exec node \(.*\) "$here.*/\1/p' bin/bolgwyr)"
+# shellcheck disable=SC2086 # each flag is a word of its own
+part() { node $flags bench/check-parts.js "$@"; }
 parsing() { part parse <"$scratch/files"; }
 conversion() { part convert <"$scratch/files"; }
-eslint() { part eslint <"$scratch/files"; }
+eslint() { node --max-old-space-size=8192 --max-semi-space-size=32 bench/check-parts.js eslint "$scratch"; }
 programs() { for tree in "$scratch"/trees/*; do "$program" report --check <"$tree"; "$program" name_lint <"$tree"; done; }
 check() { xargs -d '\n' -n 100000 -s 1900000 bin/bolgwyr check --no-cache --format unix <"$scratch/files"; }
 parts='check eslint parsing conversion programs'
@@ -48,7 +52,7 @@ echo '|---|---|---|---|---|---|---|---|---|'
 for folder in "$@"; do
     rm -rf "${scratch:?}"/*
     mkdir "$scratch/trees"
-    part list "$folder" >"$scratch/files"
+    part list "$folder" "$scratch"
     part trees "$scratch/trees" <"$scratch/files"
     for _ in $(seq "$rounds"); do
         for name in $parts; do timed "$name"; done

@@ -1,6 +1,7 @@
 'use strict';
 // The text of a source file.
 
+const buffer = require('buffer');
 const fs = require('fs');
 const { Positions } = require('./positions.js');
 const { Refusal } = require('./refusal.js');
@@ -63,10 +64,13 @@ function firstFault(bytes, text) {
   return place;
 }
 
+// Whether bytes are UTF-8. The first versions of Node 18 have no call for it.
+const isText = buffer.isUtf8 ?? ((bytes) => Buffer.from(bytes.toString('utf8'), 'utf8').equals(bytes));
+
 // The text of bytes, which have to be UTF-8. A byte order mark stays.
 function decode(bytes) {
   const text = bytes.toString('utf8');
-  if (Buffer.byteLength(text, 'utf8') !== bytes.length || !Buffer.from(text, 'utf8').equals(bytes)) {
+  if (!isText(bytes)) {
     const start = firstFault(bytes, text);
     const before = bytes.toString('utf8', 0, start);
     throw new Refusal(`not UTF-8 at byte ${start}`, { ...new Positions(before).placeAt(before.length), start });

@@ -9,6 +9,7 @@ const STEP = 256;
 
 const LINE_ENDS = /\r\n|[\n\r\u2028\u2029]/g;
 const LINE_END = /[\n\r\u2028\u2029]/;
+const OTHER_LINE_END = /[\r\u2028\u2029]/;
 
 function isLowSurrogate(unit) {
   return unit >= 0xdc00 && unit <= 0xdfff;
@@ -43,14 +44,22 @@ function lastAtMost(list, value) {
   return low;
 }
 
+// Where lines begin behind the line ends of a text, of which most have line feeds alone.
+function* behindLineEnds(text) {
+  if (OTHER_LINE_END.test(text)) {
+    for (const end of text.matchAll(LINE_ENDS)) {
+      yield end.index + end[0].length;
+    }
+    return;
+  }
+  for (let at = text.indexOf('\n'); at !== -1; at = text.indexOf('\n', at + 1)) {
+    yield at + 1;
+  }
+}
+
 // A byte order mark belongs to no line.
 function lineStartsOf(text) {
-  const starts = [text.startsWith('\ufeff') ? 1 : 0];
-  LINE_ENDS.lastIndex = 0;
-  while (LINE_ENDS.test(text)) {
-    starts.push(LINE_ENDS.lastIndex);
-  }
-  return starts;
+  return [text.startsWith('\ufeff') ? 1 : 0, ...behindLineEnds(text)];
 }
 
 class Positions {

@@ -231,9 +231,8 @@ function readLine(line, report, wanted) {
   cursor.end();
 }
 
-// The report that this text is. Anything else is a fault. With a set of first words, what other lines tell is left out.
-function parseReport(text, wanted = null) {
-  const report = emptyReport();
+// Adds to a report what the lines of a text tell. Any other line is a fault. With a set of first words, what other lines tell is left out.
+function readLines(text, report, wanted) {
   let number = 0;
   let start = 0;
   while (start < text.length) {
@@ -253,17 +252,16 @@ function parseReport(text, wanted = null) {
   return report;
 }
 
-// The reference of this id, whose line this is.
-function parseReference(line, id) {
-  const cursor = new Cursor(line);
-  try {
-    cursor.expect('ref ');
-    const reference = referenceOf(cursor);
-    cursor.end();
-    return checked(reference, id, 'reference');
-  } catch (error) {
-    throw error instanceof SyntaxError ? new RunFault(`the line of reference ${id} isn't known: ${error.message}: ${line}`) : error;
-  }
+// The report that this text is.
+function parseReport(text, wanted = null) {
+  return readLines(text, emptyReport(), wanted);
 }
 
-module.exports = { ReportFault, parseReference, parseReport };
+// The entry of this id in a list of a report, of which these lines are.
+function parseEntry(text, list, id) {
+  const report = emptyReport();
+  report[list].length = id;
+  return readLines(text, report, null)[list][id];
+}
+
+module.exports = { ReportFault, parseEntry, parseReport };

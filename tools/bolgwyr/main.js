@@ -6,13 +6,12 @@ const { load } = require('../source-to-tree/load.js');
 const { say, tell } = require('../analyse/output.js');
 const { COMMANDS } = require('./commands/index.js');
 const { STATUS } = require('./faults.js');
-const { versionText } = require('./version.js');
 
 const STATUSES = `
 Status: 0 nothing found; 1 findings; 2 words that aren't known; 3 something could not be read or run.`;
 
 function tellVersion() {
-  say(versionText());
+  say(require('./version.js').versionText());
   const { CommanderError } = load('commander');
   throw new CommanderError(0, 'commander.version', '');
 }

@@ -2,7 +2,8 @@
 // What the programs say of one file, read as far as it is asked for.
 
 const { Positions } = require('../analyse/positions.js');
-const { parseReference, parseReport } = require('../analyse/report-parser.js');
+const { ReportEntries } = require('../analyse/report-entries.js');
+const { parseReport } = require('../analyse/report-parser.js');
 const { RunFault } = require('../bolgwyr/faults.js');
 
 const NAME_LINE = /^(unused|undeclared) (\d+) ("(?:[^"\\]|\\.)*") (\d+)-(\d+)$/;
@@ -13,7 +14,8 @@ function readNameLine(line) {
     throw new RunFault(`a line of the lint of names isn't known: ${line}`);
   }
   const [, kind, id, name, start, end] = found;
-  return { kind, id: Number(id), name: JSON.parse(name), span: { start: Number(start), end: Number(end) } };
+  const plain = name.includes('\\') ? JSON.parse(name) : name.slice(1, -1);
+  return { kind, id: Number(id), name: plain, span: { start: Number(start), end: Number(end) } };
 }
 
 function readNames(text) {
@@ -25,34 +27,17 @@ function unusedSymbols(nameText) {
   return new Set(readNames(nameText).filter(({ kind }) => kind === 'unused').map(({ id }) => id));
 }
 
-const SEPARATOR = '+';
-const LINE_END = 0x0a;
-
-// The lines of references, each read when it is asked for: they are most of a report, and few have anything to do with a finding.
-class ReferenceLines {
-  constructor(report) {
-    this.report = report;
-    this.ends = [report.indexOf('\nref ')]; // of the line before them, and of each line
-  }
-
-  // The reference of an id, which has the line that is so many behind the first.
-  at(id) {
-    const { report, ends } = this;
-    while (ends.length <= id + 1) {
-      ends.push(report.indexOf(LINE_END, ends[ends.length - 1] + 1));
-    }
-    return parseReference(report.toString('utf8', ends[id] + 1, ends[id + 1]), id);
-  }
-}
+// First words of the lines that are findings.
+const FINDINGS = new Set(['label', 'diag']);
 
 // The answers of the lint of names and of the report on a tree, as bytes. Either may be absent where no rule needs it.
 class Answers {
-  constructor({ text, tree, names, report, positions }) {
+  constructor({ text, tree, names, report }) {
     this.text = text;
     this.tree = tree;
     this.nameBytes = names;
     this.report = report;
-    this.known = { positions };
+    this.known = {};
   }
 
   kept(name, make) {
@@ -81,37 +66,26 @@ class Answers {
     return this.names.filter((name) => name.kind === kind);
   }
 
-  // The lines from the first to the last that begin with one of these words. None of them is the report's first.
-  linesAround(words) {
-    const told = words.filter((word) => this.tells(word)).map((word) => `\n${word} `);
-    if (told.length === 0) {
-      return '';
-    }
-    const first = Math.min(...told.map((begin) => this.report.indexOf(begin)));
-    const last = Math.max(...told.map((begin) => this.report.lastIndexOf(begin)));
-    return this.report.toString('utf8', first + 1, this.report.indexOf(LINE_END, last + 1) + 1);
-  }
-
-  // Lines of the report that begin with these words. Most reports have no findings, and aren't read for them.
-  lines(...words) {
-    return this.kept(words.join(SEPARATOR), () => parseReport(this.linesAround(words), new Set(words)));
-  }
-
+  // What is told by lines. Most reports have none of them, and aren't read for them.
   get findings() {
-    return this.lines('label', 'diag');
+    return this.kept('findings', () => parseReport([...FINDINGS].some((word) => this.tells(word)) ? this.reportText : '', FINDINGS));
   }
 
-  get symbols() {
-    return this.lines('symbol', 'uses', 'redecl').symbols;
+  get entries() {
+    return this.kept('entries', () => new ReportEntries(this.report));
+  }
+
+  symbol(id) {
+    return this.entries.symbol(id);
   }
 
   reference(id) {
-    return this.kept('references', () => new ReferenceLines(this.report)).at(id);
+    return this.entries.reference(id);
   }
 
-  // Whether a name is declared more than once.
-  get redeclares() {
-    return this.tells('redecl');
+  // The symbols that are declared more than once.
+  get redeclared() {
+    return this.tells('redecl') ? this.entries.redeclared().map((id) => this.symbol(id)) : [];
   }
 }
 

@@ -4,6 +4,8 @@
 
 const { environments } = require('./environments.js');
 
+// Words of which a text that asks for something has one; most texts have none, and to see that takes less than to try the pattern.
+const WORDS = ['global', 'eslint-env', 'exported', 'bolgwyr-ignore-'];
 const ASKS = /\b(?:globals?|eslint-env|exported)\s|bolgwyr-ignore-/;
 const NAMES = /^\s*(globals?|eslint-env|exported)\s+([^]*)$/;
 const IGNORE = /^\s*bolgwyr-ignore-(line|next-line|file)(?=\s|$)([^]*)$/;
@@ -73,7 +75,7 @@ function readComment(asked, answers, [start, end, kind]) {
 // What the comments of a file ask for.
 function askedOf(answers) {
   const asked = { globals: new Map(), exported: new Set(), env: null, ignored: { file: nothing(), lines: new Map() } };
-  if (ASKS.test(answers.text)) {
+  if (WORDS.some((word) => answers.text.includes(word)) && ASKS.test(answers.text)) {
     for (const comment of answers.tree.head.comments) {
       readComment(asked, answers, comment);
     }

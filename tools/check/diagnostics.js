@@ -37,11 +37,12 @@ function diagnosedPlaces(answers) {
 }
 
 function* redeclarations(answers) {
-  if (!answers.redeclares) {
+  const { redeclared } = answers;
+  if (redeclared.length === 0) {
     return;
   }
   const diagnosed = diagnosedPlaces(answers);
-  for (const { name, redeclarations: entries } of answers.symbols) {
+  for (const { name, redeclarations: entries } of redeclared) {
     const [first, ...others] = entries.filter(({ node }) => isRival(answers.tree, node));
     for (const { span } of others) {
       if (!diagnosed.has(span.start) && span.start !== first.span.start) {

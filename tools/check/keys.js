@@ -1,7 +1,6 @@
 'use strict';
 // By what findings are kept: the bytes of a file and all else that they depend on.
 
-const crypto = require('crypto');
 const fs = require('fs');
 const path = require('path');
 
@@ -37,7 +36,7 @@ function parsersFor(folder) {
 // `stamp` stands for the tools and programs.
 function keyOf(stamp, bytes, { name, settings }) {
   const rest = [stamp, endingOf(name), parsersFor(path.dirname(path.resolve(name))), textOf(settings)];
-  return crypto.createHash('sha256').update(rest.join('\0')).update('\0').update(bytes).digest('base64');
+  return require('crypto').createHash('sha256').update(rest.join('\0')).update('\0').update(bytes).digest('base64');
 }
 
 module.exports = { keyOf };

@@ -1,7 +1,6 @@
 'use strict';
 // What stands for the tools, the parsers and the programs: where it is the same, a file has the findings that it had.
 
-const crypto = require('crypto');
 const fs = require('fs');
 const path = require('path');
 const { load } = require('../source-to-tree/load.js');
@@ -40,7 +39,7 @@ function stamp() {
   prepare(crates);
   const programs = crates.map(programPath);
   const traces = [version, process.version, ...[...FOLDERS.flatMap(filesBelow), ...programs].map(traceOf), ...PACKAGES.map(traceOfPackage)];
-  return crypto.createHash('sha256').update(JSON.stringify(traces)).digest('base64');
+  return require('crypto').createHash('sha256').update(JSON.stringify(traces)).digest('base64');
 }
 
 module.exports = { stamp };

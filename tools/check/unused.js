@@ -46,32 +46,38 @@ function isOfSetter(tree, owner) {
   return method !== null && tree.row(owner).role === 'value' && tree.row(method).text === 'set';
 }
 
-// Whether a plain parameter stands before one that is used.
-function isBeforeUsed(symbol, places, plain) {
-  return plain && places.lastUsed.get(places.ownerOf(symbol)) > symbol.span.start;
-}
-
 // A plain parameter is its node's only name; one with a default or in a pattern isn't.
 function isPlain(tree, { node, span }) {
   const { kind, span: whole } = tree.row(node + 1);
   return kind === 'BindingIdentifier' && whole.start === span.start;
 }
 
-// For each function the place of its last parameter that something uses.
-function lastUsedParameters(answers) {
-  const { tree, symbols } = answers;
-  const owner = new Map();
-  const lastUsed = new Map();
-  for (const symbol of symbols) {
-    if (kindOf(tree.row(symbol.node)) === 'parameter') {
-      const around = ownerOf(tree, symbol.node);
-      owner.set(symbol.id, around);
-      if (symbol.references.length > 0) {
-        lastUsed.set(around, Math.max(lastUsed.get(around) ?? 0, symbol.span.start));
-      }
+// Where the last parameter begins that something uses, of those in a list behind the first symbol. Symbols are numbered as they are
+// declared, so that those of what stands in a list come one behind the other.
+function lastUsedBehind(first, list, answers) {
+  const { tree } = answers;
+  const { end } = tree.row(list).span;
+  let last = 0;
+  for (let id = first.id + 1; id < answers.entries.symbolCount; id += 1) {
+    const { node, span, references } = answers.symbol(id);
+    if (span.start >= end) {
+      break;
+    }
+    if (references.length > 0 && kindOf(tree.row(node)) === 'parameter' && tree.parent(node) === list) {
+      last = span.start;
     }
   }
-  return { lastUsed, ownerOf: (symbol) => owner.get(symbol.id) };
+  return last;
+}
+
+// Whether a parameter stands before one of the same function that something uses. Those of a list are asked for in order.
+function isBeforeUsed(symbol, answers) {
+  const list = answers.tree.parent(symbol.node);
+  const lastUsed = answers.kept('parameters', () => new Map());
+  if (!lastUsed.has(list)) {
+    lastUsed.set(list, lastUsedBehind(symbol, list, answers));
+  }
+  return lastUsed.get(list) > symbol.span.start;
 }
 
 function isToldParameter(symbol, answers, options) {
@@ -84,8 +90,7 @@ function isToldParameter(symbol, answers, options) {
   if (marks.some((mark) => PROPERTY_MARKS.includes(mark))) {
     return false;
   }
-  const places = answers.kept('parameters', () => lastUsedParameters(answers));
-  return options.args === 'all' || !isBeforeUsed(symbol, places, isPlain(tree, symbol));
+  return options.args === 'all' || !isPlain(tree, symbol) || !isBeforeUsed(symbol, answers);
 }
 
 // The name of a class expression is for who reads its stack traces.
@@ -156,7 +161,7 @@ function* unused(answers, { ignore, ...options }, exported) {
   }
   const read = { ...options, exported, ignore: new RegExp(ignore || '(?!)', 'u') };
   for (const { id, name, span } of found) {
-    const symbol = answers.symbols[id];
+    const symbol = answers.symbol(id);
     if (isTold(symbol, answers, read)) {
       const kind = kindOf(answers.tree.row(symbol.node));
       yield { span, message: `${kind === 'caught' ? 'parameter' : kind} '${name}' ${unusedHow(symbol, answers)}` };

@@ -23,6 +23,9 @@ function runOnce(program, words, input) {
   });
 }
 
+// How many requests wait at a program before another one is started beside it: to start one takes longer than most answers do.
+const ENOUGH = 6;
+
 class Pool {
   // `size` is how many programs there are at most; `programs` tells where those of the crates stand; `isTogether`, whether one of them gets
   // all that is asked of an input, which takes less than to wake several.
@@ -30,6 +33,7 @@ class Pool {
     this.size = size;
     this.programs = programs;
     this.isTogether = isTogether;
+    this.enough = isTogether ? ENOUGH : 1;
     this.served = [];
   }
 
@@ -39,10 +43,10 @@ class Pool {
     return Promise.all(tools.map((tool) => this.run(tool, words[tool], input, { program: one })));
   }
 
-  // The program that has least to do, or one more where all are at work.
+  // The program that has least to do, or one more where all have enough.
   idlest() {
     const best = this.served.reduce((one, other) => (other.waiting.length < one.waiting.length ? other : one), this.served[0]);
-    if (best !== undefined && (best.waiting.length === 0 || this.served.length === this.size)) {
+    if (best !== undefined && (best.waiting.length < this.enough || this.served.length === this.size)) {
       return best;
     }
     const more = new Served(this.programs[SERVING]);

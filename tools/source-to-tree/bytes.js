@@ -1,9 +1,8 @@
 'use strict';
-// A buffer of bytes that JSON is written to. Its calls make no objects. What is written often is kept as words of eight bytes, and the
-// groups of a number as words of four; the last word may reach behind the end: the next write goes over that.
+// A buffer of bytes that JSON is written to, and how numbers are written. No object is made for it. What is written often is kept as
+// words of eight bytes, and the groups of a number as words of four; the last word may reach behind the end: the next write goes over
+// that.
 
-const QUOTE = 0x22;
-const BACKSLASH = 0x5c;
 const WORD = 8;
 const THOUSAND = 1000;
 
@@ -17,16 +16,39 @@ function wordsOf(text) {
   return { words, length: text.length };
 }
 
-// The digits of a number below a thousand, so many at least, as a word of four bytes.
-function groupOf(value, digits) {
-  const bytes = Buffer.alloc(WORD);
-  bytes.latin1Write(String(value).padStart(digits, '0'));
-  return bytes.readInt32LE();
+const ZERO = 0x30;
+
+// The digits of a number below a thousand, as a word of four bytes whose last ones are of no account: just its own, or all three.
+function digitsOf(value, isPadded) {
+  const [hundreds, tens, ones] = [(value / 100) | 0, ((value / 10) | 0) % 10, value % 10].map((digit) => ZERO + digit);
+  if (isPadded || value >= 100) return hundreds | (tens << 8) | (ones << 16);
+  return value >= 10 ? tens | (ones << 8) : ones;
 }
 
-const groupsOf = (digits) => Int32Array.from({ length: THOUSAND }, (_, value) => groupOf(value, digits));
-const SHORT = groupsOf(1); // the digits of a number below a thousand
-const PADDED = groupsOf(3); // three digits of it
+const SHORT = Int32Array.from({ length: THOUSAND }, (_, value) => digitsOf(value, false));
+const PADDED = Int32Array.from({ length: THOUSAND }, (_, value) => digitsOf(value, true));
+
+// These write from a place of a view on, and give the place behind what they have written.
+
+function putShort(view, at, value) {
+  view.setInt32(at, SHORT[value], true);
+  return at + (value < 10 ? 1 : value < 100 ? 2 : 3);
+}
+
+function putPadded(view, at, value) {
+  view.setInt32(at, PADDED[value], true);
+  return at + 3;
+}
+
+// A number below a milliard.
+function putNumber(view, at, value) {
+  if (value < THOUSAND) return putShort(view, at, value);
+  const thousands = (value / THOUSAND) | 0;
+  const rest = value - thousands * THOUSAND;
+  if (thousands < THOUSAND) return putPadded(view, putShort(view, at, thousands), rest);
+  const millions = (thousands / THOUSAND) | 0;
+  return putPadded(view, putPadded(view, putShort(view, at, millions), thousands - millions * THOUSAND), rest);
+}
 
 class Bytes {
   // room is how many bytes there are at first
@@ -52,55 +74,11 @@ class Bytes {
     this.take(larger);
   }
 
-  // The calls from here to `quoted` write where there is room; `quoted` makes some where the text has other than plain characters.
-  byte(value) {
-    this.buffer[this.end++] = value;
-  }
-
+  // What is kept as words, where there is room.
   copy({ words, length }) {
     const { view, end } = this;
     for (let i = 0, at = end; i < words.length; i++, at += WORD) view.setFloat64(at, words[i], true);
     this.end = end + length;
-  }
-
-  short(value) {
-    this.view.setInt32(this.end, SHORT[value], true);
-    this.end += value < 10 ? 1 : value < 100 ? 2 : 3;
-  }
-
-  padded(value) {
-    this.view.setInt32(this.end, PADDED[value], true);
-    this.end += 3;
-  }
-
-  // A number below a milliard.
-  number(value) {
-    if (value < THOUSAND) return this.short(value);
-    const thousands = (value / THOUSAND) | 0;
-    if (thousands < THOUSAND) {
-      this.short(thousands);
-    } else {
-      const millions = (thousands / THOUSAND) | 0;
-      this.short(millions);
-      this.padded(thousands - millions * THOUSAND);
-    }
-    return this.padded(value - thousands * THOUSAND);
-  }
-
-  // A string in quotes.
-  quoted(text) {
-    const { length } = text;
-    const { buffer } = this;
-    let at = this.end;
-    buffer[at++] = QUOTE;
-    for (let i = 0; i < length; i++) {
-      const unit = text.charCodeAt(i);
-      if (unit < 0x20 || unit > 0x7f || unit === QUOTE || unit === BACKSLASH) return this.string(JSON.stringify(text));
-      buffer[at++] = unit;
-    }
-    buffer[at++] = QUOTE;
-    this.end = at;
-    return undefined;
   }
 
   // Any string, and room for it.
@@ -110,4 +88,4 @@ class Bytes {
   }
 }
 
-module.exports = { Bytes, wordsOf };
+module.exports = { Bytes, WORD, putNumber, wordsOf };

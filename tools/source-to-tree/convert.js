@@ -3,7 +3,6 @@
 
 const { Refusal } = require('./refusal');
 const { convertOnce, isOverflow } = require('./once');
-const { withLargeStack } = require('./stack');
 
 // The tree of a text as JSON. Options: `filename`, which tells language and goal; `parser` and `goal` in place of what it
 // tells; `tree`, the ESTree that another tool made; `clock`, which gets the milliseconds of each part. Throws a Refusal.
@@ -12,7 +11,7 @@ function treeOf(source, options) {
     return convertOnce(source, options);
   } catch (error) {
     if (!isOverflow(error)) throw error;
-    return withLargeStack(source, options);
+    return require('./stack').withLargeStack(source, options);
   }
 }
 

@@ -2,7 +2,7 @@
 // Writes a tree as JSON: the rows of its nodes in preorder, each node opened before its children and closed behind them.
 
 const { Refusal } = require('./refusal');
-const { Bytes, wordsOf } = require('./bytes');
+const { Bytes, WORD, putNumber, wordsOf } = require('./bytes');
 
 const DEEPEST = 1000;
 const MOST_BYTES = 67108864;
@@ -20,10 +20,19 @@ const MODULE_STATEMENTS = new Set(['ImportDeclaration', 'ExportDeclaration', 'Ex
   'ExportDefaultDeclaration', 'ExportAllDeclaration', 'TSExportAssignment', 'TSNamespaceExportDeclaration']);
 const FUNCTIONS = new Set(['Function', 'ArrowFunctionExpression']);
 
+const QUOTE = 0x22;
 const COMMA = 0x2c;
+const BACKSLASH = 0x5c;
+const SPACE = 0x20;
+const LAST_OF_ASCII = 0x7f;
 
-// How a row begins, by its depth; the first one is the root's.
-const BEGINS = Array.from({ length: DEEPEST + 1 }, (_, depth) => wordsOf(depth === 0 ? '[0' : `,[${depth}`));
+const BEGINS = []; // how a row begins, by its depth, where one was that deep: it is a single word
+
+// The first row is the root's.
+function beginOf(depth) {
+  BEGINS[depth] ??= wordsOf(depth === 0 ? '[0' : `,[${depth}`);
+  return BEGINS[depth];
+}
 
 // What is written of each kind, and what a kind tells of the file: made when the kind is met first.
 class Kind {
@@ -43,14 +52,10 @@ class Kind {
   }
 
   headFor(role) {
-    if (role !== this.lastRole) this.findHead(role);
-    return this.lastHead;
-  }
-
-  findHead(role) {
     if (!this.heads.has(role)) this.heads.set(role, wordsOf(`,"${role}","${this.name}",`));
     this.lastRole = role;
     this.lastHead = this.heads.get(role);
+    return this.lastHead;
   }
 }
 
@@ -111,26 +116,53 @@ class TreeWriter {
     this.row(kindOf(name), role, start, end, text, marks);
   }
 
+  // It writes out what others could do for it, and is so too large for an engine to compile it anew with each function that leads to it.
   row(kind, role, start, end, text, marks) {
     const { bytes, offsets, depth } = this;
     if (depth > DEEPEST) throw new Refusal('too deep');
     if (kind.isTyped && !this.isTyped) throw new Refusal(TYPED_ONLY, start);
     bytes.reserve(ROW_ROOM + text.length);
-    bytes.copy(BEGINS[depth]);
-    bytes.copy(kind.headFor(role));
-    bytes.number(offsets.at(start));
-    bytes.byte(COMMA);
-    bytes.number(offsets.at(end));
-    if (text === '' && marks.length === 0) bytes.copy(BARE_END);
-    else this.finishRow(text, marks);
+    const { view } = bytes;
+    const begin = BEGINS[depth] ?? beginOf(depth);
+    const head = kind.lastRole === role ? kind.lastHead : kind.headFor(role);
+    let at = bytes.end;
+    view.setFloat64(at, begin.words[0], true);
+    at += begin.length;
+    for (let i = 0, to = at; i < head.words.length; i++, to += WORD) view.setFloat64(to, head.words[i], true);
+    at = putNumber(view, at + head.length, offsets.at(start));
+    view.setUint8(at, COMMA);
+    at = putNumber(view, at + 1, offsets.at(end));
+    if (text !== '' || marks.length > 0) {
+      this.finishRow(at, text, marks);
+    } else {
+      view.setFloat64(at, BARE_END.words[0], true);
+      bytes.end = at + BARE_END.length;
+    }
     if (bytes.end > this.most) throw new Refusal('too large');
     if (!kind.isPlain) this.notice(kind, text, marks);
   }
 
-  finishRow(text, marks) {
+  // The text and what stands behind it.
+  finishRow(from, text, marks) {
     const { bytes } = this;
-    bytes.byte(COMMA);
-    bytes.quoted(text);
+    const { view } = bytes;
+    view.setUint8(from, COMMA);
+    view.setUint8(from + 1, QUOTE);
+    let at = from + 2;
+    for (let i = 0; i < text.length; i++, at++) {
+      const unit = text.charCodeAt(i);
+      if (unit < SPACE || unit > LAST_OF_ASCII || unit === QUOTE || unit === BACKSLASH) return this.finishEscaped(from, text, marks);
+      view.setUint8(at, unit);
+    }
+    view.setUint8(at, QUOTE);
+    bytes.end = at + 1;
+    return bytes.copy(marks.length === 0 ? NO_MARK_END : endFor(marks));
+  }
+
+  finishEscaped(from, text, marks) {
+    const { bytes } = this;
+    bytes.end = from + 1;
+    bytes.string(JSON.stringify(text));
     bytes.reserve(ROW_ROOM);
     bytes.copy(marks.length === 0 ? NO_MARK_END : endFor(marks));
   }

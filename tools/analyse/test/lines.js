@@ -2,6 +2,7 @@
 // Reads reports line by line: each kind of line, and lines that no report has.
 
 const assert = require('assert');
+const { ReportEntries } = require('../report-entries.js');
 const { parseReport } = require('../report-parser.js');
 
 const WHOLE = `node 0 Program parent 0 scope 0
@@ -56,3 +57,28 @@ for (const text of UNKNOWN) {
   assert.throws(() => parseReport(text), /^Error: line \d+ of the report isn't known/, JSON.stringify(text));
 }
 console.log('ok: other lines are refused');
+
+// A report of so many symbols, of which each third one is declared again, and of twice as many references.
+function longReport(count) {
+  const symbol = (id) => `symbol ${id} "é${id}" scope 0 node ${id} span ${id}-${id + 1} flags Function\n`;
+  const again = (id) => [id, id + 1].map((node) => `redecl ${id} node ${node} span 1-2 flags -\n`).join('');
+  const symbols = Array.from({ length: count }, (_, id) => `${symbol(id)}${id % 3 === 0 ? again(id) : ''}uses ${id} ${2 * id} ${2 * id + 1}\n`);
+  const references = Array.from({ length: 2 * count }, (_, id) => `ref ${id} "é" node ${id} scope 0 flags Read symbol ${id >> 1}\n`);
+  return `scope 0 parent - node 0 flags Top\n${symbols.join('')}${references.join('')}`;
+}
+
+const ENDS_WITH_SYMBOL = 'scope 0 parent - node 0 flags Top\nsymbol 0 "a" scope 0 node 1 span 1-2 flags -\nuses 0\n';
+for (const text of [WHOLE, ENDS_WITH_SYMBOL, longReport(1), longReport(1234)]) {
+  const { symbols, references } = parseReport(text);
+  const entries = new ReportEntries(Buffer.from(text));
+  assert.strictEqual(entries.symbolCount, symbols.length);
+  symbols.forEach((symbol, id) => assert.deepStrictEqual(entries.symbol(id), symbol));
+  references.forEach((reference, id) => assert.deepStrictEqual(entries.reference(id), reference));
+  assert.deepStrictEqual(entries.redeclared(), symbols.filter(({ redeclarations }) => redeclarations.length > 0).map(({ id }) => id));
+  assert.throws(() => entries.symbol(symbols.length), /^Error: the report has no symbol \d+/);
+  assert.throws(() => entries.reference(references.length), /^Error: the report has no ref \d+/);
+}
+const none = new ReportEntries(Buffer.from('scope 0 parent - node 0 flags Top\n'));
+assert.deepStrictEqual([none.symbolCount, none.redeclared()], [0, []]);
+assert.throws(() => none.symbol(0), /^Error: the report has no symbol 0/);
+console.log('ok: entries that are read one by one are those of the whole');

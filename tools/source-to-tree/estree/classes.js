@@ -79,9 +79,11 @@ function property(kind) {
 
 const definition = property('PropertyDefinition');
 const accessor = property('AccessorProperty');
+const statements = (c, node) => each(c, 'body', node.body, 'statement');
+
 function staticBlock(c, role, node) {
   c.open(role, 'StaticBlock', node);
-  c.within(true, () => each(c, 'body', node.body, 'statement'));
+  c.within(true, statements, node);
   c.close();
 }
 

@@ -14,9 +14,8 @@ visit.callee = (c, role, node) => {
   else visit.expression(c, role, node);
 };
 
-// An array, its holes told by the places of their commas.
-function array(c, role, node) {
-  c.open(role, 'ArrayExpression', node);
+// The elements of an array, its holes told by the places of their commas.
+function holedElements(c, node) {
   let at = c.start(node) + 1;
   for (const element of node.elements) {
     if (element === null) {
@@ -29,6 +28,12 @@ function array(c, role, node) {
     const comma = skipTrivia(c.text, c.end(element));
     at = c.text[comma] === ',' ? comma + 1 : comma;
   }
+}
+
+function array(c, role, node) {
+  c.open(role, 'ArrayExpression', node);
+  if (node.elements.includes(null)) holedElements(c, node);
+  else for (const element of node.elements) visit.argument(c, 'elements', element);
   c.close();
 }
 

@@ -90,7 +90,7 @@ visit.signature = (c, node, text, from = beforeParameters(c, node)) => {
 function functionBody(c, node) {
   if (!node) return;
   c.open('body', 'FunctionBody', node);
-  c.within(false, () => visit.body(c, node));
+  c.within(false, visit.body, node);
   c.close();
 }
 

@@ -25,11 +25,11 @@ class EstreeConversion {
     this.isInStaticBlock = false;
   }
 
-  // Runs what is inside a static block, or inside a function of one.
-  within(isInStaticBlock, run) {
+  // Visits what is inside a static block, or inside a function of one.
+  within(isInStaticBlock, visitor, node) {
     const outer = this.isInStaticBlock;
     this.isInStaticBlock = isInStaticBlock;
-    run();
+    visitor(this, node);
     this.isInStaticBlock = outer;
   }
 
@@ -51,7 +51,7 @@ class EstreeConversion {
   }
 
   open(role, kind, node, text, marks) {
-    this.writer.open(role, kind, this.start(node), this.end(node), text, marks);
+    this.writer.open(role, kind, node.start, node.end, text, marks);
   }
 
   close() {
@@ -59,7 +59,7 @@ class EstreeConversion {
   }
 
   leaf(role, kind, node, text, marks) {
-    this.writer.leaf(role, kind, this.start(node), this.end(node), text, marks);
+    this.writer.leaf(role, kind, node.start, node.end, text, marks);
   }
 
   refuse(node, message) {
@@ -80,6 +80,14 @@ class RangedConversion extends EstreeConversion {
 
   end(node) {
     return node.range !== undefined ? node.range[1] : node.end;
+  }
+
+  open(role, kind, node, text, marks) {
+    this.writer.open(role, kind, this.start(node), this.end(node), text, marks);
+  }
+
+  leaf(role, kind, node, text, marks) {
+    this.writer.leaf(role, kind, this.start(node), this.end(node), text, marks);
   }
 }
 

@@ -18,11 +18,12 @@ function eachBy(c, role, value, visitor) {
 function plain(kind, parts = {}) {
   const fields = Object.keys(parts);
   const names = Object.values(parts);
+  const visitors = [];
   return (c, role, node) => {
     c.open(role, kind, node);
     for (let i = 0; i < fields.length; i++) {
       const value = node[fields[i]];
-      if (value) eachBy(c, fields[i], value, visit[names[i]]);
+      if (value) eachBy(c, fields[i], value, visitors[i] ??= visit[names[i]]);
     }
     c.close();
   };
