@@ -32,12 +32,12 @@ const FINDINGS = new Set(['label', 'diag']);
 
 // The answers of the lint of names and of the report on a tree, as bytes. Either may be absent where no rule needs it.
 class Answers {
-  constructor({ text, tree, names, report }) {
+  constructor({ text, tree, names, report, positions }) {
     this.text = text;
     this.tree = tree;
     this.nameBytes = names;
     this.report = report;
-    this.known = {};
+    this.known = { positions };
   }
 
   kept(name, make) {

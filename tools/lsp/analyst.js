@@ -13,9 +13,6 @@ const WORKER = path.join(__dirname, 'worker.js');
 // What is asked when no question waits.
 const LATER = ['diagnostics', 'tables'];
 
-// A tree and its tables are some megabytes that are soon thrown away: with more room for what is new less is moved about.
-const LIMITS = { maxYoungGenerationSizeMb: 96 };
-
 // A thread that dies is started again, but not for ever.
 const MOST_DEATHS = 5;
 
@@ -32,8 +29,7 @@ class Analyst {
 
   start() {
     this.known = new Map(); // the revision of each document that the thread has
-    const { client } = this;
-    this.worker = new Worker(WORKER, { workerData: { client }, stdout: true, resourceLimits: LIMITS });
+    this.worker = new Worker(WORKER, { workerData: { client: this.client }, stdout: true });
     this.worker.stdout.pipe(process.stderr);
     this.worker.on('message', (message) => this.hear(message));
     let cause = new Error('it ended by itself');
