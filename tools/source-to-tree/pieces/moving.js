@@ -1,6 +1,8 @@
 'use strict';
 // Rows of a tree whose source has changed before them: they are the same but for their places.
 
+const { putNumber } = require('../bytes');
+
 const QUOTE = 0x22;
 const COMMA = 0x2c;
 const ZERO = 0x30;
@@ -29,8 +31,14 @@ function copyNumber(bytes, json, from, added) {
   let value = 0;
   let at = from;
   for (; json[at] >= ZERO && json[at] <= NINE; at += 1) value = 10 * value + json[at] - ZERO;
-  bytes.number(value + added);
+  bytes.end = putNumber(bytes.view, bytes.end, value + added);
   return at;
+}
+
+// Writes a byte, where there is room.
+function putByte(bytes, value) {
+  bytes.buffer[bytes.end] = value;
+  bytes.end += 1;
 }
 
 // Writes the rows from one on whose nodes stand so many bytes further on, each with the comma before it, and gives where each begins.
@@ -40,13 +48,13 @@ function copyMovedRows(bytes, json, begins, first, added) {
   const moved = new Uint32Array(count);
   bytes.reserve(begins[begins.length - 1] - begins[first] + 1 + MORE_DIGITS * count);
   for (let row = 0; row < count; row += 1) {
-    bytes.byte(COMMA);
+    putByte(bytes, COMMA);
     moved[row] = bytes.end;
     const begin = begins[first + row];
     const start = placesOfRow(json, begin);
     copyBytes(bytes, json, begin, start);
     const behind = copyNumber(bytes, json, start, added);
-    bytes.byte(COMMA);
+    putByte(bytes, COMMA);
     const rest = copyNumber(bytes, json, behind + 1, added);
     copyBytes(bytes, json, rest, endOfRow(begins, first + row));
   }
