@@ -20,6 +20,7 @@ const BETWEEN_KEYS = 60; // milliseconds
 const TICK = 1000 / Number(execFileSync('getconf', ['CLK_TCK'], { encoding: 'utf8' }));
 
 const STEPS = 30_000_000;
+const WARMING = 4; // loops until the code is compiled
 
 function loop() {
   let value = 0;
@@ -115,6 +116,7 @@ async function main() {
   client.notify('initialized', {});
   client.open(URI, text);
   await client.diagnosticsOf(URI, 1);
+  Array.from({ length: WARMING }, loop);
   const found = [];
   for (let at = 0; at <= rounds; at += 1) {
     const measured = measureLoop();
