@@ -20,16 +20,22 @@ const BETWEEN_KEYS = 60; // milliseconds
 const TICK = 1000 / Number(execFileSync('getconf', ['CLK_TCK'], { encoding: 'utf8' }));
 
 const STEPS = 30_000_000;
+const WARMING = 4; // loops until the code is compiled
+
+function loop() {
+  let value = 0;
+  for (let step = 0; step < STEPS; step += 1) {
+    value = (Math.imul(31, value) + step) | 0;
+  }
+  return value;
+}
 
 // The time that the loop takes, by the clock and of the processor, in milliseconds.
 function measureLoop() {
   const [started, before] = [performance.now(), process.cpuUsage()];
-  let value = 0;
-  for (let step = 0; step < STEPS; step += 1) {
-    value = (31 * value + step) | 0;
-  }
+  loop();
   const { user, system } = process.cpuUsage(before);
-  return { value, clock: performance.now() - started, processor: (user + system) / 1000 };
+  return { clock: performance.now() - started, processor: (user + system) / 1000 };
 }
 
 const sleep = (time) => new Promise((resolve) => setTimeout(resolve, time));
@@ -110,10 +116,11 @@ async function main() {
   client.notify('initialized', {});
   client.open(URI, text);
   await client.diagnosticsOf(URI, 1);
+  Array.from({ length: WARMING }, loop);
   const found = [];
   for (let at = 0; at <= rounds; at += 1) {
-    const loop = measureLoop();
-    found.push({ ...await round(client, placeIn(text), 1 + at * (KEYS.length + 1)), loop });
+    const measured = measureLoop();
+    found.push({ ...await round(client, placeIn(text), 1 + at * (KEYS.length + 1)), loop: measured });
   }
   await client.end();
   const counted = found.slice(1); // the first is for the code to be compiled
@@ -121,9 +128,9 @@ async function main() {
   console.log(inWords('from the last key until the findings are told, by the clock', counted.map(({ told }) => told)));
   console.log(inWords('processor time of that', counted.map(({ spent }) => spent)));
   console.log(inWords('a hover right behind a key, by the clock', counted.map(({ answered }) => answered)));
-  console.log(inWords(`a loop of ${STEPS} steps, by the clock`, counted.map(({ loop }) => loop.clock)));
-  console.log(inLoops('the findings against the loop, by the clock', counted.map(({ told, loop }) => [told, loop.clock])));
-  console.log(inLoops('the same in processor time', counted.map(({ spent, loop }) => [spent, loop.processor])));
+  console.log(inWords(`a loop of ${STEPS} steps, by the clock`, counted.map(({ loop: { clock } }) => clock)));
+  console.log(inLoops('the findings against the loop, by the clock', counted.map((one) => [one.told, one.loop.clock])));
+  console.log(inLoops('the same in processor time', counted.map((one) => [one.spent, one.loop.processor])));
   process.exitCode = medianOf(counted.map(({ told }) => told)) > within ? 1 : 0;
 }
 

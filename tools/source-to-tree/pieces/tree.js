@@ -28,12 +28,17 @@ const never = () => false;
 // The goal by which acorn reads the text where the name tells none: a module where a statement shows it, which is tried first.
 const goalFor = (text, goal) => goal || (acorn.LIKE_A_MODULE.test(text) ? 'module' : 'script');
 
+// Options that ask for another way to the tree.
+const OTHERS = ['parser', 'parsers', 'goal', 'lang', 'tree'];
+
 // The text, its parser and its goal.
-function requestOf(source, { filename }) {
+function requestOf(source, options) {
+  const { filename } = options;
   const text = source.startsWith(MARK) ? source.slice(1) : source;
   const folder = path.resolve(path.dirname(filename));
   const [parser] = acorn.parsersIn(folder);
-  if (languageOf(filename) !== 'js' || parser === undefined || ANNOTATION.test(text)) throw new Unfit();
+  const isFit = languageOf(filename) === 'js' && parser !== undefined && !ANNOTATION.test(text);
+  if (!isFit || OTHERS.some((name) => options[name] !== undefined)) throw new Unfit();
   const named = goalOf(filename);
   return { source, text, filename, parser, named, goal: goalFor(text, named), isMarked: text !== source };
 }
