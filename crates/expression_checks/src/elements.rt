@@ -9,7 +9,7 @@ ghost use Rattle.semantic_tree.specs.Sound.{is_sound};
 ghost use Rattle.check_context.specs.Handed.{around, IsContext};
 ghost use Rattle.check_context.specs.Tells.{Tells};
 ghost use Rattle.expression_checks.specs.Predecessors.{earlier_of, predecessor_in};
-ghost use Rattle.expression_checks.specs.SoundElements.{AreSound};
+ghost use Rattle.expression_checks.specs.SoundElements.{are_all_sound, are_sound, AreSound};
 
 use crate::earlier_elements::EarlierElements;
 use check_context::{CheckContext, tell};
@@ -17,6 +17,7 @@ use class_table::{ClassTable, Element};
 use semantic_diagnostics::Diagnostics;
 use semantic_diagnostics::makers::{redeclaration, static_and_instance_private_identifier};
 use semantic_syntax::ElementKind;
+use semantic_tree::sound;
 use std::alloc::{AllocError, Global};
 
 /// Whether the element is a getter or a setter.
@@ -153,6 +154,39 @@ fn elements_by_class<'t, 'a>(classes: &'t ClassTable<'a>) -> &'t [Vec<Element<'a
     ensures { map (λ v. map element_seen v.items) result.now ≡ classes.entry.now.elements }
 {
     classes.elements.as_slice()
+}
+
+/// Whether the elements of a class stand in the source, on characters.
+#[tactic(auto, using(crate::proofs::AllSound::each_told))]
+fn are_sound(source: &str, elements: &[Element<'_>]) -> bool
+    ensures { result ≡ are_sound source.now (map element_seen elements.now) }
+{
+    for own in elements {
+        if !sound::is_sound(source, own.span) {
+            return false;
+        }
+    }
+    true
+}
+
+/// Whether those of each class do.
+#[tactic(auto, using(crate::proofs::AllSound::each_told))]
+fn are_all_sound(source: &str, classes: &[Vec<Element<'_>>]) -> bool
+    ensures { result ≡ are_all_sound source.now (map (λ v. map element_seen v.items) classes.now) }
+{
+    for elements in classes {
+        if !are_sound(source, elements.as_slice()) {
+            return false;
+        }
+    }
+    true
+}
+
+/// Whether the elements of each class that is handed in stand in the source, on characters.
+pub fn has_sound_elements(ctx: &CheckContext<'_, '_>) -> bool
+    ensures { result ≡ are_all_sound ctx.now.source_text.now ctx.now.classes.now.classes.elements }
+{
+    are_all_sound(ctx.source_text, elements_by_class(&ctx.classes.classes))
 }
 
 /// Tells of the elements of each class that clash.

@@ -1,5 +1,6 @@
 //! Early errors of functions that are declared again.
 ghost use Rattle.std.specs.Prelude.{◌≡◌, ◌&&◌, ◌||◌, ◌∷◌, [], find, not};
+ghost use Rattle.std.specs.List.{position_or_len};
 ghost use Rattle.semantic_kinds.specs.declared.mark.Mark.TheVariants as mark;
 ghost use Rattle.semantic_syntax.specs.Sets.{meets, union};
 ghost use Rattle.semantic_syntax.specs.declared.symbol_flags.TheConstants.SymbolFlags as symbol;
@@ -67,28 +68,15 @@ fn is_sloppy_repeat(kind: AstKind<'_>, before: &Redeclaration, ctx: &CheckContex
     !ctx.is_strict() && is_plain(kind) && before.flags.intersects(SymbolFlags::Function)
 }
 
-/// The first of some declarations that is an async function or a generator.
-fn first_async_or_generator(entries: &[Redeclaration]) -> Option<Redeclaration>
-    ensures { result ≡ find rows.is_async_or_generator entries.now }
-{
-    for entry in entries {
-        if entry
-            .flags
-            .intersects(SymbolFlags::AsyncOrGeneratorFunction)
-        {
-            return Some(*entry);
-        }
-    }
-    None
-}
-
-/// The first declaration, before the last one, that is an async function or a generator.
-#[tactic(auto, using(crate::proofs::BeforeLast::before_last_is))]
-fn earlier_async_or_generator(entries: &[Redeclaration]) -> Option<Redeclaration>
+/// The first declaration, before the last one, that is an async function or a generator. So many stand before the first
+/// of all that is one.
+#[tactic(auto, using(crate::proofs::EarlierFound::earlier_is))]
+fn earlier_async_or_generator(entries: &[Redeclaration], plain: usize) -> Option<Redeclaration>
+    requires { plain ≡ position_or_len rows.is_async_or_generator entries.now }
     ensures { result ≡ find rows.is_async_or_generator (before_last entries.now) }
 {
     match entries.split_last() {
-        Some((_, earlier)) => first_async_or_generator(earlier),
+        Some((_, earlier)) => earlier.get(plain).copied(),
         None => None,
     }
 }
@@ -116,12 +104,12 @@ fn tell_again(
 fn tell_sloppy_repeat(
     alloc: Global,
     ident: AstKind<'_>,
-    entries: &[Redeclaration],
+    ctx: &CheckContext<'_, '_>,
     out: &mut Diagnostics,
 ) -> Result<(), AllocError>
-    ensures { let node = ident.entry.node.now in Tells result (rows_of_some (λ entry. tell.redeclaration node.text entry.span node.span ∷ []) (find rows.is_async_or_generator (before_last entries.now))) out.old out.new }
+    ensures { let node = ident.entry.node.now in Tells result (rows_of_some (λ entry. tell.redeclaration node.text entry.span node.span ∷ []) (find rows.is_async_or_generator (before_last (entries_of (around ctx.now) node)))) out.old out.new }
 {
-    match earlier_async_or_generator(entries) {
+    match earlier_async_or_generator(ctx.entries_of(ident), ctx.plain_entries_of(ident)) {
         Some(entry) => tell_again(alloc, ident, entry.span, out),
         None => Ok(()),
     }
@@ -141,7 +129,7 @@ fn tell_repeat<'a>(
     ensures { let s = sight kind.entry.node.now ctx.now in let ident = ident.entry.node.now in Tells result (rows.repeat_rows s ident before.now (before_last (entries_of s ident))) out.old out.new }
 {
     if is_sloppy_repeat(kind, before, ctx) {
-        tell_sloppy_repeat(alloc, ident, ctx.entries_of(ident), out)
+        tell_sloppy_repeat(alloc, ident, ctx, out)
     } else {
         tell_again(alloc, ident, before.span, out)
     }
