@@ -161,7 +161,8 @@ fn check_whole_class(
 /// context shows the path to the node, the scopes, the symbols, the references and the classes. Of one kind of node
 /// JavaScript's rules come before TypeScript's, and a node of a kind without rules costs one look. What the tables don't
 /// have violates no rule. The node, the type that it annotates and the elements of classes stand in the source, on
-/// characters. For want of memory the first of the diagnostics are added.
+/// characters: `is_checkable` tells whether all that is asked holds. For want of memory the first of the diagnostics are
+/// added.
 pub fn check<'a>(
     alloc: Global,
     kind: AstKind<'a>,
