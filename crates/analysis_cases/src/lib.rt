@@ -6,6 +6,8 @@
 #[cfg(test)]
 mod analyses;
 #[cfg(test)]
+mod one_node;
+#[cfg(test)]
 mod reports;
 #[cfg(test)]
 mod swapping;
