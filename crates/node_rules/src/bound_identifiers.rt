@@ -96,14 +96,14 @@ impl<'a> BoundIdentifiers<'a> {
 
     /// Adds the names that a node binds by the roles of its parts alone. For want of memory some may be added.
     #[tactic(auto, using(semantic_tree::specs::Falls::below))]
-    fn push_by_role(&mut self, node: AstKind<'a>) -> Result<(), AllocError>
-        ensures { OnOk result (self.new ≡ self.old ++ by_role.bound_names node.entry.node.now) }
+    fn push_by_role(&mut self, part: AstKind<'a>) -> Result<(), AllocError>
+        ensures { OnOk result (self.new ≡ self.old ++ by_role.bound_names part.entry.node.now) }
     {
-        if node.ty() == AstType::BindingIdentifier {
-            return self.push(node);
+        if part.ty() == AstType::BindingIdentifier {
+            return self.push(part);
         }
-        for (role, child) in node.node().children.as_slice() {
-            if binds_by(node.ty(), *role) {
+        for (role, child) in part.node().children.as_slice() {
+            if binds_by(part.ty(), *role) {
                 self.push_by_role(AstKind::new(child))?;
             }
         }

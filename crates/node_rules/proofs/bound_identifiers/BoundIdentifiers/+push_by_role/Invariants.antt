@@ -7,10 +7,10 @@ use Rattle.node_rules.proofs.bound_identifiers.BoundIdentifiers.+push_by_role.Gi
 -- with those of the children that are left, all names are there
 abbrev pub invariant-loop-role : goal.invariant-loop-role
 invariant-loop-role l = record {
-  items : forest_of l.role-items ≡ l.node.node.now.children;
-  rest : l.self ++ bound_below l.node.node.now.kind (forest_of (drop l.role-index l.role-items)) ≡ l.initial.self ++ bound_names l.node.node.now;
+  items : forest_of l.role-items ≡ l.part.node.now.children;
+  rest : l.self ++ bound_below l.part.node.now.kind (forest_of (drop l.role-index l.role-items)) ≡ l.initial.self ++ bound_names l.part.node.now;
 }
 
 -- how many nodes are below
 abbrev pub decreases-push_by_role : goal.decreases-push_by_role
-decreases-push_by_role l = count l.node.node.now.children
+decreases-push_by_role l = count l.part.node.now.children
