@@ -68,8 +68,8 @@ fn is_sloppy_repeat(kind: AstKind<'_>, before: &Redeclaration, ctx: &CheckContex
     !ctx.is_strict() && is_plain(kind) && before.flags.intersects(SymbolFlags::Function)
 }
 
-/// The first declaration, before the last one, that is an async function or a generator. So many stand before the first
-/// of all that is one.
+/// The first declaration, before the last one, that is an async function or a generator, where `plain` declarations stand
+/// before the first of all that is one.
 #[tactic(auto, using(crate::proofs::EarlierFound::earlier_is))]
 fn earlier_async_or_generator(entries: &[Redeclaration], plain: usize) -> Option<Redeclaration>
     requires { plain ≡ position_or_len rows.is_async_or_generator entries.now }
