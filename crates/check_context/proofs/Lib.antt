@@ -6,3 +6,4 @@ pub mod SoundSpans
 pub mod FreeReferences
 pub mod Stopping
 pub mod GoodChildren
+pub mod Fitting

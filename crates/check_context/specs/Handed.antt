@@ -5,7 +5,6 @@ use Rattle.semantic_kinds.specs.declared.kind.AstType.TheVariants.{Program}
 use Rattle.semantic_tree.specs.Forest.{nothing}
 use Rattle.semantic_tree.specs.Limits.{source_limit}
 use Rattle.semantic_tree.specs.Sound.{is_sound}
-use Rattle.semantic_tree.specs.Tree.{IsPreorder}
 use Rattle.semantic_tree.specs.declared.node.Node.{Node}
 use Rattle.node_store.specs.PathOf.{path_of, IsInStore}
 use Rattle.class_table.specs.Building.{IsCurrent}
@@ -50,8 +49,7 @@ pub record IsContext (ctx : CheckContext) : Type 0 where
   pub class : IsCurrent ctx.classes.now
   pub source : length ctx.source_text.now ≤ source_limit
 
--- the node stands in the source, and is numbered in preorder with all below it
+-- and the node stands in the source, on characters
 pub record IsHanded (node : Node) (ctx : CheckContext) : Type 0 where
   pub context : IsContext ctx
   pub span : is_sound ctx.source_text.now node.span ≡ true
-  pub numbered : IsPreorder node

@@ -4,3 +4,4 @@ pub mod Shown
 pub mod Grandchildren
 pub mod Sound
 pub mod Leavable
+pub mod Fitting

@@ -1,10 +1,12 @@
 //! What is handed to a check beside the node.
 ghost use Rattle.std.specs.Prelude.{◌≡◌, ◌<◌, true, length, is_some, option_map, IfSome};
+ghost use Rattle.std.specs.List.{position_or_len};
 ghost use Rattle.semantic_tree.specs.ChildIter.{shown};
 ghost use Rattle.semantic_tree.specs.Sound.{is_sound};
 ghost use Rattle.node_store.specs.PathLeft.{path_left};
 ghost use Rattle.semantic_syntax.specs.Reading.{scope_of, parent_of};
 ghost use Rattle.check_model.specs.Context.{seen_row};
+ghost use Rattle.check_model.specs.Functions.{is_async_or_generator};
 ghost use Rattle.check_model.specs.Search.{first};
 ghost use Rattle.check_model.specs.Sight.{entries_of};
 ghost use Rattle.check_model.specs.Surroundings.{parent, is_under, is_in_class, scope_passes, is_strict, is_in_function, is_at_top, is_in_static_block, bytes_at};
@@ -203,6 +205,20 @@ impl<'a, 'n> CheckContext<'a, 'n> {
                 self.scoping.symbol_redeclarations(symbol)
             }
             _ => &[],
+        }
+    }
+
+    /// How many of these declarations stand before the first async function or generator; all where there is none.
+    #[tactic(auto, using(crate::proofs::Declared::entries))]
+    pub fn plain_entries_of(&self, ident: AstKind<'_>) -> usize
+        ensures { result ≡ position_or_len is_async_or_generator
+            (entries_of (around self.now) ident.entry.node.now) }
+    {
+        match self.tables.symbol_of(ident.node_id()) {
+            Some(symbol) if symbol.index() < self.scoping.symbols_len() => {
+                self.scoping.plain_redeclarations(symbol)
+            }
+            _ => 0,
         }
     }
 }

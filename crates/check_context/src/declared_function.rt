@@ -17,7 +17,8 @@ pub fn is_declared_function(kind: AstKind<'_>) -> bool
 /// Whether the node is a function that is declared as a branch of an `if` in sloppy code (ECMAScript, Annex B.3.3).
 pub fn is_function_decl_part_of_if_statement(kind: AstKind<'_>, ctx: &CheckContext<'_, '_>) -> bool
     requires { IsContext ctx.now }
-    ensures { result ≡ rows.is_function_decl_part_of_if_statement (sight kind.entry.node.now ctx.now) }
+    ensures { result ≡ rows.is_function_decl_part_of_if_statement
+        (sight kind.entry.node.now ctx.now) }
 {
     is_declared_function(kind) && !ctx.is_strict() && ctx.is_under(AstType::IfStatement)
 }

@@ -1,7 +1,6 @@
 //! References that are tied to no symbol.
-ghost use Rattle.std.specs.Prelude.{◌≡◌, ◌==◌, nat_eq};
-ghost use Rattle.std.specs.List.{list_any, IsDistinct};
-ghost use Rattle.std.specs.Map.{keys_of};
+ghost use Rattle.std.specs.Prelude.{◌≡◌, ◌==◌};
+ghost use Rattle.std.specs.List.{list_any};
 ghost use Rattle.check_context.specs.Handed.{around};
 
 use crate::context::CheckContext;
@@ -11,9 +10,10 @@ impl<'a, 'n> CheckContext<'a, 'n> {
     /// Whether an identifier is a reference that is tied to no symbol.
     #[tactic(auto, using(crate::proofs::FreeReferences::free))]
     pub fn is_free(&self, ident: AstKind<'_>) -> bool
-        requires { IsDistinct nat_eq (keys_of self.now.tables.now.references) }
-        ensures { result ≡ list_any (λ node. node == ident.entry.node.now.node_id) (around self.now).unresolved }
+        ensures { result ≡ list_any (λ node. node == ident.entry.node.now.node_id)
+            (around self.now).unresolved }
     {
+        self.tables.attest();
         match self.tables.reference_of(ident.node_id()) {
             Some(reference) if reference.index() < self.scoping.references_len() => {
                 !self.scoping.has_binding(reference)

@@ -19,7 +19,8 @@ pub struct Grandchildren<'a> {
 impl<'a> Grandchildren<'a> {
     /// The children in the inner role of the node's children in the outer role, in visiting order.
     pub fn new(kind: AstKind<'a>, outer: Role, inner: Role) -> Grandchildren<'a>
-        ensures { grandchildren_left result ≡ flat_map (all_in inner) (all_in outer kind.entry.node.now) }
+        ensures { grandchildren_left result
+            ≡ flat_map (all_in inner) (all_in outer kind.entry.node.now) }
     {
         let mut left = kind.children(outer);
         let below = match left.next() {

@@ -5,6 +5,7 @@
 pub mod context;
 mod declared_function;
 mod entries;
+mod fits;
 mod free_references;
 mod grandchildren;
 mod links;

@@ -44,7 +44,8 @@ pub fn node_of<'a>(
     kind: AstKind<'a>,
     above: AncestorKinds<'_, 'a>,
 ) -> Option<AstKind<'a>>
-    ensures { option_map shown result ≡ find (λ node. node.node_id == id) (kind.entry.node.now ∷ path_left above.entry) }
+    ensures { option_map shown result
+        ≡ find (λ node. node.node_id == id) (kind.entry.node.now ∷ path_left above.entry) }
 {
     if kind.node_id() == id {
         return Some(kind);

@@ -20,8 +20,10 @@ impl<'a, 'n> CheckContext<'a, 'n> {
     /// The class around a class.
     pub fn outer_class(&self, class: ClassId) -> Option<ClassId>
         requires { class < length self.now.classes.now.classes.nodes }
-        ensures outward { let lists = self.now.classes.now.classes in classes_from lists result ≡ drop 1 (classes_from lists (Some class)) }
-        ensures within { IfSome result (λ outer. outer < length self.now.classes.now.classes.nodes) }
+        ensures outward { let lists = self.now.classes.now.classes in
+            classes_from lists result ≡ drop 1 (classes_from lists (Some class)) }
+        ensures within { IfSome result
+            (λ outer. outer < length self.now.classes.now.classes.nodes) }
     {
         class_around(&self.classes.classes, class)
     }

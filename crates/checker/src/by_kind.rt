@@ -25,7 +25,8 @@ fn check_binding_name(
     out: &mut Diagnostics,
 ) -> Result<(), AllocError>
     requires { IsContext ctx.now }
-    ensures { Tells result (rows_by kinds.BindingIdentifier (sight kind.entry.node.now ctx.now)) out.old out.new }
+    ensures { Tells result (rows_by kinds.BindingIdentifier (sight kind.entry.node.now ctx.now))
+        out.old out.new }
 {
     check_own_name(alloc, kind, ctx, out)?;
     javascript::check_binding_identifier(alloc, kind, ctx, out)
@@ -39,7 +40,8 @@ fn check_reference_name(
     out: &mut Diagnostics,
 ) -> Result<(), AllocError>
     requires { IsContext ctx.now }
-    ensures { Tells result (rows_by kinds.IdentifierReference (sight kind.entry.node.now ctx.now)) out.old out.new }
+    ensures { Tells result (rows_by kinds.IdentifierReference (sight kind.entry.node.now ctx.now))
+        out.old out.new }
 {
     check_own_name(alloc, kind, ctx, out)?;
     javascript::check_identifier_reference(alloc, kind, ctx, out)
@@ -53,7 +55,8 @@ fn check_with(
     out: &mut Diagnostics,
 ) -> Result<(), AllocError>
     requires { IsHanded kind.node.now ctx.now }
-    ensures { Tells result (rows_by kinds.WithStatement (sight kind.entry.node.now ctx.now)) out.old out.new }
+    ensures { Tells result (rows_by kinds.WithStatement (sight kind.entry.node.now ctx.now)) out.old
+        out.new }
 {
     check_body(alloc, kind, Role::Body, false, ctx, out)?;
     javascript::check_with_statement(alloc, kind, ctx, out)
@@ -67,7 +70,8 @@ fn check_if(
     out: &mut Diagnostics,
 ) -> Result<(), AllocError>
     requires { IsContext ctx.now }
-    ensures { Tells result (rows_by kinds.IfStatement (sight kind.entry.node.now ctx.now)) out.old out.new }
+    ensures { Tells result (rows_by kinds.IfStatement (sight kind.entry.node.now ctx.now)) out.old
+        out.new }
 {
     check_body(alloc, kind, Role::Consequent, true, ctx, out)?;
     check_body(alloc, kind, Role::Alternate, true, ctx, out)
@@ -81,7 +85,8 @@ fn check_label(
     out: &mut Diagnostics,
 ) -> Result<(), AllocError>
     requires { IsContext ctx.now }
-    ensures { Tells result (rows_by kinds.LabeledStatement (sight kind.entry.node.now ctx.now)) out.old out.new }
+    ensures { Tells result (rows_by kinds.LabeledStatement (sight kind.entry.node.now ctx.now))
+        out.old out.new }
 {
     javascript::check_labeled_statement(alloc, kind, ctx, out)?;
     check_labelled_body(alloc, kind, ctx, out)
@@ -95,7 +100,8 @@ fn check_for_in(
     out: &mut Diagnostics,
 ) -> Result<(), AllocError>
     requires { IsContext ctx.now }
-    ensures { Tells result (rows_by kinds.ForInStatement (sight kind.entry.node.now ctx.now)) out.old out.new }
+    ensures { Tells result (rows_by kinds.ForInStatement (sight kind.entry.node.now ctx.now))
+        out.old out.new }
 {
     check_body(alloc, kind, Role::Body, false, ctx, out)?;
     check_left(alloc, kind, true, ctx, out)
@@ -109,7 +115,8 @@ fn check_for_of_body(
     out: &mut Diagnostics,
 ) -> Result<(), AllocError>
     requires { IsContext ctx.now }
-    ensures { let s = sight kind.entry.node.now ctx.now in Tells result (body_rows roles.Body false s ++ check_for_of_statement s) out.old out.new }
+    ensures { let s = sight kind.entry.node.now ctx.now in
+        Tells result (body_rows roles.Body false s ++ check_for_of_statement s) out.old out.new }
 {
     check_body(alloc, kind, Role::Body, false, ctx, out)?;
     javascript::check_for_of_statement(alloc, kind, ctx, out)
@@ -123,7 +130,8 @@ fn check_for_of(
     out: &mut Diagnostics,
 ) -> Result<(), AllocError>
     requires { IsContext ctx.now }
-    ensures { Tells result (rows_by kinds.ForOfStatement (sight kind.entry.node.now ctx.now)) out.old out.new }
+    ensures { Tells result (rows_by kinds.ForOfStatement (sight kind.entry.node.now ctx.now))
+        out.old out.new }
 {
     check_for_of_body(alloc, kind, ctx, out)?;
     check_left(alloc, kind, false, ctx, out)
@@ -137,7 +145,8 @@ fn check_javascript_class(
     out: &mut Diagnostics,
 ) -> Result<(), AllocError>
     requires { IsHanded kind.node.now ctx.now }
-    ensures { let s = sight kind.entry.node.now ctx.now in Tells result (check_class s ++ check_class_redeclaration s) out.old out.new }
+    ensures { let s = sight kind.entry.node.now ctx.now in
+        Tells result (check_class s ++ check_class_redeclaration s) out.old out.new }
 {
     javascript::check_class(alloc, kind, ctx, out)?;
     javascript::check_class_redeclaration(alloc, kind, ctx, out)
@@ -151,7 +160,8 @@ fn check_whole_class(
     out: &mut Diagnostics,
 ) -> Result<(), AllocError>
     requires { IsHanded kind.node.now ctx.now }
-    ensures { Tells result (rows_by kinds.Class (sight kind.entry.node.now ctx.now)) out.old out.new }
+    ensures { Tells result (rows_by kinds.Class (sight kind.entry.node.now ctx.now)) out.old
+        out.new }
 {
     check_javascript_class(alloc, kind, ctx, out)?;
     typescript::check_class(alloc, kind, ctx, out)
@@ -161,7 +171,8 @@ fn check_whole_class(
 /// context shows the path to the node, the scopes, the symbols, the references and the classes. Of one kind of node
 /// JavaScript's rules come before TypeScript's, and a node of a kind without rules costs one look. What the tables don't
 /// have violates no rule. The node, the type that it annotates and the elements of classes stand in the source, on
-/// characters. For want of memory the first of the diagnostics are added.
+/// characters: `is_checkable` tells whether all that is asked holds. For want of memory the first of the diagnostics are
+/// added.
 pub fn check<'a>(
     alloc: Global,
     kind: AstKind<'a>,

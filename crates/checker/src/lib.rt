@@ -2,6 +2,7 @@
 #![tactic(auto)]
 
 mod by_kind;
+mod conditions;
 mod early_errors;
 pub mod javascript;
 mod parts;
@@ -10,4 +11,5 @@ pub mod typescript;
 
 pub use by_kind::check;
 pub use check_context::CheckContext;
+pub use conditions::is_checkable;
 pub use early_errors::EarlyErrors;

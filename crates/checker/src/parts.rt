@@ -20,7 +20,8 @@ pub(crate) fn check_own_name(
     out: &mut Diagnostics,
 ) -> Result<(), AllocError>
     requires { IsContext ctx.now }
-    ensures { Tells result (rows.own_identifier_rows (sight kind.entry.node.now ctx.now)) out.old out.new }
+    ensures { Tells result (rows.own_identifier_rows (sight kind.entry.node.now ctx.now)) out.old
+        out.new }
 {
     javascript::check_identifier(alloc, kind.text(), kind.span(), ctx, out)
 }
@@ -36,7 +37,8 @@ pub(crate) fn check_body(
     out: &mut Diagnostics,
 ) -> Result<(), AllocError>
     requires { IsContext ctx.now }
-    ensures { Tells result (rows.body_rows role under_if (sight kind.entry.node.now ctx.now)) out.old out.new }
+    ensures { Tells result (rows.body_rows role under_if (sight kind.entry.node.now ctx.now))
+        out.old out.new }
 {
     match kind.child(role) {
         Some(body) => javascript::check_function_declaration(alloc, body, under_if, ctx, out),
@@ -52,7 +54,8 @@ pub(crate) fn check_labelled_body(
     out: &mut Diagnostics,
 ) -> Result<(), AllocError>
     requires { IsContext ctx.now }
-    ensures { Tells result (rows.labelled_body_rows (sight kind.entry.node.now ctx.now)) out.old out.new }
+    ensures { Tells result (rows.labelled_body_rows (sight kind.entry.node.now ctx.now)) out.old
+        out.new }
 {
     match kind.child(Role::Body) {
         Some(body) => {
@@ -71,7 +74,9 @@ fn check_left_child(
     out: &mut Diagnostics,
 ) -> Result<(), AllocError>
     requires { IsContext ctx.now }
-    ensures { let s = around ctx.now in Tells result (check_for_statement_left left.entry.node.now for_in s ++ typed.check_for_statement_left left.entry.node.now for_in s) out.old out.new }
+    ensures { let s = around ctx.now in
+        Tells result (check_for_statement_left left.entry.node.now for_in s
+        ++ typed.check_for_statement_left left.entry.node.now for_in s) out.old out.new }
 {
     javascript::check_for_statement_left(alloc, left, for_in, ctx, out)?;
     typescript::check_for_statement_left(alloc, left, for_in, ctx, out)
@@ -86,7 +91,8 @@ pub(crate) fn check_left(
     out: &mut Diagnostics,
 ) -> Result<(), AllocError>
     requires { IsContext ctx.now }
-    ensures { Tells result (rows.left_rows for_in (sight kind.entry.node.now ctx.now)) out.old out.new }
+    ensures { Tells result (rows.left_rows for_in (sight kind.entry.node.now ctx.now)) out.old
+        out.new }
 {
     match kind.child(Role::Left) {
         Some(left) => check_left_child(alloc, left, for_in, ctx, out),

@@ -22,7 +22,9 @@ fn check_elements_and_exports(
     out: &mut Diagnostics,
 ) -> Result<(), AllocError>
     requires { IsCheckable kind.node.now ctx.now }
-    ensures { let s = sight kind.entry.node.now ctx.now in Tells result (check_duplicate_class_elements s ++ check_unresolved_exports s) out.old out.new }
+    ensures { let s = sight kind.entry.node.now ctx.now in
+        Tells result (check_duplicate_class_elements s ++ check_unresolved_exports s) out.old
+        out.new }
 {
     javascript::check_duplicate_class_elements(alloc, ctx, out)?;
     javascript::check_unresolved_exports(alloc, kind, ctx, out)
@@ -36,7 +38,9 @@ fn check_names(
     out: &mut Diagnostics,
 ) -> Result<(), AllocError>
     requires { IsCheckable kind.node.now ctx.now }
-    ensures { let s = sight kind.entry.node.now ctx.now in Tells result (check_duplicate_class_elements s ++ check_unresolved_exports s ++ check_import_value_redeclarations s) out.old out.new }
+    ensures { let s = sight kind.entry.node.now ctx.now in
+        Tells result (check_duplicate_class_elements s ++ check_unresolved_exports s
+        ++ check_import_value_redeclarations s) out.old out.new }
 {
     check_elements_and_exports(alloc, kind, ctx, out)?;
     javascript::check_import_value_redeclarations(alloc, ctx, out)
@@ -50,7 +54,8 @@ pub(crate) fn check_program(
     out: &mut Diagnostics,
 ) -> Result<(), AllocError>
     requires { IsCheckable kind.node.now ctx.now }
-    ensures { Tells result (rows_by kinds.Program (sight kind.entry.node.now ctx.now)) out.old out.new }
+    ensures { Tells result (rows_by kinds.Program (sight kind.entry.node.now ctx.now)) out.old
+        out.new }
 {
     check_names(alloc, kind, ctx, out)?;
     typescript::check_ts_export_assignment_in_program(alloc, kind, ctx, out)

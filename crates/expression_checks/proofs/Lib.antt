@@ -6,3 +6,5 @@ pub mod SpelledNames
 pub mod EachElement
 pub mod AroundClasses
 pub mod EachClass
+pub mod AllSound
+pub mod EarlierFound

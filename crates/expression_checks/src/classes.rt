@@ -28,7 +28,9 @@ use std::alloc::{AllocError, Global};
 /// Definitions).
 fn lacks_name(kind: AstKind<'_>, ctx: &CheckContext<'_, '_>) -> bool
     requires { IsContext ctx.now }
-    ensures { result ≡ (has_text (codes "declaration") kind.entry.node.now && not (has_child roles.Id kind.entry.node.now || is_under kinds.ExportDefaultDeclaration (around ctx.now))) }
+    ensures { result ≡ (has_text (codes "declaration") kind.entry.node.now
+        && not (has_child roles.Id kind.entry.node.now
+        || is_under kinds.ExportDefaultDeclaration (around ctx.now))) }
 {
     reads(kind, "declaration")
         && !has_child(kind, Role::Id)
@@ -44,7 +46,8 @@ fn tell_class_name(
     out: &mut Diagnostics,
 ) -> Result<(), AllocError>
     requires { IsHanded kind.node.now ctx.now }
-    ensures { Tells result (rows.class_name_rows (sight kind.entry.node.now ctx.now)) out.old out.new }
+    ensures { Tells result (rows.class_name_rows (sight kind.entry.node.now ctx.now)) out.old
+        out.new }
 {
     if lacks_name(kind, ctx) {
         tell(require_class_name(alloc, first_bytes(5, kind.span())), out)
@@ -62,7 +65,8 @@ fn tell_parts(
     out: &mut Diagnostics,
 ) -> Result<(), AllocError>
     requires { IsHanded kind.node.now ctx.now }
-    ensures { let s = sight kind.entry.node.now ctx.now in Tells result (rows.class_name_rows s ++ rows.constructor_rows s) out.old out.new }
+    ensures { let s = sight kind.entry.node.now ctx.now in
+        Tells result (rows.class_name_rows s ++ rows.constructor_rows s) out.old out.new }
 {
     tell_class_name(alloc, kind, ctx, out)?;
     tell_constructors(alloc, kind, out)
@@ -94,7 +98,11 @@ fn tell_redeclaration(
     out: &mut Diagnostics,
 ) -> Result<(), AllocError>
     requires { IsContext ctx.now }
-    ensures { let name = ident.entry.node.now in Tells result (rows_of_some (λ before. row_if (meets before.flags.bits symbol.Function.bits) (tell.redeclaration name.text before.span name.span)) (one_before_last (entries_of (around ctx.now) name))) out.old out.new }
+    ensures { let name = ident.entry.node.now in
+        Tells result (rows_of_some
+        (λ before. row_if (meets before.flags.bits symbol.Function.bits)
+        (tell.redeclaration name.text before.span name.span))
+        (one_before_last (entries_of (around ctx.now) name))) out.old out.new }
 {
     let Some(before) = one_before_last(ctx.entries_of(ident)) else {
         return Ok(());
@@ -119,7 +127,8 @@ pub fn check_class_redeclaration<'a>(
     out: &mut Diagnostics,
 ) -> Result<(), AllocError>
     requires { IsContext ctx.now }
-    ensures { Tells result (rows.check_class_redeclaration (sight kind.entry.node.now ctx.now)) out.old out.new }
+    ensures { Tells result (rows.check_class_redeclaration (sight kind.entry.node.now ctx.now))
+        out.old out.new }
 {
     if ctx.source_type.is_typescript() {
         return Ok(());

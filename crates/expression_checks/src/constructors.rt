@@ -33,7 +33,10 @@ fn is_constructor_with_body(member: AstKind<'_>) -> bool
 
 /// The next constructor with a body, behind which the members after it are left.
 fn next_constructor<'a>(members: &mut Grandchildren<'a>) -> Option<AstKind<'a>>
-    ensures { MatchOption result (filter rows.is_constructor_with_body (grandchildren_left members.old) ≡ []) (λ found. filter rows.is_constructor_with_body (grandchildren_left members.old) ≡ found.node.now ∷ filter rows.is_constructor_with_body (grandchildren_left members.new)) }
+    ensures { MatchOption result
+        (filter rows.is_constructor_with_body (grandchildren_left members.old) ≡ [])
+        (λ found. filter rows.is_constructor_with_body (grandchildren_left members.old)
+        ≡ found.node.now ∷ filter rows.is_constructor_with_body (grandchildren_left members.new)) }
 {
     while let Some(member) = members.next() {
         if is_constructor_with_body(member) {
@@ -60,7 +63,9 @@ pub(crate) fn tell_constructors(
     class: AstKind<'_>,
     out: &mut Diagnostics,
 ) -> Result<(), AllocError>
-    ensures { Tells result (rows.second_rows (filter rows.is_constructor_with_body (rows.members class.entry.node.now))) out.old out.new }
+    ensures { Tells result (rows.second_rows
+        (filter rows.is_constructor_with_body (rows.members class.entry.node.now))) out.old
+        out.new }
 {
     let mut members = Grandchildren::new(class, Role::Body, Role::Body);
     let Some(one) = next_constructor(&mut members) else {

@@ -30,7 +30,8 @@ fn first_of<'n, 'a>(
     one: Option<&'n Element<'a>>,
     other: Option<&'n Element<'a>>,
 ) -> Option<&'n Element<'a>>
-    ensures { option_map element_behind result ≡ some_or (option_map element_behind one.entry) (option_map element_behind other.entry) }
+    ensures { option_map element_behind result
+        ≡ some_or (option_map element_behind one.entry) (option_map element_behind other.entry) }
 {
     match one {
         Some(found) => Some(found),
@@ -65,7 +66,11 @@ impl<'n, 'a> EarlierElements<'n, 'a> {
 
     /// The private element of the name that is compared with an element: rather one that sets as that does.
     fn private_predecessor(&self, own: &Element<'_>) -> Option<&'n Element<'a>>
-        ensures { let e = element_seen own.now in option_map element_behind result ≡ (if sets e then some_or (last_in self.now.setters e) (last_in self.now.others e) else some_or (last_in self.now.others e) (last_in self.now.setters e)) }
+        ensures { let e = element_seen own.now in
+            option_map element_behind result
+            ≡ (if sets e then some_or (last_in self.now.setters e)
+            (last_in self.now.others e) else some_or (last_in self.now.others e)
+            (last_in self.now.setters e)) }
     {
         let name = own.name.as_str();
         let setter = self.setters.get(name);
@@ -79,7 +84,8 @@ impl<'n, 'a> EarlierElements<'n, 'a> {
 
     /// The element that an element after all of these is compared with.
     pub(crate) fn predecessor(&self, own: &Element<'_>) -> Option<&'n Element<'a>>
-        ensures { option_map element_behind result ≡ predecessor_in self.now (element_seen own.now) }
+        ensures { option_map element_behind result
+            ≡ predecessor_in self.now (element_seen own.now) }
     {
         if own.is_private {
             self.private_predecessor(own)

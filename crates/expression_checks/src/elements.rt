@@ -9,7 +9,7 @@ ghost use Rattle.semantic_tree.specs.Sound.{is_sound};
 ghost use Rattle.check_context.specs.Handed.{around, IsContext};
 ghost use Rattle.check_context.specs.Tells.{Tells};
 ghost use Rattle.expression_checks.specs.Predecessors.{earlier_of, predecessor_in};
-ghost use Rattle.expression_checks.specs.SoundElements.{AreSound};
+ghost use Rattle.expression_checks.specs.SoundElements.{are_all_sound, are_sound, AreSound};
 
 use crate::earlier_elements::EarlierElements;
 use check_context::{CheckContext, tell};
@@ -17,6 +17,7 @@ use class_table::{ClassTable, Element};
 use semantic_diagnostics::Diagnostics;
 use semantic_diagnostics::makers::{redeclaration, static_and_instance_private_identifier};
 use semantic_syntax::ElementKind;
+use semantic_tree::sound;
 use std::alloc::{AllocError, Global};
 
 /// Whether the element is a getter or a setter.
@@ -49,7 +50,8 @@ fn clash(in_typescript: bool, before: &Element<'_>, own: &Element<'_>) -> bool
 
 /// Whether one of two private elements in TypeScript is static, and the other isn't (`TS(2804)`).
 fn are_mixed(in_typescript: bool, before: &Element<'_>, own: &Element<'_>) -> bool
-    ensures { result ≡ (own.now.is_private && (in_typescript && not (rows.same_truth before.now.is_static own.now.is_static))) }
+    ensures { result ≡ (own.now.is_private
+        && (in_typescript && not (rows.same_truth before.now.is_static own.now.is_static))) }
 {
     own.is_private && in_typescript && !share_static(before, own)
 }
@@ -64,7 +66,8 @@ fn tell_clash(
     out: &mut Diagnostics,
 ) -> Result<(), AllocError>
     requires { is_sound ctx.now.source_text.now before.now.span ≡ true }
-    ensures { Tells result (rows.clash_row (around ctx.now) (element_seen before.now) (element_seen own.now) ∷ []) out.old out.new }
+    ensures { Tells result (rows.clash_row (around ctx.now) (element_seen before.now)
+        (element_seen own.now) ∷ []) out.old out.new }
 {
     if are_mixed(ctx.source_type.is_typescript(), before, own) {
         let name = own.name.as_str();
@@ -88,7 +91,10 @@ fn tell_if_clash(
     out: &mut Diagnostics,
 ) -> Result<(), AllocError>
     requires { is_sound ctx.now.source_text.now before.now.span ≡ true }
-    ensures { let s = around ctx.now in Tells result (row_if (rows.clash (is_typescript s) (element_seen before.now) (element_seen own.now)) (rows.clash_row s (element_seen before.now) (element_seen own.now))) out.old out.new }
+    ensures { let s = around ctx.now in
+        Tells result
+        (row_if (rows.clash (is_typescript s) (element_seen before.now) (element_seen own.now))
+        (rows.clash_row s (element_seen before.now) (element_seen own.now))) out.old out.new }
 {
     if clash(ctx.source_type.is_typescript(), before, own) {
         tell_clash(alloc, before, own, ctx, out)
@@ -106,8 +112,12 @@ fn tell_element(
     ctx: &CheckContext<'_, '_>,
     out: &mut Diagnostics,
 ) -> Result<(), AllocError>
-    requires { IfSome (predecessor_in earlier.now (element_seen own.now)) (λ before. is_sound ctx.now.source_text.now before.span ≡ true) }
-    ensures { let s = around ctx.now in let e = element_seen own.now in Tells result (rows_of_some (λ before. row_if (rows.clash (is_typescript s) before e) (rows.clash_row s before e)) (predecessor_in earlier.now e)) out.old out.new }
+    requires { IfSome (predecessor_in earlier.now (element_seen own.now))
+        (λ before. is_sound ctx.now.source_text.now before.span ≡ true) }
+    ensures { let s = around ctx.now in let e = element_seen own.now in
+        Tells result (rows_of_some
+        (λ before. row_if (rows.clash (is_typescript s) before e) (rows.clash_row s before e))
+        (predecessor_in earlier.now e)) out.old out.new }
 {
     match earlier.predecessor(own) {
         Some(before) => tell_if_clash(alloc, before, own, ctx, out),
@@ -126,7 +136,8 @@ fn tell_elements<'n, 'a>(
 ) -> Result<(), AllocError>
     requires sound { AreSound ctx.now.source_text.now (map element_seen elements.now) }
     requires fresh { earlier.old ≡ earlier_of [] }
-    ensures { Tells result (rows.class_rows (around ctx.now) (map element_seen elements.entry.now)) out.old out.new }
+    ensures { Tells result (rows.class_rows (around ctx.now) (map element_seen elements.entry.now))
+        out.old out.new }
 {
     for own in elements {
         tell_element(alloc, own, earlier, ctx, out)?;
@@ -143,7 +154,8 @@ fn tell_class(
     out: &mut Diagnostics,
 ) -> Result<(), AllocError>
     requires { AreSound ctx.now.source_text.now (map element_seen elements.now) }
-    ensures { Tells result (rows.class_rows (around ctx.now) (map element_seen elements.now)) out.old out.new }
+    ensures { Tells result (rows.class_rows (around ctx.now) (map element_seen elements.now))
+        out.old out.new }
 {
     let mut earlier = EarlierElements::new(alloc);
     tell_elements(alloc, elements, &mut earlier, ctx, out)
@@ -155,6 +167,39 @@ fn elements_by_class<'t, 'a>(classes: &'t ClassTable<'a>) -> &'t [Vec<Element<'a
     classes.elements.as_slice()
 }
 
+/// Whether the elements of a class stand in the source, on characters.
+#[tactic(auto, using(crate::proofs::AllSound::each_told))]
+fn are_sound(source: &str, elements: &[Element<'_>]) -> bool
+    ensures { result ≡ are_sound source.now (map element_seen elements.now) }
+{
+    for own in elements {
+        if !sound::is_sound(source, own.span) {
+            return false;
+        }
+    }
+    true
+}
+
+/// Whether those of each class do.
+#[tactic(auto, using(crate::proofs::AllSound::each_told))]
+fn are_all_sound(source: &str, classes: &[Vec<Element<'_>>]) -> bool
+    ensures { result ≡ are_all_sound source.now (map (λ v. map element_seen v.items) classes.now) }
+{
+    for elements in classes {
+        if !are_sound(source, elements.as_slice()) {
+            return false;
+        }
+    }
+    true
+}
+
+/// Whether the elements of each class that is handed in stand in the source, on characters.
+pub fn has_sound_elements(ctx: &CheckContext<'_, '_>) -> bool
+    ensures { result ≡ are_all_sound ctx.now.source_text.now ctx.now.classes.now.classes.elements }
+{
+    are_all_sound(ctx.source_text, elements_by_class(&ctx.classes.classes))
+}
+
 /// Tells of the elements of each class that clash.
 #[tactic(auto, using(check_context::proofs::Telling::loop_telling))]
 fn tell_classes(
@@ -163,8 +208,10 @@ fn tell_classes(
     ctx: &CheckContext<'_, '_>,
     out: &mut Diagnostics,
 ) -> Result<(), AllocError>
-    requires { AllByRecursion (AreSound ctx.now.source_text.now) (map (λ v. map element_seen v.items) classes.now) }
-    ensures { Tells result (flat_map (rows.class_rows (around ctx.now)) (map (λ v. map element_seen v.items) classes.now)) out.old out.new }
+    requires { AllByRecursion (AreSound ctx.now.source_text.now)
+        (map (λ v. map element_seen v.items) classes.now) }
+    ensures { Tells result (flat_map (rows.class_rows (around ctx.now))
+        (map (λ v. map element_seen v.items) classes.now)) out.old out.new }
 {
     for elements in classes {
         tell_class(alloc, elements.as_slice(), ctx, out)?;
@@ -182,7 +229,8 @@ pub fn check_duplicate_class_elements<'a>(
     out: &mut Diagnostics,
 ) -> Result<(), AllocError>
     requires context { IsContext ctx.now }
-    requires elements { AllByRecursion (AreSound ctx.now.source_text.now) ctx.now.classes.now.classes.elements }
+    requires elements { AllByRecursion
+        (AreSound ctx.now.source_text.now) ctx.now.classes.now.classes.elements }
     ensures { Tells result (rows.check_duplicate_class_elements (around ctx.now)) out.old out.new }
 {
     tell_classes(alloc, elements_by_class(&ctx.classes.classes), ctx, out)

@@ -1,5 +1,6 @@
 //! Early errors of functions that are declared again.
 ghost use Rattle.std.specs.Prelude.{◌≡◌, ◌&&◌, ◌||◌, ◌∷◌, [], find, not};
+ghost use Rattle.std.specs.List.{position_or_len};
 ghost use Rattle.semantic_kinds.specs.declared.mark.Mark.TheVariants as mark;
 ghost use Rattle.semantic_syntax.specs.Sets.{meets, union};
 ghost use Rattle.semantic_syntax.specs.declared.symbol_flags.TheConstants.SymbolFlags as symbol;
@@ -37,7 +38,8 @@ fn lets_functions_redeclare(ctx: &CheckContext<'_, '_>) -> bool
 
 /// Whether a declaration with the flags is that of a `var` or of a function.
 fn is_var_or_function(flags: SymbolFlags) -> bool
-    ensures { result ≡ meets flags.bits (union symbol.FunctionScopedVariable.bits symbol.Function.bits) }
+    ensures { result ≡ meets flags.bits
+        (union symbol.FunctionScopedVariable.bits symbol.Function.bits) }
 {
     flags.intersects(SymbolFlags::FunctionScopedVariable.union(SymbolFlags::Function))
 }
@@ -54,7 +56,8 @@ fn may_precede(before: &Redeclaration, ctx: &CheckContext<'_, '_>) -> bool
 
 /// Whether the function is neither async nor a generator.
 fn is_plain(kind: AstKind<'_>) -> bool
-    ensures { result ≡ not (has mark.Async kind.entry.node.now || has mark.Generator kind.entry.node.now) }
+    ensures { result ≡ not (has mark.Async kind.entry.node.now
+        || has mark.Generator kind.entry.node.now) }
 {
     !(kind.has_mark(Mark::Async) || kind.has_mark(Mark::Generator))
 }
@@ -67,28 +70,15 @@ fn is_sloppy_repeat(kind: AstKind<'_>, before: &Redeclaration, ctx: &CheckContex
     !ctx.is_strict() && is_plain(kind) && before.flags.intersects(SymbolFlags::Function)
 }
 
-/// The first of some declarations that is an async function or a generator.
-fn first_async_or_generator(entries: &[Redeclaration]) -> Option<Redeclaration>
-    ensures { result ≡ find rows.is_async_or_generator entries.now }
-{
-    for entry in entries {
-        if entry
-            .flags
-            .intersects(SymbolFlags::AsyncOrGeneratorFunction)
-        {
-            return Some(*entry);
-        }
-    }
-    None
-}
-
-/// The first declaration, before the last one, that is an async function or a generator.
-#[tactic(auto, using(crate::proofs::BeforeLast::before_last_is))]
-fn earlier_async_or_generator(entries: &[Redeclaration]) -> Option<Redeclaration>
+/// The first declaration, before the last one, that is an async function or a generator, where `plain` declarations stand
+/// before the first of all that is one.
+#[tactic(auto, using(crate::proofs::EarlierFound::earlier_is))]
+fn earlier_async_or_generator(entries: &[Redeclaration], plain: usize) -> Option<Redeclaration>
+    requires { plain ≡ position_or_len rows.is_async_or_generator entries.now }
     ensures { result ≡ find rows.is_async_or_generator (before_last entries.now) }
 {
     match entries.split_last() {
-        Some((_, earlier)) => first_async_or_generator(earlier),
+        Some((_, earlier)) => earlier.get(plain).copied(),
         None => None,
     }
 }
@@ -101,7 +91,8 @@ fn tell_again(
     first: Span,
     out: &mut Diagnostics,
 ) -> Result<(), AllocError>
-    ensures { let node = ident.entry.node.now in Tells result (tell.redeclaration node.text first node.span ∷ []) out.old out.new }
+    ensures { let node = ident.entry.node.now in
+        Tells result (tell.redeclaration node.text first node.span ∷ []) out.old out.new }
 {
     let name = ident.text();
     tell(
@@ -116,12 +107,15 @@ fn tell_again(
 fn tell_sloppy_repeat(
     alloc: Global,
     ident: AstKind<'_>,
-    entries: &[Redeclaration],
+    ctx: &CheckContext<'_, '_>,
     out: &mut Diagnostics,
 ) -> Result<(), AllocError>
-    ensures { let node = ident.entry.node.now in Tells result (rows_of_some (λ entry. tell.redeclaration node.text entry.span node.span ∷ []) (find rows.is_async_or_generator (before_last entries.now))) out.old out.new }
+    ensures { let node = ident.entry.node.now in
+        Tells result (rows_of_some (λ entry. tell.redeclaration node.text entry.span node.span ∷ [])
+        (find rows.is_async_or_generator (before_last (entries_of (around ctx.now) node)))) out.old
+        out.new }
 {
-    match earlier_async_or_generator(entries) {
+    match earlier_async_or_generator(ctx.entries_of(ident), ctx.plain_entries_of(ident)) {
         Some(entry) => tell_again(alloc, ident, entry.span, out),
         None => Ok(()),
     }
@@ -138,10 +132,12 @@ fn tell_repeat<'a>(
     out: &mut Diagnostics,
 ) -> Result<(), AllocError>
     requires { IsContext ctx.now }
-    ensures { let s = sight kind.entry.node.now ctx.now in let ident = ident.entry.node.now in Tells result (rows.repeat_rows s ident before.now (before_last (entries_of s ident))) out.old out.new }
+    ensures { let s = sight kind.entry.node.now ctx.now in let ident = ident.entry.node.now in
+        Tells result (rows.repeat_rows s ident before.now (before_last (entries_of s ident)))
+        out.old out.new }
 {
     if is_sloppy_repeat(kind, before, ctx) {
-        tell_sloppy_repeat(alloc, ident, ctx.entries_of(ident), out)
+        tell_sloppy_repeat(alloc, ident, ctx, out)
     } else {
         tell_again(alloc, ident, before.span, out)
     }
@@ -157,7 +153,8 @@ fn tell_redeclared<'a>(
     out: &mut Diagnostics,
 ) -> Result<(), AllocError>
     requires { IsContext ctx.now }
-    ensures { let s = sight kind.entry.node.now ctx.now in let ident = ident.entry.node.now in Tells result (rows.redeclared_rows s ident (entries_of s ident)) out.old out.new }
+    ensures { let s = sight kind.entry.node.now ctx.now in let ident = ident.entry.node.now in
+        Tells result (rows.redeclared_rows s ident (entries_of s ident)) out.old out.new }
 {
     let Some(before) = one_before_last(ctx.entries_of(ident)) else {
         return Ok(());
@@ -171,7 +168,9 @@ fn tell_redeclared<'a>(
 /// Whether the node is a function that is declared, elsewhere than as a branch of an `if` in sloppy code.
 fn is_declared_in_list(kind: AstKind<'_>, ctx: &CheckContext<'_, '_>) -> bool
     requires { IsContext ctx.now }
-    ensures { let s = sight kind.entry.node.now ctx.now in result ≡ (bodies.is_declared_function s.node && not (bodies.is_function_decl_part_of_if_statement s)) }
+    ensures { let s = sight kind.entry.node.now ctx.now in
+        result ≡ (bodies.is_declared_function s.node
+        && not (bodies.is_function_decl_part_of_if_statement s)) }
 {
     is_declared_function(kind) && !is_function_decl_part_of_if_statement(kind, ctx)
 }
@@ -187,7 +186,8 @@ pub fn check_function_redeclaration<'a>(
     out: &mut Diagnostics,
 ) -> Result<(), AllocError>
     requires { IsContext ctx.now }
-    ensures { Tells result (rows.check_function_redeclaration (sight kind.entry.node.now ctx.now)) out.old out.new }
+    ensures { Tells result (rows.check_function_redeclaration (sight kind.entry.node.now ctx.now))
+        out.old out.new }
 {
     if ctx.source_type.is_typescript() || !is_declared_in_list(kind, ctx) {
         return Ok(());

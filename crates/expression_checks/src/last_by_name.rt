@@ -46,7 +46,8 @@ impl<'n, 'a> LastByName<'n, 'a> {
     /// The last element of the name, if one has it.
     #[tactic(auto, using(crate::proofs::SpelledNames::names))]
     pub(crate) fn get(&self, name: &str) -> Option<&'n Element<'a>>
-        ensures { option_map element_behind result ≡ lookup (bytes_eq (chars name.entry.now)) self.now }
+        ensures { option_map element_behind result
+            ≡ lookup (bytes_eq (chars name.entry.now)) self.now }
     {
         spell(name);
         self.elements.get(&name).copied()
@@ -55,7 +56,8 @@ impl<'n, 'a> LastByName<'n, 'a> {
     /// Adds an element, as the last of its name. After want of memory all is as before.
     #[tactic(auto, using(crate::proofs::SpelledNames::names))]
     pub(crate) fn put(&mut self, element: &'n Element<'a>) -> Result<(), AllocError>
-        ensures ok { OnOk result (self.new ≡ with_element self.old (element_seen element.entry.now)) }
+        ensures ok { OnOk result
+            (self.new ≡ with_element self.old (element_seen element.entry.now)) }
         ensures err { OnErr result (self.new ≡ self.old) }
     {
         let name = element.name.as_str();

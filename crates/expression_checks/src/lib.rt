@@ -18,7 +18,7 @@ mod verdict;
 mod way;
 
 pub use classes::{check_class, check_class_redeclaration};
-pub use elements::check_duplicate_class_elements;
+pub use elements::{check_duplicate_class_elements, has_sound_elements};
 pub use functions::check_function_redeclaration;
 pub use objects::check_object_expression;
 pub use operators::check_unary_expression;

@@ -61,7 +61,8 @@ struct ProtoKeys<'a> {
 impl<'a> ProtoKeys<'a> {
     /// The keys of the object that set its prototype, of which none is taken yet.
     fn new(object: AstKind<'a>) -> ProtoKeys<'a>
-        ensures { keys_left result ≡ filter_map rows.proto_key (all_in roles.Properties object.entry.node.now) }
+        ensures { keys_left result
+            ≡ filter_map rows.proto_key (all_in roles.Properties object.entry.node.now) }
     {
         ProtoKeys {
             properties: object.children(Role::Properties),
@@ -89,7 +90,8 @@ fn tell_proto(
     key: AstKind<'_>,
     out: &mut Diagnostics,
 ) -> Result<(), AllocError>
-    ensures { let pair : Node × Node = (earlier.entry.node.now, key.entry.node.now) in Tells result (rows.proto_rows pair) out.old out.new }
+    ensures { let pair : Node × Node = (earlier.entry.node.now, key.entry.node.now) in
+        Tells result (rows.proto_rows pair) out.old out.new }
 {
     tell(
         redeclaration(alloc, "__proto__", earlier.span(), key.span()),
@@ -106,7 +108,8 @@ pub fn check_object_expression<'a>(
     out: &mut Diagnostics,
 ) -> Result<(), AllocError>
     requires { IsContext ctx.now }
-    ensures { Tells result (rows.check_object_expression (sight kind.entry.node.now ctx.now)) out.old out.new }
+    ensures { Tells result (rows.check_object_expression (sight kind.entry.node.now ctx.now))
+        out.old out.new }
 {
     let _ctx = ctx;
     let mut keys = ProtoKeys::new(kind);

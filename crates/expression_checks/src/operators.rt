@@ -25,7 +25,8 @@ fn tell_name(
     out: &mut Diagnostics,
 ) -> Result<(), AllocError>
     requires { IsContext ctx.now }
-    ensures { Tells result (row_if (is_strict (around ctx.now)) (tell.delete_of_unqualified name.entry.node.now.span)) out.old out.new }
+    ensures { Tells result (row_if (is_strict (around ctx.now))
+        (tell.delete_of_unqualified name.entry.node.now.span)) out.old out.new }
 {
     if ctx.is_strict() {
         tell(delete_of_unqualified(alloc, name.span()), out)
@@ -37,7 +38,8 @@ fn tell_name(
 /// Tells of a private member, or of its name.
 #[tactic(auto, using(check_context::proofs::Telling::made))]
 fn tell_private(alloc: Global, member: AstKind<'_>, out: &mut Diagnostics) -> Result<(), AllocError>
-    ensures { Tells result (tell.delete_private_field member.entry.node.now.span ∷ []) out.old out.new }
+    ensures { Tells result (tell.delete_private_field member.entry.node.now.span ∷ []) out.old
+        out.new }
 {
     tell(delete_private_field(alloc, member.span()), out)
 }
@@ -60,7 +62,8 @@ fn tell_member(alloc: Global, member: AstKind<'_>, out: &mut Diagnostics) -> Res
 /// Tells of a private member that an optional chain ends with.
 #[tactic(auto, using(check_context::proofs::Telling::telling))]
 fn tell_chain(alloc: Global, chain: AstKind<'_>, out: &mut Diagnostics) -> Result<(), AllocError>
-    ensures { Tells result (rows_of_some rows.chained_rows (child_of roles.Expression chain.entry.node.now)) out.old out.new }
+    ensures { Tells result (rows_of_some rows.chained_rows
+        (child_of roles.Expression chain.entry.node.now)) out.old out.new }
 {
     match chain.child(Role::Expression) {
         Some(member) => tell_member(alloc, member, out),
@@ -77,7 +80,8 @@ fn tell_operand(
     out: &mut Diagnostics,
 ) -> Result<(), AllocError>
     requires { IsContext ctx.now }
-    ensures { Tells result (rows.operand_rows (around ctx.now) operand.entry.node.now) out.old out.new }
+    ensures { Tells result (rows.operand_rows (around ctx.now) operand.entry.node.now) out.old
+        out.new }
 {
     match operand.ty() {
         AstType::IdentifierReference => tell_name(alloc, operand, ctx, out),
@@ -97,7 +101,8 @@ pub fn check_unary_expression<'a>(
     out: &mut Diagnostics,
 ) -> Result<(), AllocError>
     requires { IsContext ctx.now }
-    ensures { Tells result (rows.check_unary_expression (sight kind.entry.node.now ctx.now)) out.old out.new }
+    ensures { Tells result (rows.check_unary_expression (sight kind.entry.node.now ctx.now)) out.old
+        out.new }
 {
     if !reads(kind, "delete") {
         return Ok(());

@@ -20,7 +20,8 @@ use std::alloc::{AllocError, Global};
 /// The classes outward from one are in the table.
 fn attest_around(class: ClassId, classes: &ClassTable<'_>)
     requires { class < length classes.now.nodes }
-    ensures { AllByRecursion (λ c. c < length classes.now.nodes) (outward classes.now.parents class) }
+    ensures { AllByRecursion (λ c. c < length classes.now.nodes)
+        (outward classes.now.parents class) }
 {
     let _class = class;
     let _count = classes.parent_ids.len();
@@ -30,7 +31,8 @@ fn attest_around(class: ClassId, classes: &ClassTable<'_>)
 /// AllPrivateIdentifiersValid).
 fn is_defined(name: Ident<'_>, class: ClassId, classes: &ClassTable<'_>) -> bool
     requires { class < length classes.now.nodes }
-    ensures { result ≡ list_any (rows.defines_private (chars name.entry.text.now)) (classes_from classes.now (Some class)) }
+    ensures { result ≡ list_any (rows.defines_private (chars name.entry.text.now))
+        (classes_from classes.now (Some class)) }
 {
     attest_around(class, classes);
     for around in classes.ancestors(class) {
@@ -51,7 +53,8 @@ fn tell_use(
     out: &mut Diagnostics,
 ) -> Result<(), AllocError>
     requires { class < length classes.now.nodes }
-    ensures { Tells result (rows.use_rows (classes_from classes.now (Some class)) (use_seen used.now)) out.old out.new }
+    ensures { Tells result (rows.use_rows (classes_from classes.now (Some class))
+        (use_seen used.now)) out.old out.new }
 {
     if is_defined(used.name, class, classes) {
         return Ok(());
@@ -71,7 +74,8 @@ fn tell_uses(
     out: &mut Diagnostics,
 ) -> Result<(), AllocError>
     requires { class < length classes.now.nodes }
-    ensures { Tells result (flat_map (rows.use_rows (classes_from classes.now (Some class))) (uses_in classes.now class)) out.old out.new }
+    ensures { Tells result (flat_map (rows.use_rows (classes_from classes.now (Some class)))
+        (uses_in classes.now class)) out.old out.new }
 {
     for used in classes.iter_private_identifiers(class) {
         tell_use(alloc, used, class, classes, out)?;

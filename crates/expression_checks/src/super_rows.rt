@@ -32,7 +32,8 @@ fn tell_refused<'a>(
     out: &mut Diagnostics,
 ) -> Result<(), AllocError>
     requires { IsContext ctx.now }
-    ensures { let s = sight kind.entry.node.now ctx.now in Tells result (rows.refused_row s (rows.call_around s) ∷ []) out.old out.new }
+    ensures { let s = sight kind.entry.node.now ctx.now in
+        Tells result (rows.refused_row s (rows.call_around s) ∷ []) out.old out.new }
 {
     match call_around(ctx) {
         Some(call) => tell(unexpected_super_call(alloc, call.span()), out),
@@ -49,7 +50,9 @@ fn tell_call<'a>(
     out: &mut Diagnostics,
 ) -> Result<(), AllocError>
     requires { IsContext ctx.now }
-    ensures { let s = sight kind.entry.node.now ctx.now in Tells result (row_if (rows.is_call s) (rows.refused_row s (rows.call_around s))) out.old out.new }
+    ensures { let s = sight kind.entry.node.now ctx.now in
+        Tells result (row_if (rows.is_call s) (rows.refused_row s (rows.call_around s))) out.old
+        out.new }
 {
     if is_call(ctx) {
         tell_refused(alloc, kind, ctx, out)
@@ -66,7 +69,9 @@ fn node_of_kept<'a>(
 ) -> Option<AstKind<'a>>
     requires context { IsContext ctx.now }
     requires kept { IsKept ctx.now kept }
-    ensures { option_map shown result ≡ option_and_then (λ class. node_of (sight kind.entry.node.now ctx.now) class.node) (first (classes_kept ctx.now kept)) }
+    ensures { option_map shown result
+        ≡ option_and_then (λ class. node_of (sight kind.entry.node.now ctx.now) class.node)
+        (first (classes_kept ctx.now kept)) }
 {
     match kept {
         Some(class) => node_of(ctx.classes.classes.get_node_id(class), kind, ctx.above()),
@@ -82,7 +87,9 @@ fn tell_underived(
     class: AstKind<'_>,
     out: &mut Diagnostics,
 ) -> Result<(), AllocError>
-    ensures { let class = class.entry.node.now in Tells result (row_if (not (has_child roles.Heritage class)) (tell.super_without_derived_class kind.entry.node.now.span class.span)) out.old out.new }
+    ensures { let class = class.entry.node.now in
+        Tells result (row_if (not (has_child roles.Heritage class))
+        (tell.super_without_derived_class kind.entry.node.now.span class.span)) out.old out.new }
 {
     if has_child(class, Role::Heritage) {
         Ok(())
@@ -105,7 +112,8 @@ fn tell_derived<'a>(
 ) -> Result<(), AllocError>
     requires context { IsContext ctx.now }
     requires kept { IsKept ctx.now kept }
-    ensures { Tells result (rows.derived_rows (sight kind.entry.node.now ctx.now) (classes_kept ctx.now kept)) out.old out.new }
+    ensures { Tells result (rows.derived_rows (sight kind.entry.node.now ctx.now)
+        (classes_kept ctx.now kept)) out.old out.new }
 {
     match node_of_kept(kind, kept, ctx) {
         Some(class) => tell_underived(alloc, kind, class, out),
@@ -124,7 +132,8 @@ fn tell_verdict<'a>(
 ) -> Result<(), AllocError>
     requires context { IsContext ctx.now }
     requires kept { IsKept ctx.now found.kept }
-    ensures { Tells result (rows.verdict_rows (sight kind.entry.node.now ctx.now) (found_shown ctx.now found)) out.old out.new }
+    ensures { Tells result (rows.verdict_rows (sight kind.entry.node.now ctx.now)
+        (found_shown ctx.now found)) out.old out.new }
 {
     match found.verdict {
         Verdict::Allowed => Ok(()),

@@ -48,7 +48,8 @@ impl<'n, 'a> Searching<'n, 'a> {
     fn is_class_scope(&self, scope: ScopeId, ctx: &CheckContext<'a, 'n>) -> bool
         requires scope { scope < length ctx.now.scoping.now.scopes }
         requires kept { IsKept ctx.now self.now.kept }
-        ensures { result ≡ rows.is_scope_of (classes_kept ctx.now self.now.kept) (seen_row ctx.now.scoping.now scope) }
+        ensures { result ≡ rows.is_scope_of (classes_kept ctx.now self.now.kept)
+            (seen_row ctx.now.scoping.now scope) }
     {
         match self.kept {
             Some(class) => ctx.classes.classes.get_node_id(class) == ctx.scoping.get_node_id(scope),
@@ -66,7 +67,10 @@ impl<'n, 'a> Searching<'n, 'a> {
         requires context { IsContext ctx.now }
         requires scope { scope < length ctx.now.scoping.now.scopes }
         requires searching { IsSearching kind.node.now ctx.now self.old }
-        ensures verdict { option_map verdict_shown result ≡ (if rows.leaves_value (sight kind.entry.node.now ctx.now) self.old.from (seen_row ctx.now.scoping.now scope).opener then Some rows.allowed_unless_call else None) }
+        ensures verdict { option_map verdict_shown result
+            ≡ (if rows.leaves_value (sight kind.entry.node.now ctx.now) self.old.from
+            (seen_row ctx.now.scoping.now scope).opener then Some rows.allowed_unless_call
+            else None) }
         ensures searching { IsSearching kind.entry.node.now ctx.now self.new }
         ensures from { self.new.from ≡ self.old.from }
         ensures kept { self.new.kept ≡ self.old.kept }
@@ -89,7 +93,10 @@ impl<'n, 'a> Searching<'n, 'a> {
         requires context { IsContext ctx.now }
         requires scope { scope < length ctx.now.scoping.now.scopes }
         requires searching { IsSearching kind.node.now ctx.now self.old }
-        ensures verdict { option_map verdict_shown result ≡ rows.decides (sight kind.entry.node.now ctx.now) (classes_kept ctx.now self.old.kept) self.old.from (seen_row ctx.now.scoping.now scope) }
+        ensures verdict { option_map verdict_shown result
+            ≡ rows.decides (sight kind.entry.node.now ctx.now)
+            (classes_kept ctx.now self.old.kept) self.old.from
+            (seen_row ctx.now.scoping.now scope) }
         ensures searching { IsSearching kind.entry.node.now ctx.now self.new }
         ensures from { self.new.from ≡ self.old.from }
         ensures kept { self.new.kept ≡ self.old.kept }
@@ -105,7 +112,9 @@ impl<'n, 'a> Searching<'n, 'a> {
     fn pass(&mut self, scope: ScopeId, ctx: &CheckContext<'a, 'n>)
         requires scope { scope < length ctx.now.scoping.now.scopes }
         requires kept { IsKept ctx.now self.old.kept }
-        ensures kept { classes_kept ctx.now self.new.kept ≡ rows.kept_after (classes_kept ctx.now self.old.kept) (seen_row ctx.now.scoping.now scope) }
+        ensures kept { classes_kept ctx.now self.new.kept
+            ≡ rows.kept_after (classes_kept ctx.now self.old.kept)
+            (seen_row ctx.now.scoping.now scope) }
         ensures there { IsKept ctx.now self.new.kept }
         ensures from { self.new.from ≡ (seen_row ctx.now.scoping.now scope).opener }
         ensures way { self.new.way ≡ self.old.way }
@@ -132,7 +141,8 @@ fn outer_kept(kept: Option<ClassId>, ctx: &CheckContext<'_, '_>) -> Option<Class
 /// What the first scope outward decides that decides anything, with the class that is kept there.
 pub(crate) fn first_verdict<'a>(kind: AstKind<'a>, ctx: &CheckContext<'a, '_>) -> Found
     requires { IsContext ctx.now }
-    ensures found { let s = sight kind.entry.node.now ctx.now in found_shown ctx.now result ≡ rows.search_from s s.classes s.node.node_id s.scopes }
+    ensures found { let s = sight kind.entry.node.now ctx.now in
+        found_shown ctx.now result ≡ rows.search_from s s.classes s.node.node_id s.scopes }
     ensures kept { IsKept ctx.now result.kept }
 {
     ctx.scoping.attest();

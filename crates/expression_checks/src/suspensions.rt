@@ -28,7 +28,8 @@ fn is_function(kind: AstType) -> bool
 
 /// Whether the parent is a parameter, or the child a rest and its parent a rest parameter.
 fn enters_parameter(child: AstKind<'_>, parent: AstKind<'_>) -> bool
-    ensures { let link : Node × Node = (child.entry.node.now, parent.entry.node.now) in result ≡ rows.enters_parameter link }
+    ensures { let link : Node × Node = (child.entry.node.now, parent.entry.node.now) in
+        result ≡ rows.enters_parameter link }
 {
     parent.ty() == AstType::FormalParameter
         || (child.ty() == AstType::BindingRestElement
@@ -41,7 +42,9 @@ fn parameter_or_function<'a>(
     ctx: &CheckContext<'a, '_>,
 ) -> Option<(AstKind<'a>, AstKind<'a>)>
     requires { IsContext ctx.now }
-    ensures { option_map link_shown result ≡ find (λ link. rows.enters_parameter link || is_function link.1.kind) (links (sight kind.entry.node.now ctx.now)) }
+    ensures { option_map link_shown result
+        ≡ find (λ link. rows.enters_parameter link || is_function link.1.kind)
+        (links (sight kind.entry.node.now ctx.now)) }
 {
     let mut left = Links::new(kind, ctx.above());
     while let Some((child, parent)) = left.next() {
@@ -73,7 +76,8 @@ fn tell_keyword_if(
     out: &mut Diagnostics,
 ) -> Result<(), AllocError>
     requires { IsTrue (is_ascii keyword.now) }
-    ensures { Tells result (row_if is_there (tell.await_or_yield_in_parameter keyword.now span)) out.old out.new }
+    ensures { Tells result (row_if is_there (tell.await_or_yield_in_parameter keyword.now span))
+        out.old out.new }
 {
     if is_there {
         tell(await_or_yield_in_parameter(alloc, keyword, span), out)
@@ -93,7 +97,9 @@ fn tell_in_parameter<'a>(
 ) -> Result<(), AllocError>
     requires context { IsContext ctx.now }
     requires keyword { IsTrue (is_ascii keyword.now) }
-    ensures { let s = sight kind.entry.node.now ctx.now in Tells result (row_if (rows.is_in_parameter s) (tell.await_or_yield_in_parameter keyword.now s.node.span)) out.old out.new }
+    ensures { let s = sight kind.entry.node.now ctx.now in
+        Tells result (row_if (rows.is_in_parameter s)
+        (tell.await_or_yield_in_parameter keyword.now s.node.span)) out.old out.new }
 {
     let is_there = is_in_parameter(kind, ctx);
     tell_keyword_if(alloc, is_there, keyword, kind.span(), out)
@@ -108,7 +114,9 @@ fn tell_in_block<'a>(
     out: &mut Diagnostics,
 ) -> Result<(), AllocError>
     requires { IsHanded kind.node.now ctx.now }
-    ensures { let s = sight kind.entry.node.now ctx.now in Tells result (row_if (is_in_static_block s) (tell_of.class_static_block_await (first_bytes 5 s.node.span))) out.old out.new }
+    ensures { let s = sight kind.entry.node.now ctx.now in
+        Tells result (row_if (is_in_static_block s)
+        (tell_of.class_static_block_await (first_bytes 5 s.node.span))) out.old out.new }
 {
     if ctx.is_in_static_block() {
         tell(
@@ -130,7 +138,8 @@ pub fn check_await_expression<'a>(
     out: &mut Diagnostics,
 ) -> Result<(), AllocError>
     requires { IsHanded kind.node.now ctx.now }
-    ensures { Tells result (rows.check_await_expression (sight kind.entry.node.now ctx.now)) out.old out.new }
+    ensures { Tells result (rows.check_await_expression (sight kind.entry.node.now ctx.now)) out.old
+        out.new }
 {
     tell_in_parameter(alloc, "await", kind, ctx, out)?;
     tell_in_block(alloc, kind, ctx, out)
@@ -145,7 +154,8 @@ pub fn check_yield_expression<'a>(
     out: &mut Diagnostics,
 ) -> Result<(), AllocError>
     requires { IsContext ctx.now }
-    ensures { Tells result (rows.check_yield_expression (sight kind.entry.node.now ctx.now)) out.old out.new }
+    ensures { Tells result (rows.check_yield_expression (sight kind.entry.node.now ctx.now)) out.old
+        out.new }
 {
     tell_in_parameter(alloc, "yield", kind, ctx, out)
 }

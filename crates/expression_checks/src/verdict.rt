@@ -66,7 +66,10 @@ fn is_object_method(property: AstKind<'_>) -> bool
 /// HasDirectSuper).
 fn method_verdict(method: AstKind<'_>, ctx: &CheckContext<'_, '_>) -> Verdict
     requires { IsContext ctx.now }
-    ensures { verdict_shown result ≡ (if not (rows.is_call (around ctx.now)) then rows.allowed else (if has_text (codes "constructor") method.entry.node.now then rows.allowed_in_derived else rows.refused)) }
+    ensures { verdict_shown result
+        ≡ (if not (rows.is_call (around ctx.now)) then rows.allowed
+        else (if has_text (codes "constructor") method.entry.node.now then rows.allowed_in_derived
+        else rows.refused)) }
 {
     if !is_call(ctx) {
         Verdict::Allowed
@@ -85,7 +88,8 @@ fn function_verdict(
     ctx: &CheckContext<'_, '_>,
 ) -> Verdict
     requires { IsContext ctx.now }
-    ensures { let link : Node × Node = (function.entry.node.now, owner.entry.node.now) in verdict_shown result ≡ rows.function_verdict (around ctx.now) link }
+    ensures { let link : Node × Node = (function.entry.node.now, owner.entry.node.now) in
+        verdict_shown result ≡ rows.function_verdict (around ctx.now) link }
 {
     if !is_child_in(Role::Value, owner, function) {
         Verdict::Refused
@@ -105,7 +109,8 @@ fn link_of<'a>(
     ctx: &CheckContext<'a, '_>,
 ) -> Option<(AstKind<'a>, AstKind<'a>)>
     requires { IsContext ctx.now }
-    ensures { option_map link_shown result ≡ find (λ link. link.0.node_id == id) (links (sight kind.entry.node.now ctx.now)) }
+    ensures { option_map link_shown result
+        ≡ find (λ link. link.0.node_id == id) (links (sight kind.entry.node.now ctx.now)) }
 {
     let mut left = Links::new(kind, ctx.above());
     while let Some((child, parent)) = left.next() {
@@ -124,7 +129,9 @@ fn opener_of<'a>(
 ) -> Option<(AstKind<'a>, AstKind<'a>)>
     requires context { IsContext ctx.now }
     requires scope { scope < length ctx.now.scoping.now.scopes }
-    ensures { option_map link_shown result ≡ find (λ link. link.0.node_id == (seen_row ctx.now.scoping.now scope).opener) (links (sight kind.entry.node.now ctx.now)) }
+    ensures { option_map link_shown result
+        ≡ find (λ link. link.0.node_id == (seen_row ctx.now.scoping.now scope).opener)
+        (links (sight kind.entry.node.now ctx.now)) }
 {
     link_of(ctx.scoping.get_node_id(scope), kind, ctx)
 }
@@ -137,7 +144,9 @@ fn scope_function_verdict<'a>(
 ) -> Verdict
     requires context { IsContext ctx.now }
     requires scope { scope < length ctx.now.scoping.now.scopes }
-    ensures { verdict_shown result ≡ rows.scope_function_verdict (sight kind.entry.node.now ctx.now) (seen_row ctx.now.scoping.now scope) }
+    ensures { verdict_shown result
+        ≡ rows.scope_function_verdict (sight kind.entry.node.now ctx.now)
+        (seen_row ctx.now.scoping.now scope) }
 {
     match opener_of(scope, kind, ctx) {
         Some((function, owner)) => function_verdict(function, owner, ctx),
@@ -147,7 +156,8 @@ fn scope_function_verdict<'a>(
 
 /// Whether the search for what decides goes on past a scope with the flags: one of an arrow, or of no function.
 fn is_passed(flags: ScopeFlags) -> bool
-    ensures { result ≡ (not (meets flags.bits scope.Function.bits) || meets flags.bits scope.Arrow.bits) }
+    ensures { result ≡ (not (meets flags.bits scope.Function.bits)
+        || meets flags.bits scope.Arrow.bits) }
 {
     !flags.is_function() || flags.is_arrow()
 }
@@ -161,7 +171,12 @@ pub(crate) fn scope_verdict<'a>(
 ) -> Option<Verdict>
     requires context { IsContext ctx.now }
     requires scope { scope < length ctx.now.scoping.now.scopes }
-    ensures { let seen = seen_row ctx.now.scoping.now scope in option_map verdict_shown result ≡ (if seen.is_static_block then Some rows.allowed_unless_call else (if not seen.is_function || seen.is_arrow then None else Some (rows.scope_function_verdict (sight kind.entry.node.now ctx.now) seen))) }
+    ensures { let seen = seen_row ctx.now.scoping.now scope in
+        option_map verdict_shown result
+        ≡ (if seen.is_static_block then Some rows.allowed_unless_call
+        else (if not seen.is_function
+        || seen.is_arrow then None else Some
+        (rows.scope_function_verdict (sight kind.entry.node.now ctx.now) seen))) }
 {
     let flags = ctx.scoping.scope_flags(scope);
     if flags.is_class_static_block() {

@@ -52,7 +52,9 @@ fn is_element(kind: AstType) -> bool
 
 /// Whether the child is the value or the type of the element.
 fn is_value(child: AstKind<'_>, element: AstKind<'_>) -> bool
-    ensures { let link : Node × Node = (child.entry.node.now, element.entry.node.now) in result ≡ (is_child_in roles.Value link.1 link.0 || is_child_in roles.Annotation link.1 link.0) }
+    ensures { let link : Node × Node = (child.entry.node.now, element.entry.node.now) in
+        result ≡ (is_child_in roles.Value link.1 link.0
+        || is_child_in roles.Annotation link.1 link.0) }
 {
     is_child_in(Role::Value, element, child) || is_child_in(Role::Annotation, element, child)
 }
@@ -120,7 +122,8 @@ impl<'n, 'a> Way<'n, 'a> {
     fn stand_before(&mut self, id: NodeId, kind: AstKind<'a>, ctx: &CheckContext<'a, 'n>)
         requires context { IsContext ctx.now }
         requires along { GoesAlong (outward (sight kind.node.now ctx.now)) self.old }
-        ensures left { from_id id (way_left self.new) ≡ from_id id (outward (sight kind.entry.node.now ctx.now)) }
+        ensures left { from_id id (way_left self.new)
+            ≡ from_id id (outward (sight kind.entry.node.now ctx.now)) }
         ensures along { GoesAlong (outward (sight kind.entry.node.now ctx.now)) self.new }
     {
         if !self.is_before(id) {
@@ -132,7 +135,8 @@ impl<'n, 'a> Way<'n, 'a> {
     pub(crate) fn go_to(&mut self, id: NodeId, kind: AstKind<'a>, ctx: &CheckContext<'a, 'n>)
         requires context { IsContext ctx.now }
         requires along { GoesAlong (outward (sight kind.node.now ctx.now)) self.old }
-        ensures left { way_left self.new ≡ from_id id (outward (sight kind.entry.node.now ctx.now)) }
+        ensures left { way_left self.new
+            ≡ from_id id (outward (sight kind.entry.node.now ctx.now)) }
         ensures along { GoesAlong (outward (sight kind.entry.node.now ctx.now)) self.new }
     {
         self.stand_before(id, kind, ctx);
@@ -141,7 +145,9 @@ impl<'n, 'a> Way<'n, 'a> {
 
     /// Goes on to the first element of a class that is left, below the class's own node; to that where there is none.
     fn next_element(&mut self, class: NodeId) -> Option<(AstKind<'a>, AstKind<'a>)>
-        ensures link { option_map link_shown result ≡ find_before (λ link. link.1.node_id == class) (λ link. rows.is_element link.1.kind) (way_links self.old) }
+        ensures link { option_map link_shown result
+            ≡ find_before (λ link. link.1.node_id == class) (λ link. rows.is_element link.1.kind)
+            (way_links self.old) }
         ensures along { (nodes : List Node) → GoesAlong nodes self.old → GoesAlong nodes self.new }
     {
         while let Some((child, parent)) = self.next_link() {

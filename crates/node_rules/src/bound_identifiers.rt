@@ -2,11 +2,13 @@
 
 ghost use Rattle.std.specs.Prelude.{◌≡◌, [], ◌∷◌, ◌++◌, IfOk, OnOk};
 ghost use Rattle.std.specs.Iterator.{YieldsFirstBy, item_count};
+ghost use Rattle.semantic_tree.specs.BoundNames as by_role;
 ghost use Rattle.semantic_tree.specs.ChildIter.{shown};
 ghost use Rattle.semantic_tree.specs.Views.{is_role_of};
 ghost use Rattle.semantic_model.specs.Names.{binding_roles, bound_names};
 ghost use Rattle.node_rules.specs.BoundIdentifiers.{names_left};
 
+use semantic_tree::bound_names::binds_by;
 use semantic_tree::{AstKind, AstType, Role};
 use std::alloc::{AllocError, Global};
 use std::marker::Model;
@@ -92,6 +94,22 @@ impl<'a> BoundIdentifiers<'a> {
         Ok(())
     }
 
+    /// Adds the names that a node binds by the roles of its parts alone. For want of memory some may be added.
+    #[tactic(auto, using(semantic_tree::specs::Falls::below))]
+    fn push_by_role(&mut self, part: AstKind<'a>) -> Result<(), AllocError>
+        ensures { OnOk result (self.new ≡ self.old ++ by_role.bound_names part.entry.node.now) }
+    {
+        if part.ty() == AstType::BindingIdentifier {
+            return self.push(part);
+        }
+        for (role, child) in part.node().children.as_slice() {
+            if binds_by(part.ty(), *role) {
+                self.push_by_role(AstKind::new(child))?;
+            }
+        }
+        Ok(())
+    }
+
     /// The names, in order.
     pub fn iter(&self) -> BoundIdentifiersIter<'_, 'a>
         ensures { names_left result ≡ self.now }
@@ -138,5 +156,19 @@ pub fn bound_identifiers<'a>(
 {
     let mut names = BoundIdentifiers::new(alloc);
     names.push_bound(node)?;
+    Ok(names)
+}
+
+/// The names that a node binds by the roles of its parts alone, as `AstKind::bound_names` gives them where nodes are
+/// numbered in preorder. Takes time linear in the node's part of the tree, and no memory for one name. The only error is
+/// want of memory.
+pub fn identifiers_by_role<'a>(
+    alloc: Global,
+    node: AstKind<'a>,
+) -> Result<BoundIdentifiers<'a>, AllocError>
+    ensures { IfOk result (λ names. names ≡ by_role.bound_names node.entry.node.now) }
+{
+    let mut names = BoundIdentifiers::new(alloc);
+    names.push_by_role(node)?;
     Ok(names)
 }

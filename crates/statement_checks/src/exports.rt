@@ -1,7 +1,5 @@
 //! Early errors of exported names.
-ghost use Rattle.std.specs.Prelude.{nat_eq, flat_map};
-ghost use Rattle.std.specs.List.{IsDistinct};
-ghost use Rattle.std.specs.Map.{keys_of};
+ghost use Rattle.std.specs.Prelude.{flat_map};
 ghost use Rattle.semantic_kinds.specs.declared.role.Role.TheVariants as roles;
 ghost use Rattle.semantic_tree.specs.Views.{all_in, child_of};
 ghost use Rattle.check_model.specs.Exports as rows;
@@ -23,7 +21,6 @@ fn tell_local(
     ctx: &CheckContext<'_, '_>,
     out: &mut Diagnostics,
 ) -> Result<(), AllocError>
-    requires { IsDistinct nat_eq (keys_of ctx.now.tables.now.references) }
     ensures { Tells result (rows.local_rows (around ctx.now) local.entry.node.now) out.old out.new }
 {
     if local.ty() == AstType::IdentifierReference && ctx.is_free(local) {
@@ -42,7 +39,6 @@ fn tell_specifier(
     ctx: &CheckContext<'_, '_>,
     out: &mut Diagnostics,
 ) -> Result<(), AllocError>
-    requires { IsDistinct nat_eq (keys_of ctx.now.tables.now.references) }
     ensures { Tells result (rows_of_some (rows.local_rows (around ctx.now)) (child_of roles.Local specifier.entry.node.now)) out.old out.new }
 {
     match specifier.child(Role::Local) {
@@ -59,7 +55,6 @@ fn tell_specifiers(
     ctx: &CheckContext<'_, '_>,
     out: &mut Diagnostics,
 ) -> Result<(), AllocError>
-    requires { IsDistinct nat_eq (keys_of ctx.now.tables.now.references) }
     ensures { Tells result (flat_map (λ specifier. rows_of_some (rows.local_rows (around ctx.now)) (child_of roles.Local specifier)) (all_in roles.Specifiers statement.entry.node.now)) out.old out.new }
 {
     for specifier in statement.children(Role::Specifiers) {
@@ -76,7 +71,6 @@ fn tell_export(
     ctx: &CheckContext<'_, '_>,
     out: &mut Diagnostics,
 ) -> Result<(), AllocError>
-    requires { IsDistinct nat_eq (keys_of ctx.now.tables.now.references) }
     ensures { Tells result (rows.export_rows (around ctx.now) statement.entry.node.now) out.old out.new }
 {
     if statement.ty() == AstType::ExportNamedDeclaration {
@@ -94,7 +88,6 @@ fn tell_exports(
     ctx: &CheckContext<'_, '_>,
     out: &mut Diagnostics,
 ) -> Result<(), AllocError>
-    requires { IsDistinct nat_eq (keys_of ctx.now.tables.now.references) }
     ensures { Tells result (flat_map (rows.export_rows (around ctx.now)) (all_in roles.Body program.entry.node.now)) out.old out.new }
 {
     for statement in program.children(Role::Body) {
@@ -112,8 +105,7 @@ pub fn check_unresolved_exports<'a>(
     ctx: &CheckContext<'a, '_>,
     out: &mut Diagnostics,
 ) -> Result<(), AllocError>
-    requires context { IsContext ctx.now }
-    requires references { IsDistinct nat_eq (keys_of ctx.now.tables.now.references) }
+    requires { IsContext ctx.now }
     ensures { Tells result (rows.check_unresolved_exports (sight kind.entry.node.now ctx.now)) out.old out.new }
 {
     if ctx.source_type.is_typescript() || !ctx.source_type.is_module() {

@@ -10,10 +10,11 @@ ghost use Rattle.semantic_diagnostics.specs.Statements as tell;
 ghost use Rattle.check_model.specs.Search.{only, row_if};
 ghost use Rattle.check_model.specs.Surroundings.{is_script, is_at_top, is_in_static_block, parent_passes};
 ghost use Rattle.check_model.specs.Variables as rows;
-ghost use Rattle.check_context.specs.Handed.{around, sight, IsContext, IsHanded};
+ghost use Rattle.check_context.specs.Handed.{around, sight, IsContext};
 ghost use Rattle.check_context.specs.Tells.{Tells};
 
 use check_context::{CheckContext, has_child, one_before_last, tell};
+use node_rules::bound_identifiers::identifiers_by_role;
 use node_rules::questions::reads;
 use semantic_diagnostics::Diagnostics;
 use semantic_diagnostics::makers::{
@@ -246,10 +247,11 @@ fn tell_names(
     ctx: &CheckContext<'_, '_>,
     out: &mut Diagnostics,
 ) -> Result<(), AllocError>
-    requires { IsHanded kind.node.now ctx.now }
+    requires { IsContext ctx.now }
     ensures { let s = sight kind.entry.node.now ctx.now in Tells result (flat_map (rows.name_rows s) (bound_names s.node)) out.old out.new }
 {
-    for name in kind.bound_names() {
+    let names = identifiers_by_role(alloc, kind)?;
+    for name in names.iter() {
         tell_name(alloc, name, kind, ctx, out)?;
     }
     Ok(())
@@ -264,7 +266,7 @@ pub fn check_variable_declarator_redeclaration<'a>(
     ctx: &CheckContext<'a, '_>,
     out: &mut Diagnostics,
 ) -> Result<(), AllocError>
-    requires { IsHanded kind.node.now ctx.now }
+    requires { IsContext ctx.now }
     ensures { Tells result (rows.check_variable_declarator_redeclaration (sight kind.entry.node.now ctx.now)) out.old out.new }
 {
     if ctx.source_type.is_typescript() || !is_in_var(ctx) || lets_var_redeclare(ctx) {

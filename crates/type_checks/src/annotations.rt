@@ -8,15 +8,26 @@ ghost use Rattle.node_store.specs.PathLeft.{path_left};
 ghost use Rattle.check_model.specs.Types as rows;
 ghost use Rattle.check_context.specs.Handed.{around, sight, IsContext};
 ghost use Rattle.check_context.specs.Tells.{Tells};
-ghost use Rattle.type_checks.specs.GoodTypes.{HasGoodSpan, HasGoodType};
+ghost use Rattle.type_checks.specs.GoodTypes.{has_good_type, HasGoodSpan, HasGoodType};
 
 use check_context::{CheckContext, tell};
 use node_rules::questions::reads;
 use node_store::AncestorKinds;
 use semantic_diagnostics::Diagnostics;
 use semantic_diagnostics::makers::{jsdoc_type_in_annotation, type_predicate_only_in_return_type};
+use semantic_tree::sound::has_good_span;
 use semantic_tree::{AstKind, AstType, Mark, Role};
 use std::alloc::{AllocError, Global};
+
+/// Whether the type that a node annotates, if it has one, stands in the source, on characters, and shows its mark there.
+pub fn has_good_type(kind: AstKind<'_>, ctx: &CheckContext<'_, '_>) -> bool
+    ensures { result ≡ has_good_type kind.entry.node.now ctx.now }
+{
+    match kind.child(Role::Element) {
+        Some(annotated) => has_good_span(ctx.source_text, annotated.node()),
+        None => true,
+    }
+}
 
 /// The source text of a JSDoc type without its mark.
 fn unmarked_text<'a>(kind: AstKind<'_>, mark: char, source: &'a str) -> &'a str

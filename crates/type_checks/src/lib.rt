@@ -17,7 +17,7 @@ mod places;
 mod program_exports;
 mod signatures;
 
-pub use annotations::{check_ts_type_annotation, check_ts_type_predicate};
+pub use annotations::{check_ts_type_annotation, check_ts_type_predicate, has_good_type};
 pub use enums::check_ts_enum_declaration;
 pub use external_modules::check_ts_external_module_declaration;
 pub use heads::check_for_statement_left;

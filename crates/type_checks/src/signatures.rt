@@ -2,17 +2,17 @@
 ghost use Rattle.std.specs.Prelude.{◌≡◌, ◌∷◌, ◌++◌, ◌&&◌, ℕ, List, [], codes, length, nat_lt, IfOk, OnOk};
 ghost use Rattle.semantic_kinds.specs.declared.role.Role.TheVariants as roles;
 ghost use Rattle.semantic_tree.specs.BoundNames.{bound_names};
-ghost use Rattle.semantic_tree.specs.Tree.{IsPreorder};
 ghost use Rattle.semantic_tree.specs.Views.{all_in, has_text};
 ghost use Rattle.semantic_tree.specs.declared.node.Node.{Node};
 ghost use Rattle.check_model.specs.Methods as rows;
 ghost use Rattle.check_model.specs.Search.{each_after};
-ghost use Rattle.check_context.specs.Handed.{sight, IsHanded};
+ghost use Rattle.check_context.specs.Handed.{sight};
 ghost use Rattle.check_context.specs.Tells.{Tells};
 ghost use Rattle.type_checks.specs.Repeats.{last_span, rows_after, HasLast};
 
 use check_context::{CheckContext, tell};
 use indexmap::IndexMap;
+use node_rules::bound_identifiers::identifiers_by_role;
 use node_rules::questions::reads;
 use semantic_diagnostics::Diagnostics;
 use semantic_diagnostics::makers::redeclaration;
@@ -67,11 +67,11 @@ fn tell_each_repeated<'a>(
     seen: &mut IndexMap<&'a str, Span>,
     out: &mut Diagnostics,
 ) -> Result<(), AllocError>
-    requires numbered { IsPreorder kind.node.now }
-    requires new { HasLast [] seen.old }
+    requires { HasLast [] seen.old }
     ensures { Tells result (each_after rows.repeated_rows [] (bound_names kind.entry.node.now)) out.old out.new }
 {
-    for name in kind.bound_names() {
+    let names = identifiers_by_role(alloc, kind)?;
+    for name in names.iter() {
         let before = note(seen, name)?;
         tell_repeated(alloc, before, name, out)?;
     }
@@ -86,7 +86,6 @@ pub fn check_formal_parameters<'a>(
     ctx: &CheckContext<'a, '_>,
     out: &mut Diagnostics,
 ) -> Result<(), AllocError>
-    requires { IsHanded kind.node.now ctx.now }
     ensures { Tells result (rows.check_formal_parameters (sight kind.entry.node.now ctx.now)) out.old out.new }
 {
     if reads(kind, "signature") && has_two_items(kind) {

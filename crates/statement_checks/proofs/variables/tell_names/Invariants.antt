@@ -1,6 +1,6 @@
 use Rattle.std.specs.Prelude.{flat_map}
-use Rattle.semantic_tree.specs.NameIter.{names_left}
 use Rattle.semantic_tree.specs.BoundNames.{bound_names}
+use Rattle.node_rules.specs.BoundIdentifiers.{names_left}
 use Rattle.check_model.specs.Variables.{name_rows}
 use Rattle.check_context.specs.Handed.{sight}
 use Rattle.check_context.specs.Tells.{IsTelling}

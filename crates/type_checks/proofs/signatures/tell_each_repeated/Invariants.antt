@@ -1,6 +1,6 @@
 use Rattle.std.proofs.Common.{[]}
 use Rattle.semantic_tree.specs.BoundNames.{bound_names}
-use Rattle.semantic_tree.specs.NameIter.{names_left}
+use Rattle.node_rules.specs.BoundIdentifiers.{names_left}
 use Rattle.check_model.specs.Methods.{repeated_rows}
 use Rattle.check_model.specs.Search.{each_after}
 use Rattle.type_checks.specs.Repeats.{IsRepeating}

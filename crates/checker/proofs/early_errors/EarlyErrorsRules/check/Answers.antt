@@ -14,9 +14,7 @@ check-requires c =
       handed = record {
         context = record { path = h.path; scope = h.scope; class = h.class; source = h.limit };
         span = and_first (is_sound source node.span) (shows_sign source node.kind node) h.in_source.span;
-        numbered = h.order;
       };
       annotated = child_good source roles.Element node.children h.in_source.below;
       elements = h.elements;
-      references = h.apart;
     }
