@@ -11,6 +11,7 @@ mod class_elements;
 mod counting;
 #[cfg(test)]
 mod free_references;
+#[cfg(test)]
 mod one_node;
 #[cfg(test)]
 mod reports;
