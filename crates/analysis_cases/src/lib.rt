@@ -12,8 +12,6 @@ mod counting;
 #[cfg(test)]
 mod free_references;
 #[cfg(test)]
-mod one_node;
-#[cfg(test)]
 mod reports;
 #[cfg(test)]
 mod swapping;

@@ -5,7 +5,6 @@
 
 ghost use Rattle.std.specs.Prelude.{◌<◌, length, IfSome};
 
-pub mod one_node;
 pub mod swapped;
 
 use scoping::Scoping;
