@@ -1,0 +1,13 @@
+pub mod Pairwise
+pub mod RenamedNodes
+pub mod Around
+pub mod BodyRows
+pub mod JumpRows
+pub mod SuperRows
+pub mod ExpressionRows
+pub mod TypeRows
+pub mod MethodRows
+pub mod NameRows
+pub mod ProgramRows
+pub mod ClassRows
+pub mod Told
