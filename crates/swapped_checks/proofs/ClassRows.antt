@@ -54,7 +54,7 @@ module _ (f : Name → Name) where
 
   -- ---- the names of keys
 
-  exactly : (q : Role) (st : Setting) (g : Forest) → children_of q (renamed f st g) ≡ map (renamed_node f st q) (children_of q g)
+  pub exactly : (q : Role) (st : Setting) (g : Forest) → children_of q (renamed f st g) ≡ map (renamed_node f st q) (children_of q g)
   exactly q st nothing = refl
   exactly q st (tree p k span text marks below id after) = go (same_role p q) (λ h. role_is p q h) (exactly q st after)
     where
@@ -70,7 +70,7 @@ module _ (f : Name → Name) where
   not_named true b u h = absurd cc
   not_named false true u h = absurd cc
 
-  key_text : (st : Setting) (k : AstType) (u : Name) → is_name k ≡ false → renamed_text f st role.Key k u ≡ u
+  pub key_text : (st : Setting) (k : AstType) (u : Name) → is_name k ≡ false → renamed_text f st role.Key k u ≡ u
   key_text InMember k u h = not_named (same_kind k kind.BindingIdentifier) (same_kind k kind.IdentifierReference) u h
   key_text InMemberName k u h = not_named (same_kind k kind.BindingIdentifier) (same_kind k kind.IdentifierReference) u h
   key_text Elsewhere k u h = not_named (same_kind k kind.BindingIdentifier) (same_kind k kind.IdentifierReference) u h
@@ -90,7 +90,7 @@ module _ (f : Name → Name) where
   pieces_kept xs h (c ∷ es) [] e = absurd e
   pieces_kept xs h (c ∷ es) (d ∷ ds) e = refl
 
-  key_kept : (st : Setting) (x : Node) → list_all (is kind.TemplateElement) (all_in role.Quasis x) ≡ true → static_name (renamed_node f st role.Key x) ≡ static_name x
+  pub key_kept : (st : Setting) (x : Node) → list_all (is kind.TemplateElement) (all_in role.Quasis x) ≡ true → static_name (renamed_node f st role.Key x) ≡ static_name x
   key_kept st x h = by x.kind refl
     where
       y : Node

@@ -11,3 +11,8 @@ pub mod NameRows
 pub mod ProgramRows
 pub mod ClassRows
 pub mod Told
+pub mod Spots
+pub mod PlainForm
+pub mod SeenClasses
+pub mod SeenPlaces
+pub mod ToldPrograms

@@ -48,7 +48,7 @@ use Rattle.swapped_checks.proofs.TypeRows.{annotations_same, predicates_same, in
 -- ---- words
 
 -- a name that is none of the words differs from each
-apart : (words : List Name) (name w : Name) → list_any (bytes_eq w) words ≡ true → list_any (bytes_eq name) words ≡ false → bytes_eq w name ≡ false
+pub apart : (words : List Name) (name w : Name) → list_any (bytes_eq w) words ≡ true → list_any (bytes_eq name) words ≡ false → bytes_eq w name ≡ false
 apart words name w h i = elim (name_tells w name) [
   | inl q ↦ (let e : true ≡ false = sym (subst (λ u. list_any (bytes_eq u) words ≡ true) q.1 h) ∙ i in absurd cc)
   | inr q ↦ q.0
@@ -70,7 +70,7 @@ quiet_name name h =
       no_eval = one (codes "eval") refl;
       no_arguments = one (codes "arguments") refl;
       no_let = one (codes "let") refl;
-      not_reserved = behind (bytes_eq name (codes "ts-empty-body")) (is_reserved name) (behind (bytes_eq name (codes "use strict")) _ (behind (bytes_eq name (codes "var")) _ (behind (bytes_eq name (codes "__proto__")) _ (behind (bytes_eq name (codes "eval")) _ (behind (bytes_eq name (codes "await")) _ (behind (bytes_eq name (codes "arguments")) _ h))))));
+      not_reserved = behind (bytes_eq name (codes "ts-empty-body")) (is_reserved name) (behind (bytes_eq name (codes "ts-declare")) _ (behind (bytes_eq name (codes "use strict")) _ (behind (bytes_eq name (codes "var")) _ (behind (bytes_eq name (codes "__proto__")) _ (behind (bytes_eq name (codes "eval")) _ (behind (bytes_eq name (codes "await")) _ (behind (bytes_eq name (codes "arguments")) _ h)))))));
     }
 
 pub swap_words : (a b : Name) → is_rule_word a ≡ false → is_rule_word b ≡ false → KeepsWords (swap a b)
