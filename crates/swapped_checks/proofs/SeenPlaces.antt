@@ -1,0 +1,121 @@
+-- What rules see at a place of a program is what they see at that place of the program with other names, with other names.
+use Rattle.std.proofs.Common.{◌≡◌, ℕ, List, [], ◌∷◌, Option, Some, None, Bool, true, false, ◌&&◌, inl, inr, ◌⊎◌, refl, sym, ap, ◌∙◌, map}
+use Rattle.std.specs.List.{list_all}
+use Rattle.std.proofs.lemmas.Bool.{and_from}
+use Rattle.semantic_syntax.proofs.Truth.{and_first, and_second}
+use Rattle.semantic_syntax.specs.Tables.{Name}
+use Rattle.semantic_kinds.specs.Kinds.{same_kind}
+use Rattle.semantic_kinds.specs.declared.kind.AstType.TheVariants as kind
+use Rattle.semantic_kinds.specs.declared.role.Role.TheVariants as role
+use Rattle.semantic_tree.specs.Forest.{Forest}
+use Rattle.semantic_tree.specs.Views.{is, all_in}
+use Rattle.semantic_tree.specs.declared.node.Node.{Node}
+use Rattle.semantic_model.specs.Ambient.{ambient_inside}
+use Rattle.semantic_model.specs.Binding.{Binding, bound_by}
+use Rattle.semantic_model.specs.Fold.{State, Made}
+use Rattle.semantic_model.specs.Place.{Place, OpenScope}
+use Rattle.semantic_model.specs.ScopeKind.{opened_scope}
+use Rattle.semantic_model.specs.Swap.{renamed_key}
+use Rattle.semantic_model.proofs.swapped.AlikeFold.{renamed_made, renamed_bindings, renamed_state, bound_by_same}
+use Rattle.semantic_model.proofs.swapped.AlikeProgram.{Keeps}
+use Rattle.semantic_model.proofs.swapped.AlikeScopes.{re, opened_same}
+use Rattle.semantic_model.proofs.swapped.AlikeSteps.{SamePlace}
+use Rattle.check_model.specs.Classes.{members}
+use Rattle.check_model.specs.Sight.{Sight, SeenScope}
+use Rattle.check_model.specs.SightOf.{seen_scope, or_own, scopes_at, pair_of, list_if, bound_at, classes_at, uses_at, elements_at, sight_of}
+use Rattle.swapped_checks.specs.SwappedPrograms.{holds_below, holds_within}
+use Rattle.swapped_checks.specs.SwappedSight.{IsRenamed, AreRenamed, IsRenamedSight, HasPlainParts, has_plain_labels, has_plain_pieces, has_plain_keys}
+use Rattle.swapped_checks.proofs.PlainForm.{has_own_pieces}
+use Rattle.swapped_checks.proofs.Pairwise.{Each, flat_each}
+use Rattle.swapped_checks.proofs.RenamedNodes.{KeepsWords, same_kinds, either_text}
+use Rattle.swapped_checks.proofs.SeenClasses.{own_plain, inner_each, classes_same, uses_seen, elements_seen}
+use Rattle.swapped_checks.proofs.Spots.{Within, Spot}
+
+-- what a test tells of a node
+pub record Tells (f : Name → Name) (test : Node → Bool) : Type 0 where
+  pub labels : (n : Node) → test n ≡ true → has_plain_labels n ≡ true
+  pub pieces : (n : Node) → test n ≡ true → has_own_pieces n ≡ true
+  pub strings : (n : Node) → test n ≡ true → is kind.StringLiteral n ≡ true → f n.text ≡ n.text
+
+module _ (f : Name → Name) (words : KeepsWords f) (keeps : Keeps f) (test : Node → Bool) (tells : Tells f test) where
+  abbrev W : Node → Node → Type 0
+  W = Within f test
+
+  renamed_each : (xs ys : List Node) → Each W xs ys → AreRenamed f xs ys
+  renamed_each [] [] e = tt
+  renamed_each [] (y ∷ ys) e = absurd e
+  renamed_each (x ∷ xs) [] e = absurd e
+  renamed_each (x ∷ xs) (y ∷ ys) e = (e.0.0, renamed_each xs ys e.1)
+
+  -- what the test tells of each
+  each_labels : (xs ys : List Node) → Each W xs ys → list_all has_plain_labels xs ≡ true
+  each_labels [] [] e = refl
+  each_labels [] (y ∷ ys) e = absurd e
+  each_labels (x ∷ xs) [] e = absurd e
+  each_labels (x ∷ xs) (y ∷ ys) e = and_from (has_plain_labels x) (list_all has_plain_labels xs) (tells.labels x (and_first (test x) (holds_below test x.children) e.0.1)) (each_labels xs ys e.1)
+
+  each_pieces : (xs ys : List Node) → Each W xs ys → list_all has_plain_pieces xs ≡ true
+  each_pieces [] [] e = refl
+  each_pieces [] (y ∷ ys) e = absurd e
+  each_pieces (x ∷ xs) [] e = absurd e
+  each_pieces (x ∷ xs) (y ∷ ys) e = and_from (has_plain_pieces x) (list_all has_plain_pieces xs) (own_plain f words test tells.pieces x e.0.1) (each_pieces xs ys e.1)
+
+  members_within : (a b : Node) → W a b → Each W (members a) (members b)
+  members_within a b w = flat_each W (all_in role.Body) (all_in role.Body) (λ x y e. inner_each f words test tells.pieces role.Body x y e) (all_in role.Body a) (all_in role.Body b) (inner_each f words test tells.pieces role.Body a b w)
+
+  -- ---- scopes and declarations
+
+  scopes_by : (p : Place) (u : Name) (g : Forest) (path : List Node) → opened_scope (re p u g path) 0 ≡ opened_scope p 0 → (c : List OpenScope) → map seen_scope (or_own (re p u g path) c) ≡ map seen_scope (or_own p c)
+  scopes_by p u g path e [] = λ i. seen_scope (e i) ∷ []
+  scopes_by p u g path e (one ∷ more) = refl
+
+  scopes_seen : (p q : Place) → SamePlace f p q → scopes_at q ≡ scopes_at p
+  scopes_seen p q s = ap scopes_at s.is ∙ scopes_by p s.u s.g s.path (opened_same f p s.u s.g s.path 0 s.node s.above) p.chain
+
+  pairs_same : (ms : List Made) → map pair_of (map (renamed_made f) ms) ≡ map pair_of ms
+  pairs_same [] = refl
+  pairs_same (m ∷ ms) = ap (λ ps. pair_of m ∷ ps) (pairs_same ms)
+
+  seconds : (bs : List (Name × ℕ)) → map (λ b. b.1) (map (renamed_key f) bs) ≡ map (λ b. b.1) bs
+  seconds [] = refl
+  seconds (b ∷ bs) = ap (λ ns. b.1 ∷ ns) (seconds bs)
+
+  bound_seen : (a b : Node) → W a b → (st : State) → bound_at b (renamed_state f st) ≡ bound_at a st
+  bound_seen a b w st = λ i. list_if (same_kind (same_kinds f a b w.0 i) kind.Program) ((ap (map (λ b. b.1)) (bound_by_same f keeps st.bindings 0) ∙ seconds (bound_by st.bindings 0)) i)
+
+  -- ---- the sight
+
+  pub plain_parts : (source free : List ℕ) (st : State) (p q : Place) → Spot f test p q → HasPlainParts (sight_of source free st p)
+  plain_parts source free st p q w = record {
+    labels = each_labels (p.node ∷ p.path) (q.node ∷ q.path) w;
+    keys = each_pieces (members p.node) (members q.node) (members_within p.node q.node w.0);
+  }
+
+  string_kept : (a b : Node) → W a b → is kind.StringLiteral a ≡ true → b.text ≡ a.text
+  string_kept a b w h = elim (either_text f a b w.0) [
+    | inl e ↦ e
+    | inr e ↦ e ∙ tells.strings a (and_first (test a) (holds_below test a.children) w.1) h
+  ]
+
+  pub seen_place : (source free : List ℕ) (st : State) (p q : Place) → SamePlace f p q → Spot f test p q → IsRenamedSight f (sight_of source free st p) (sight_of source free (renamed_state f st) q)
+  seen_place source free st p q s w = record {
+    node = w.0.0;
+    path = renamed_each p.path q.path w.1;
+    symbols = refl;
+    others = λ i. record {
+      node = q.node;
+      path = q.path;
+      source = source;
+      source_type = ap (λ x. x.source_type) s.is i;
+      is_ambient = ap (λ x. ambient_inside x.node x.is_ambient) s.is i;
+      scopes = scopes_seen p q s i;
+      symbols = (renamed_state f st).symbols;
+      declared = pairs_same st.made i;
+      classes = classes_same f words test tells.pieces p.node q.node p.path q.path w.0 w.1 i;
+      uses = uses_seen f words test tells.pieces p.node q.node w.0 i;
+      elements = elements_seen f words test tells.pieces p.node q.node w.0 i;
+      bound = bound_seen p.node q.node w.0 st i;
+      unresolved = ap (λ k. list_if (same_kind k kind.Program) free) (same_kinds f p.node q.node w.0.0) i;
+    };
+    strings = string_kept p.node q.node w.0;
+  }

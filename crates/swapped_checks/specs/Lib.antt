@@ -1,0 +1,4 @@
+pub mod RuleWords
+pub mod SwappedRows
+pub mod SwappedSight
+pub mod SwappedPrograms

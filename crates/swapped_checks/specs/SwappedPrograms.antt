@@ -1,0 +1,21 @@
+-- Programs in which two names may be swapped, as far as early errors go.
+use Rattle.std.specs.Prelude.{Bool, true, not, ◌&&◌, ◌||◌, bytes_eq}
+use Rattle.semantic_kinds.specs.declared.kind.AstType.TheVariants as kind
+use Rattle.semantic_syntax.specs.Tables.{Name}
+use Rattle.semantic_tree.specs.Forest.{Forest, nothing, tree}
+use Rattle.semantic_tree.specs.Views.{is}
+use Rattle.semantic_tree.specs.declared.node.Node.{Node}
+
+-- every node of the forest passes the test
+abbrev pub holds_below : (Node → Bool) → Forest → Bool
+holds_below test nothing = true
+holds_below test (tree role kind span text marks below id after) =
+    test (record { kind = kind; span = span; text = text; marks = marks; children = below; node_id = id }) && (holds_below test below && holds_below test after)
+
+-- the node passes the test, and every node below it does
+abbrev pub holds_within : (Node → Bool) → Node → Bool
+holds_within test node = test node && holds_below test node.children
+
+-- the node is no string literal that is one of the two names
+abbrev pub is_other_string : Name → Name → Node → Bool
+is_other_string a b node = not (is kind.StringLiteral node && (bytes_eq node.text a || bytes_eq node.text b))
