@@ -3,9 +3,11 @@ pub mod KnownNodes
 pub mod MadeEnvironments
 pub mod FamiliarPlaces
 pub mod PlainBounds
+pub mod ClassBounds
 pub mod EnteredOnce
 pub mod Identifiers
 pub mod KnownBounds
 pub mod Answers
 pub mod Agreeing
 pub mod AgreeingUses
+pub mod Differing

@@ -5,14 +5,12 @@ use Rattle.semantic_syntax.specs.Tables.{Name}
 use Rattle.semantic_tree.specs.Tree.{Tree}
 use Rattle.semantic_tree.specs.Views.{is}
 use Rattle.semantic_model.specs.Analysis.{analysis_of}
-use Rattle.semantic_model.specs.EachStep.{EachStep}
 use Rattle.semantic_model.specs.Entries.{Among}
-use Rattle.semantic_model.specs.Fits.{InNoHeader}
-use Rattle.semantic_model.specs.Place.{Place}
-use Rattle.semantic_model.specs.Step.{Step, entering, opening, header_ending, closing, leaving, steps}
+use Rattle.semantic_model.specs.Place.{Place, OpenScope}
+use Rattle.semantic_model.specs.Step.{entering, steps}
 use Rattle.tangle_model.specs.Surroundings.{in_with_under}
 use Rattle.language_ties.specs.Agreement.{use_agrees}
-use Rattle.language_ties.specs.Bound.{Bound, is_bound_as, written}
+use Rattle.language_ties.specs.Bound.{Bound, bound_by, is_bound_as, written}
 use Rattle.language_ties.specs.Environments.{Environment, is_made_for, takes_variables}
 use Rattle.language_ties.specs.Meaning.{use_at}
 use Rattle.language_ties.specs.Moved.{bound_of}
@@ -23,27 +21,38 @@ abbrev pub has_none : List Environment → Bool
 has_none [] = true
 has_none (e ∷ es) = false
 
--- bound by one environment alone: by no class, whose own environment binds it too, and by no function in a block; nor by a catch clause, nor as an own name
+-- bound by one environment alone, or as the declaration of a class, which is bound inside it, too; by no function in a block, by no catch clause, and not as an own name
 abbrev pub is_plain : Bound → Bool
 is_plain b =
-    has_none b.also && (not (is_made_for environment.Catch b.environment || is_bound_as bound.CatchName b) && (not (is_bound_as bound.OwnName b) && (not (is_bound_as bound.Function b) || takes_variables b.environment)))
+    (has_none b.also || is_bound_as bound.Lexical b)
+    && (not (is_made_for environment.Catch b.environment || (is_made_for environment.Class b.environment || is_bound_as bound.CatchName b))
+    && (not (is_bound_as bound.OwnName b) && (not (is_bound_as bound.Function b) || takes_variables b.environment)))
 
--- the name is bound only so: by `var`, `let`, `const`, imports, functions outside of blocks, and as a parameter
+-- the name is bound only so: by `var`, `let`, `const`, imports, classes, functions outside of blocks, and as a parameter
 abbrev pub IsPlainName : Tree → Name → Type 0
 IsPlainName p name = (b : Bound) → Among b (written p.source_type (steps p)) → b.name ≡ name → is_plain b ≡ true
 
-abbrev pub IsOutsideWith : Step → Type 0
-IsOutsideWith (entering q) = in_with_under q.path ≡ false
-IsOutsideWith (opening q o) = Unit {0}
-IsOutsideWith (header_ending q o) = Unit {0}
-IsOutsideWith (closing q o) = Unit {0}
-IsOutsideWith (leaving q) = Unit {0}
+-- no `with` holds what binds the name
+abbrev pub IsBoundOutsideWith : Tree → Name → Type 0
+IsBoundOutsideWith p name =
+    (q : Place) → Among (entering q) (steps p) → (b : Bound) → Among b (bound_by q.node.kind p.source_type q.node q.path) → b.name ≡ name → in_with_under q.path ≡ false
 
--- the program has no `with`
-abbrev pub HasNoWith : Tree → Type 0
-HasNoWith p = EachStep IsOutsideWith (steps p)
+-- of the scopes whose headers hold the place, none binds the name by what binds it
+abbrev pub NoHeaderBinds : List Bound → Name → List OpenScope → Type 0
+NoHeaderBinds bs name [] = Unit {0}
+NoHeaderBinds bs name (s ∷ ss) =
+    (s.in_header ≡ true → (b : Bound) → Among b bs → b.name ≡ name → b.environment.maker ≡ s.opener → ⊥) × NoHeaderBinds bs name ss
 
--- tables and language agree on each reference of the name that no header holds
-abbrev pub AgreesOutsideHeaders : Tree → Name → Type 0
-AgreesOutsideHeaders p name =
-    (q : Place) → Among (entering q) (steps p) → is kind.IdentifierReference q.node ≡ true → q.node.text ≡ name → InNoHeader q.chain → use_agrees (analysis_of p) (bound_of p) (use_at q) ≡ true
+-- a reference of the name stands in no `with`, and in no header of a function that binds the name
+abbrev pub StandsApart : Tree → Name → Place → Type 0
+StandsApart p name q = (in_with_under q.path ≡ false) × NoHeaderBinds (written p.source_type (steps p)) name q.chain
+
+-- each does
+abbrev pub AllStandApart : Tree → Name → Type 0
+AllStandApart p name =
+    (q : Place) → Among (entering q) (steps p) → is kind.IdentifierReference q.node ≡ true → q.node.text ≡ name → StandsApart p name q
+
+-- tables and language agree on each reference of the name that stands so
+abbrev pub AgreesApart : Tree → Name → Type 0
+AgreesApart p name =
+    (q : Place) → Among (entering q) (steps p) → is kind.IdentifierReference q.node ≡ true → q.node.text ≡ name → StandsApart p name q → use_agrees (analysis_of p) (bound_of p) (use_at q) ≡ true

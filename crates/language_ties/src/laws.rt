@@ -5,7 +5,8 @@ ghost use Rattle.semantic_tree.specs.Faults.{first_fault};
 ghost use Rattle.semantic_tree.specs.Tree.{Tree, IsNumbered};
 ghost use Rattle.semantic_model.specs.Event.{declarations, events};
 ghost use Rattle.semantic_model.specs.Step.{steps};
-ghost use Rattle.language_ties.specs.AgreeingNames.{AgreesOutsideHeaders, HasNoWith, IsPlainName};
+ghost use Rattle.language_ties.specs.AgreeingNames.{AgreesApart, AllStandApart, IsBoundOutsideWith, IsPlainName};
+ghost use Rattle.language_ties.specs.Agreement.{differing};
 ghost use Rattle.language_ties.specs.ClearNames.{IsBoundOnce, StaysInside};
 ghost use Rattle.language_ties.specs.EarlyErrors.{has_clash};
 ghost use Rattle.language_ties.specs.ToldNames.{DeclarationsAreBound, NamesAreBound};
@@ -42,10 +43,8 @@ pub fn names_are_bound()
 /// Tables and language agree on a name that no node of an ECMAScript program binds: no environment binds it by an identifier, and
 /// no reference of it is tied.
 pub fn unbound_names_are_free()
-    ensures nowhere { (p : Tree) (name : Name) (e : Environment) → binds_name p name ≡ false
-        → identifiers_in (bound_of p) e name ≡ [] }
-    ensures free { (p : Tree) (name : Name) → first_fault p ≡ None → is_ecmascript p ≡ true
-        → binds_name p name ≡ false → IsFreeEverywhere p name }
+    ensures nowhere { (p : Tree) (name : Name) (e : Environment) → binds_name p name ≡ false → identifiers_in (bound_of p) e name ≡ [] }
+    ensures free { (p : Tree) (name : Name) → first_fault p ≡ None → is_ecmascript p ≡ true → binds_name p name ≡ false → IsFreeEverywhere p name }
 {}
 
 /// Where the declarations of a name keep clear of each other, those with one home have one symbol, which that scope binds in the
@@ -53,16 +52,13 @@ pub fn unbound_names_are_free()
 /// moves out of its block meets none, and a plain catch name has its clause to itself. So do names that are declared once. The
 /// name of a function expression may have a symbol of its own, which the others in its scope hide.
 pub fn clear_names_share_symbols()
-    ensures { (p : Tree) (name : Name) → first_fault p ≡ None → is_ecmascript p ≡ true
-        → AllKeepClear name (declarations (events (steps p))) → ShareSymbols p name }
+    ensures { (p : Tree) (name : Name) → first_fault p ≡ None → is_ecmascript p ≡ true → AllKeepClear name (declarations (events (steps p))) → ShareSymbols p name }
 {}
 
 /// The identifiers by which the environments of one node bind such a name have one symbol, outside of `with`. Functions in blocks
 /// and own names of expressions are left out.
 pub fn environments_have_one_symbol()
-    ensures { (p : Tree) (name : Name) → first_fault p ≡ None → is_ecmascript p ≡ true
-        → IsNumbered p.root → AllKeepClear name (declarations (events (steps p)))
-        → EnvironmentsHaveOneSymbol p name }
+    ensures { (p : Tree) (name : Name) → first_fault p ≡ None → is_ecmascript p ≡ true → IsNumbered p.root → AllKeepClear name (declarations (events (steps p))) → EnvironmentsHaveOneSymbol p name }
 {}
 
 /// Each reference of an ECMAScript program uses its name as a value, and each symbol is a value, so that none is passed by: a
@@ -72,24 +68,18 @@ pub fn references_are_tied_nearest()
 {}
 
 /// Declarations of a name keep clear of each other where it is bound as no variable, no function and no plain catch name, where
-/// one identifier alone binds it, and, in a program without `with`, where it is bound in plain ways and no `var` clashes.
+/// one identifier alone binds it, and where it is bound in plain ways, nowhere in a `with`, and no `var` clashes.
 pub fn names_keep_clear()
-    ensures lexical { (p : Tree) (name : Name) → first_fault p ≡ None → is_ecmascript p ≡ true
-        → StaysInside p name → AllKeepClear name (declarations (events (steps p))) }
-    ensures once { (p : Tree) (name : Name) → first_fault p ≡ None → is_ecmascript p ≡ true
-        → IsNumbered p.root → IsBoundOnce p name
-        → AllKeepClear name (declarations (events (steps p))) }
-    ensures unclashed { (p : Tree) (name : Name) → first_fault p ≡ None → is_ecmascript p ≡ true
-        → IsNumbered p.root → HasNoWith p → IsPlainName p name → has_clash p name ≡ false
-        → AllKeepClear name (declarations (events (steps p))) }
+    ensures lexical { (p : Tree) (name : Name) → first_fault p ≡ None → is_ecmascript p ≡ true → StaysInside p name → AllKeepClear name (declarations (events (steps p))) }
+    ensures once { (p : Tree) (name : Name) → first_fault p ≡ None → is_ecmascript p ≡ true → IsNumbered p.root → IsBoundOnce p name → AllKeepClear name (declarations (events (steps p))) }
+    ensures unclashed { (p : Tree) (name : Name) → first_fault p ≡ None → is_ecmascript p ≡ true → IsNumbered p.root → IsBoundOutsideWith p name → IsPlainName p name → has_clash p name ≡ false → AllKeepClear name (declarations (events (steps p))) }
 {}
 
-/// Tables and language agree on each reference outside of headers of a name of which no `var` clashes, and which the program binds
-/// by `var`, `let`, `const`, imports, functions outside of blocks and parameters alone: it is tied to the one symbol of all by
-/// which the innermost environment binds it that binds it at all, and free where none does. Headers are those of functions, where
-/// the parameters stand; the program has no `with`.
+/// Tables and language agree on a name of which no `var` clashes, and which the program binds by `var`, `let`, `const`, imports,
+/// classes, functions outside of blocks and parameters alone, all outside of `with`: each reference is tied to the one symbol of all
+/// by which the innermost environment binds the name that binds it at all, and free where none does. Left out are references in a
+/// `with` and in the header of a function that binds the name itself.
 pub fn plain_names_agree()
-    ensures { (p : Tree) (name : Name) → first_fault p ≡ None → is_ecmascript p ≡ true
-        → IsNumbered p.root → HasNoWith p → bytes_eq name (codes "arguments") ≡ false
-        → IsPlainName p name → has_clash p name ≡ false → AgreesOutsideHeaders p name }
+    ensures each { (p : Tree) (name : Name) → first_fault p ≡ None → is_ecmascript p ≡ true → IsNumbered p.root → IsBoundOutsideWith p name → bytes_eq name (codes "arguments") ≡ false → IsPlainName p name → has_clash p name ≡ false → AgreesApart p name }
+    ensures none { (p : Tree) (name : Name) → first_fault p ≡ None → is_ecmascript p ≡ true → IsNumbered p.root → IsBoundOutsideWith p name → bytes_eq name (codes "arguments") ≡ false → IsPlainName p name → has_clash p name ≡ false → AllStandApart p name → differing p name ≡ [] }
 {}

@@ -23,7 +23,6 @@ use Rattle.semantic_model.specs.Cursor.{on_entering}
 use Rattle.semantic_model.specs.EachStep.{EachStep}
 use Rattle.semantic_model.specs.Entries.{Among}
 use Rattle.semantic_model.specs.Event.{Event, declarations, events}
-use Rattle.semantic_model.specs.Fits.{InNoHeader}
 use Rattle.semantic_model.specs.Fold.{State, start, or_else}
 use Rattle.semantic_model.specs.Hoist.{run}
 use Rattle.semantic_model.specs.Inside.{is_inside, is_in_header, is_parameter_decorator}
@@ -40,10 +39,10 @@ use Rattle.semantic_model.proofs.steps.EachStep.{EachOfTurn, each_left, each_of_
 use Rattle.semantic_model.proofs.steps.Turn.{Turn, turn_at}
 use Rattle.semantic_model.proofs.steps.TurnCases.{opening_case, ending_case, last_case}
 use Rattle.tangle_model.specs.Surroundings.{in_with_under}
-use Rattle.language_ties.specs.AgreeingNames.{IsPlainName, IsOutsideWith, HasNoWith}
+use Rattle.language_ties.specs.AgreeingNames.{IsPlainName, IsBoundOutsideWith, NoHeaderBinds}
 use Rattle.language_ties.specs.Bound.{Bound, written}
 use Rattle.language_ties.specs.EcmaScript.{is_ecmascript}
-use Rattle.language_ties.specs.Environments.{Environment, same_environment_kind, is_made_for, is_outside_body, has_parameter_expressions, made_by, environments}
+use Rattle.language_ties.specs.Environments.{Environment, same_environment_kind, is_made_for, is_outside_body, has_parameter_expressions, made_by, environments, innermost}
 use Rattle.language_ties.specs.Meaning.{Meaning, unbound, of_object, bound, identifiers_in, meaning}
 use Rattle.language_ties.specs.Moved.{bound_of}
 use Rattle.language_ties.specs.NearestScopes.{nearest_symbol}
@@ -52,12 +51,15 @@ use Rattle.language_ties.specs.SharedSymbols.{AllKeepClear}
 use Rattle.language_ties.specs.declared.environment_kind.EnvironmentKind.{EnvironmentKind}
 use Rattle.language_ties.specs.declared.environment_kind.EnvironmentKind.TheVariants as environment
 use Rattle.language_ties.proofs.EnvironmentsRound.{IsKnown, KnownAt, known_program}
-use Rattle.language_ties.proofs.agree.Answers.{symbol_of, has_symbol, answers, IsAsked, asked}
+use Rattle.language_ties.proofs.agree.Answers.{symbol_of, has_symbol, answers, IsAsked, asked, nothing_before}
+use Rattle.language_ties.proofs.agree.ClassBounds.{IsClassBound, class_bound}
+use Rattle.language_ties.proofs.agree.EnteredOnce.{entered_once}
 use Rattle.language_ties.proofs.agree.FamiliarPlaces.{stands_well, is_function_kind, IsFamiliar, FamiliarAt, familiar_program}
-use Rattle.language_ties.proofs.agree.Identifiers.{IsBoundHere, bound_here, identifier_here, meaning_further, meaning_here}
+use Rattle.language_ties.proofs.agree.Identifiers.{IsBoundHere, bound_here, identifier_here, meaning_further, meaning_object, meaning_here}
 use Rattle.language_ties.proofs.agree.KnownBounds.{some_is, KnownBound, known_bound}
 use Rattle.language_ties.proofs.agree.KnownNodes.{node_at}
-use Rattle.language_ties.proofs.agree.MadeEnvironments.{may_make, environment_kind_is, IsUsual}
+use Rattle.language_ties.proofs.agree.MadeEnvironments.{may_make, environment_kind_is, EndsAtProgram, IsUsual, innermost_among}
+use Rattle.language_ties.proofs.agree.PlainBounds.{no_class}
 use Rattle.language_ties.proofs.symbols.ScopeOpeners.{openers, IsOpened, AllOpened, IsPlaceOpened, places_opened}
 
 -- a list is not longer than itself
@@ -97,7 +99,11 @@ arrow_kinds environment.Catch h = absurd cc
 arrow_kinds environment.Class h = absurd cc
 arrow_kinds environment.Object h = absurd cc
 
-module _ (p : Tree) (h : first_fault p ≡ None) (e : is_ecmascript p ≡ true) (numbered : IsNumbered p.root) (none : HasNoWith p) (x : Name) (not_arguments : bytes_eq x (codes "arguments") ≡ false) (clear : AllKeepClear x (declarations (events (steps p)))) (plain : IsPlainName p x) where
+abbrev outside_innermost : List Environment → List Environment
+outside_innermost [] = []
+outside_innermost (e ∷ es) = es
+
+module _ (p : Tree) (h : first_fault p ≡ None) (e : is_ecmascript p ≡ true) (numbered : IsNumbered p.root) (x : Name) (none : IsBoundOutsideWith p x) (not_arguments : bytes_eq x (codes "arguments") ≡ false) (clear : AllKeepClear x (declarations (events (steps p)))) (plain : IsPlainName p x) where
   abbrev es : List Event
   es = events (steps p)
 
@@ -111,7 +117,7 @@ module _ (p : Tree) (h : first_fault p ≡ None) (e : is_ecmascript p ≡ true) 
   bs = bound_of p
 
   abbrev Known : Bound → Type 0
-  Known b = KnownBound p h e numbered none x plain b
+  Known b = KnownBound p h e numbered x none plain b
 
   -- ---- agreement
 
@@ -126,12 +132,12 @@ module _ (p : Tree) (h : first_fault p ≡ None) (e : is_ecmascript p ≡ true) 
   Matches o (bound d []) = ⊥
   Matches o (bound d (i ∷ is)) = (s : ℕ) × (o ≡ Some s) × AllAre (i ∷ is) s
 
-  -- so it is at a place in no header
+  -- so it is at a place in no header that binds the name
   abbrev pub Agrees : Place → Type 0
-  Agrees q = InNoHeader q.chain → Matches (nearest_symbol final es x q.chain) (meaning bs (environments q.node q.path) x)
+  Agrees q = NoHeaderBinds ws x q.chain → Matches (nearest_symbol final es x q.chain) (meaning bs (environments q.node q.path) x)
 
   abbrev pub AgreesAt : Step → Type 0
-  AgreesAt (entering q) = is kind.BindingIdentifier q.node ≡ false → Agrees q
+  AgreesAt (entering q) = is kind.BindingIdentifier q.node ≡ false → in_with_under q.path ≡ false → Agrees q
   AgreesAt (opening q o) = Unit {0}
   AgreesAt (header_ending q o) = Unit {0}
   AgreesAt (closing q o) = Unit {0}
@@ -144,23 +150,34 @@ module _ (p : Tree) (h : first_fault p ≡ None) (e : is_ecmascript p ≡ true) 
     bind : Bound
     known : Known bind
     among : Among bind ws
-    there : bind.environment ≡ d
+    named : bind.name ≡ x
+    there : (bind.environment ≡ d) ⊎ Among d bind.also
     identifier : bind.identifier ≡ i
 
   is_here : (d : Environment) (i : ℕ) → Among i (identifiers_in bs d x) → IsHere d i
   is_here d i a =
-      let w : IsBoundHere ws x d ws i = bound_here ws x d ws plain i a in
-      record { bind = w.bind; known = known_bound p h e numbered none x plain w.bind w.among w.named; among = w.among; there = w.there; identifier = w.identifier }
+      let w : IsBoundHere ws x d ws i = bound_here ws x d ws i a in
+      record { bind = w.bind; known = known_bound p h e numbered x none plain w.bind w.among w.named; among = w.among; named = w.named; there = w.there; identifier = w.identifier }
+
+  -- what is bound in another environment, too, is a class
+  class_here : (d : Environment) (i : ℕ) (w : IsHere d i) → Among d w.bind.also → IsClassBound w.known.placed.by_node.place w.bind d
+  class_here d i w a = class_bound p.source_type w.known.placed.by_node.place w.bind w.known.plainly d a w.known.placed.by_node.place.node.kind w.known.placed.by_node.binds
+
+  directly : (d : Environment) (i : ℕ) → is_made_for environment.Class d ≡ false → (w : IsHere d i) → w.bind.environment ≡ d
+  directly d i n w = elim w.there [
+    | inl q ↦ q
+    | inr a ↦ absurd (never (sym (ap (is_made_for environment.Class) (class_here d i w a).inside) ∙ n))
+  ]
 
   -- nothing is bound by the own name's environment or that of an `if` body
-  unusual : (d : Environment) → (IsUsual d → ⊥) → identifiers_in bs d x ≡ []
-  unusual d n = go (identifiers_in bs d x) refl
+  unusual : (d : Environment) → is_made_for environment.Class d ≡ false → (IsUsual d → ⊥) → identifiers_in bs d x ≡ []
+  unusual d no_class n = go (identifiers_in bs d x) refl
     where
       go : (is : List ℕ) → identifiers_in bs d x ≡ is → identifiers_in bs d x ≡ []
       go [] q = q
       go (i ∷ is) q =
           let w : IsHere d i = is_here d i (subst (Among i) (sym q) (inl refl)) in
-          absurd (n (subst IsUsual w.there w.known.placed.usual))
+          absurd (n (subst IsUsual (directly d i no_class w) w.known.placed.usual))
 
   -- ---- a scope with the environments of its opener
 
@@ -169,25 +186,25 @@ module _ (p : Tree) (h : first_fault p ≡ None) (e : is_ecmascript p ≡ true) 
     Y = get final.bindings s.number x
 
     -- all identifiers of an environment of the opener have the symbol that the scope binds
-    answer_of : (d : Environment) → d.maker ≡ q.node_id → (i : ℕ) → Among i (identifiers_in bs d x) → (y : ℕ) × (Y ≡ Some y) × (symbol_at (analysis_of p) i ≡ Some y)
-    answer_of d m i a =
+    answer_of : (d : Environment) → d.maker ≡ q.node_id → is_made_for environment.Class d ≡ false → (i : ℕ) → Among i (identifiers_in bs d x) → (y : ℕ) × (Y ≡ Some y) × (symbol_at (analysis_of p) i ≡ Some y)
+    answer_of d m v i a =
         let w : IsHere d i = is_here d i a in
-        let y : ℕ = symbol_of p h e numbered none x clear plain w.bind w.known in
-        (y, answers p h e numbered none x clear plain w.bind w.known s o (opener ∙ sym m ∙ sym (ap (λ z. z.maker) w.there)), subst (λ j. symbol_at (analysis_of p) j ≡ Some y) w.identifier (has_symbol p h e numbered none x clear plain w.bind w.known))
+        let y : ℕ = symbol_of p h e numbered x none clear plain w.bind w.known in
+        (y, answers p h e numbered x none clear plain w.bind w.known s o (opener ∙ sym m ∙ sym (ap (λ z. z.maker) (directly d i v w))), subst (λ j. symbol_at (analysis_of p) j ≡ Some y) w.identifier (has_symbol p h e numbered x none clear plain w.bind w.known))
 
-    all_answer : (d : Environment) → d.maker ≡ q.node_id → (y : ℕ) → Y ≡ Some y → (is : List ℕ) → ((i : ℕ) → Among i is → Among i (identifiers_in bs d x)) → AllAre is y
-    all_answer d m y g [] f = tt
-    all_answer d m y g (i ∷ is) f =
-        let (z, there, symbol) = answer_of d m i (f i (inl refl)) in
+    all_answer : (d : Environment) → d.maker ≡ q.node_id → is_made_for environment.Class d ≡ false → (y : ℕ) → Y ≡ Some y → (is : List ℕ) → ((i : ℕ) → Among i is → Among i (identifiers_in bs d x)) → AllAre is y
+    all_answer d m v y g [] f = tt
+    all_answer d m v y g (i ∷ is) f =
+        let (z, there, symbol) = answer_of d m v i (f i (inl refl)) in
         let same : z ≡ y = some_is z y (sym there ∙ g) in
-        (symbol ∙ ap Some same, all_answer d m y g is (λ j a. f j (inr a)))
+        (symbol ∙ ap Some same, all_answer d m v y g is (λ j a. f j (inr a)))
 
     -- where the environment binds the name, that is what it means
-    here : (d : Environment) (ds : List Environment) → d.maker ≡ q.node_id → is_made_for environment.Object d ≡ false → (i : ℕ) (is : List ℕ) → identifiers_in bs d x ≡ i ∷ is → (later : Option ℕ) → Matches (or_else Y later) (meaning bs (d ∷ ds) x)
+    here : (d : Environment) (ds : List Environment) → d.maker ≡ q.node_id → (is_made_for environment.Object d ≡ false) × (is_made_for environment.Class d ≡ false) → (i : ℕ) (is : List ℕ) → identifiers_in bs d x ≡ i ∷ is → (later : Option ℕ) → Matches (or_else Y later) (meaning bs (d ∷ ds) x)
     here d ds m n i is w later =
-        let (y, there, symbol) = answer_of d m i (subst (Among i) (sym w) (inl refl)) in
-        subst (Matches (or_else Y later)) (sym (meaning_here bs x not_arguments d ds i is n w))
-        (y, ap (λ z. or_else z later) there, all_answer d m y there (i ∷ is) (λ j a. subst (Among j) (sym w) a))
+        let (y, there, symbol) = answer_of d m n.1 i (subst (Among i) (sym w) (inl refl)) in
+        subst (Matches (or_else Y later)) (sym (meaning_here bs x not_arguments d ds i is n.0 w))
+        (y, ap (λ z. or_else z later) there, all_answer d m n.1 y there (i ∷ is) (λ j a. subst (Among j) (sym w) a))
 
     -- what the scope binds is bound by an environment of the opener
     record IsBoundThere : Type 0 where
@@ -201,8 +218,8 @@ module _ (p : Tree) (h : first_fault p ≡ None) (e : is_ecmascript p ≡ true) 
 
     bound_there : (y : ℕ) → Y ≡ Some y → IsBoundThere
     bound_there y g =
-        let w : IsAsked p h e numbered none x clear plain s = asked p h e numbered none x clear plain s y o entry g in
-        let k : Known w.bind = known_bound p h e numbered none x plain w.bind w.among w.named in
+        let w : IsAsked p h e numbered x none clear plain s = asked p h e numbered x none clear plain s y o entry g in
+        let k : Known w.bind = known_bound p h e numbered x none plain w.bind w.among w.named in
         let maker : w.bind.environment.maker ≡ q.node_id = w.maker ∙ opener in
         let same : k.placed.maker ≡ q = some_is k.placed.maker q (sym k.placed.found ∙ ap (node_at p) maker ∙ found) in
         record {
@@ -234,17 +251,17 @@ module _ (p : Tree) (h : first_fault p ≡ None) (e : is_ecmascript p ≡ true) 
     further later m g k = subst (λ t. Matches (or_else t later) m) (sym g) k
 
     -- one environment
-    one : (k : EnvironmentKind) (ds : List Environment) → ((j : EnvironmentKind) → may_make q.kind j ≡ true → j ≡ k) → same_environment_kind k environment.Object ≡ false → (later : Option ℕ) → Matches later (meaning bs ds x) → Matches (or_else Y later) (meaning bs (record { kind = k; maker = q.node_id } ∷ ds) x)
+    one : (k : EnvironmentKind) (ds : List Environment) → ((j : EnvironmentKind) → may_make q.kind j ≡ true → j ≡ k) → (same_environment_kind k environment.Object ≡ false) × (same_environment_kind k environment.Class ≡ false) → (later : Option ℕ) → Matches later (meaning bs ds x) → Matches (or_else Y later) (meaning bs (record { kind = k; maker = q.node_id } ∷ ds) x)
     one k ds only n later m = go (identifiers_in bs (record { kind = k; maker = q.node_id }) x) refl
       where
         go : (is : List ℕ) → identifiers_in bs (record { kind = k; maker = q.node_id }) x ≡ is → Matches (or_else Y later) (meaning bs (record { kind = k; maker = q.node_id } ∷ ds) x)
         go (i ∷ is) w = here (record { kind = k; maker = q.node_id }) ds refl n i is w later
         go [] w =
-            subst (Matches (or_else Y later)) (sym (meaning_further bs x not_arguments (record { kind = k; maker = q.node_id }) ds n w))
+            subst (Matches (or_else Y later)) (sym (meaning_further bs x not_arguments (record { kind = k; maker = q.node_id }) ds n.0 w))
             (further later (meaning bs ds x) (unanswered (λ v. none_there (record { kind = k; maker = q.node_id }) w v (environment_is v k (only v.bind.environment.kind v.makes)))) m)
 
     -- a function's, with that of its body where the child stands in it
-    module _ (k : EnvironmentKind) (n : same_environment_kind k environment.Object ≡ false) (two : (w : IsBoundThere) → (w.bind.environment.kind ≡ environment.Body) ⊎ (w.bind.environment.kind ≡ k)) (later : Option ℕ) where
+    module _ (k : EnvironmentKind) (n : (same_environment_kind k environment.Object ≡ false) × (same_environment_kind k environment.Class ≡ false)) (two : (w : IsBoundThere) → (w.bind.environment.kind ≡ environment.Body) ⊎ (w.bind.environment.kind ≡ k)) (later : Option ℕ) where
       abbrev Body : Environment
       Body = record { kind = environment.Body; maker = q.node_id }
 
@@ -258,7 +275,7 @@ module _ (p : Tree) (h : first_fault p ≡ None) (e : is_ecmascript p ≡ true) 
           go : (is : List ℕ) → identifiers_in bs Own x ≡ is → Matches (or_else Y later) (meaning bs (Own ∷ ds) x)
           go (i ∷ is) w = here Own ds refl n i is w later
           go [] w =
-              subst (Matches (or_else Y later)) (sym (meaning_further bs x not_arguments Own ds n w))
+              subst (Matches (or_else Y later)) (sym (meaning_further bs x not_arguments Own ds n.0 w))
               (further later (meaning bs ds x) (unanswered (λ v. elim (two v) [ inl b ↦ no_body v (environment_is v environment.Body b) | inr b ↦ none_there Own w v (environment_is v k b) ])) m)
 
       function : (t : Bool) (ds : List Environment) → (t ≡ false → has_parameter_expressions q ≡ true → ⊥) → Matches later (meaning bs ds x) → Matches (or_else Y later) (meaning bs (cond t (Body ∷ []) [] ++ (Own ∷ ds)) x)
@@ -266,20 +283,28 @@ module _ (p : Tree) (h : first_fault p ≡ None) (e : is_ecmascript p ≡ true) 
       function true ds absent m = go (identifiers_in bs Body x) refl
         where
           go : (is : List ℕ) → identifiers_in bs Body x ≡ is → Matches (or_else Y later) (meaning bs (Body ∷ Own ∷ ds) x)
-          go (i ∷ is) w = here Body (Own ∷ ds) refl refl i is w later
+          go (i ∷ is) w = here Body (Own ∷ ds) refl (refl, refl) i is w later
           go [] w =
               subst (Matches (or_else Y later)) (sym (meaning_further bs x not_arguments Body (Own ∷ ds) refl w))
               (parameters ds (λ v b. none_there Body w v b) m)
 
   -- ---- a child of a place
 
+  -- what stands in no `with` stands under nothing that does
+  with_outer : (q : Place) → (is kind.WithStatement q.node || in_with_under q.path) ≡ false → in_with_under q.path ≡ false
+  with_outer q = go (is kind.WithStatement q.node) (in_with_under q.path)
+    where
+      go : (a b : Bool) → (a || b) ≡ false → b ≡ false
+      go true b w = absurd (never w)
+      go false b w = w
+
   -- what is known of a place
   pub record IsSeen (q : Place) : Type 0 where
+    pub entered : Among (entering q) (steps p)
     pub known : IsKnown q
     pub familiar : IsFamiliar (node_at p) q
     pub opened : AllOpened (openers (steps p)) q.chain
     pub in_table : AllInTable (table_of p) q.chain
-    pub apart_from_with : in_with_under q.path ≡ false
 
   abbrev pub SeenAt : Step → Type 0
   SeenAt (entering q) = IsSeen q
@@ -322,7 +347,10 @@ module _ (p : Tree) (h : first_fault p ≡ None) (e : is_ecmascript p ≡ true) 
       let none_decorates : is_parameter_decorator q.node.kind r ≡ false = ap (λ b. holds_kind (kind.FormalParameter ∷ kind.FormalParameterRest ∷ []) q.node.kind && b) u ∙ and_false (holds_kind (kind.FormalParameter ∷ kind.FormalParameterRest ∷ []) q.node.kind) in
       subst (λ b. ChainOf q.node.kind r q.node q.chain (cond b (outside q.chain) (chain_within q r own))) (sym none_decorates) (within_of q r own reached o)
 
-  module _ (q c : Place) (agree : Agrees q) (seen : IsSeen q) (seen_child : IsSeen c) (path : c.path ≡ q.node ∷ q.path) (well : stands_well q.node.kind c.role c.node.kind [] ≡ true) (no_identifier : is kind.BindingIdentifier c.node ≡ false) where
+  module _ (q c : Place) (agree : Agrees q) (seen : IsSeen q) (seen_child : IsSeen c) (path : c.path ≡ q.node ∷ q.path) (well : stands_well q.node.kind c.role c.node.kind [] ≡ true) (no_identifier : is kind.BindingIdentifier c.node ≡ false) (apart : in_with_under c.path ≡ false) where
+    apart_here : (is kind.WithStatement q.node || in_with_under q.path) ≡ false
+    apart_here = subst (λ l. in_with_under l ≡ false) path apart
+
     abbrev N : Option ℕ
     N = nearest_symbol final es x q.chain
 
@@ -333,14 +361,14 @@ module _ (p : Tree) (h : first_fault p ≡ None) (e : is_ecmascript p ≡ true) 
     M = makers E
 
     outer_round : map maker_of_scope q.chain ≡ M
-    outer_round = seen.known.round seen.apart_from_with
+    outer_round = seen.known.round (with_outer q apart_here)
 
     child_round : map maker_of_scope c.chain ≡ makers (made_by q.node.kind q.node c.node ++ E)
-    child_round = seen_child.known.round seen_child.apart_from_with ∙ ap (λ l. makers (environments c.node l)) path
+    child_round = seen_child.known.round apart ∙ ap (λ l. makers (environments c.node l)) path
 
     -- what is to be shown of the environments that the parent makes
     abbrev Shows : List OpenScope → List Environment → Type 0
-    Shows chain ds = InNoHeader chain → Matches (nearest_symbol final es x chain) (meaning bs (ds ++ E) x)
+    Shows chain ds = NoHeaderBinds ws x chain → Matches (nearest_symbol final es x chain) (meaning bs (ds ++ E) x)
 
     outer_shows : Shows q.chain []
     outer_shows = agree
@@ -353,12 +381,34 @@ module _ (p : Tree) (h : first_fault p ≡ None) (e : is_ecmascript p ≡ true) 
       s_entry : slice_get (table_of p) s.number ≡ Some s.body
       s_entry = (subst (AllInTable (table_of p)) chain seen_child.in_table).0.entry
 
-      -- in no header the scope is seen as it is in the end
-      seen_last : (ds : List Environment) → (InNoHeader q.chain → Matches (or_else (get final.bindings s.number x) N) (meaning bs (ds ++ E) x)) → Shows (s ∷ q.chain) ds
-      seen_last ds k i = subst (λ b. Matches (or_else (get (view_by b final es s.number).bindings s.number x) N) (meaning bs (ds ++ E) x)) (sym i.0) (k i.1)
+      -- environments of the opener, of no object and no class
+      abbrev AllOfOpener : List Environment → Type 0
+      AllOfOpener [] = Unit {0}
+      AllOfOpener (d ∷ ds) = ((d.maker ≡ q.node.node_id) × (is_made_for environment.Object d ≡ false) × (is_made_for environment.Class d ≡ false)) × AllOfOpener ds
 
-      one_shows : (k : EnvironmentKind) → ((j : EnvironmentKind) → may_make q.node.kind j ≡ true → j ≡ k) → same_environment_kind k environment.Object ≡ false → Shows (s ∷ q.chain) (record { kind = k; maker = q.node.node_id } ∷ [])
-      one_shows k only n = seen_last (record { kind = k; maker = q.node.node_id } ∷ []) (λ i. one s s_opened s_entry q.node opener seen.familiar.node k E only n N (agree i))
+      -- where they bind nothing the name means what it means around
+      passes : ((b : Bound) → Among b ws → b.name ≡ x → b.environment.maker ≡ s.opener → ⊥) → (ds : List Environment) → AllOfOpener ds → Matches N (meaning bs E x) → Matches N (meaning bs (ds ++ E) x)
+      passes apart [] k m = m
+      passes apart (d ∷ ds) k m = subst (Matches N) (sym (meaning_further bs x not_arguments d (ds ++ E) k.0.1 (nothing (identifiers_in bs d x) refl))) (passes apart ds k.1 m)
+        where
+          nothing : (is : List ℕ) → identifiers_in bs d x ≡ is → identifiers_in bs d x ≡ []
+          nothing [] v = v
+          nothing (i ∷ is) v =
+              let w : IsHere d i = is_here d i (subst (Among i) (sym v) (inl refl)) in
+              absurd (apart w.bind w.among w.named (ap (λ z. z.maker) (directly d i k.0.2 w) ∙ k.0.0 ∙ sym opener))
+
+      -- in no header the scope is seen as it is in the end, in one it is empty
+      seen_by : (ds : List Environment) → (s.in_header ≡ false → Matches N (meaning bs E x) → Matches (or_else (get final.bindings s.number x) N) (meaning bs (ds ++ E) x)) → (s.in_header ≡ true → AllOfOpener ds) → Shows (s ∷ q.chain) ds
+      seen_by ds last all i = by s.in_header refl
+        where
+          by : (t : Bool) → s.in_header ≡ t → Matches (or_else (get (view_by s.in_header final es s.number).bindings s.number x) N) (meaning bs (ds ++ E) x)
+          by false v = subst (λ b. Matches (or_else (get (view_by b final es s.number).bindings s.number x) N) (meaning bs (ds ++ E) x)) (sym v) (last v (agree i.1))
+          by true v =
+              subst (λ b. Matches (or_else (get (view_by b final es s.number).bindings s.number x) N) (meaning bs (ds ++ E) x)) (sym v)
+              (subst (λ t. Matches (or_else t N) (meaning bs (ds ++ E) x)) (sym (nothing_before p h e numbered x none clear plain s.number s s_opened (i.0 v))) (passes (i.0 v) ds (all v) (agree i.1)))
+
+      one_shows : (k : EnvironmentKind) → ((j : EnvironmentKind) → may_make q.node.kind j ≡ true → j ≡ k) → (same_environment_kind k environment.Object ≡ false) × (same_environment_kind k environment.Class ≡ false) → Shows (s ∷ q.chain) (record { kind = k; maker = q.node.node_id } ∷ [])
+      one_shows k only n = seen_by (record { kind = k; maker = q.node.node_id } ∷ []) (λ v. one s s_opened s_entry q.node opener seen.familiar.node k E only n N) (λ v. ((refl, n.0, n.1), tt))
 
       -- outside of its body's environment a child of a function stands in its header
       in_header : is_function_kind q.node.kind ≡ true → is_outside_body c.node ≡ true → s.in_header ≡ false → ⊥
@@ -376,16 +426,20 @@ module _ (p : Tree) (h : first_fault p ≡ None) (e : is_ecmascript p ≡ true) 
           go false true i j w = flipped kind.FormalParameters c.node.kind j
           go false false i j w = absurd cc
 
-      function_shows : (k : EnvironmentKind) (ds : List Environment) → is_function_kind q.node.kind ≡ true → same_environment_kind k environment.Object ≡ false
-          → ((j : EnvironmentKind) (m : ℕ) → may_make q.node.kind j ≡ true → IsUsual (record { kind = j; maker = m }) → (j ≡ environment.Body) ⊎ (j ≡ k)) → (Matches N (meaning bs E x) → Matches N (meaning bs (ds ++ E) x))
+      function_shows : (k : EnvironmentKind) (ds : List Environment) → is_function_kind q.node.kind ≡ true → (same_environment_kind k environment.Object ≡ false) × (same_environment_kind k environment.Class ≡ false)
+          → ((j : EnvironmentKind) (m : ℕ) → may_make q.node.kind j ≡ true → IsUsual (record { kind = j; maker = m }) → (j ≡ environment.Body) ⊎ (j ≡ k)) → (Matches N (meaning bs E x) → Matches N (meaning bs (ds ++ E) x)) → AllOfOpener ds
           → Shows (s ∷ q.chain) (cond (not (is_outside_body c.node) && has_parameter_expressions q.node) (record { kind = environment.Body; maker = q.node.node_id } ∷ []) [] ++ (record { kind = k; maker = q.node.node_id } ∷ ds))
-      function_shows k ds f n two skips i =
-          let last : s.in_header ≡ false = i.0 in
-          seen_last (cond (not (is_outside_body c.node) && has_parameter_expressions q.node) (record { kind = environment.Body; maker = q.node.node_id } ∷ []) [] ++ (record { kind = k; maker = q.node.node_id } ∷ ds)) (λ j.
+      function_shows k ds f n two skips all =
+          seen_by (cond (not (is_outside_body c.node) && has_parameter_expressions q.node) (record { kind = environment.Body; maker = q.node.node_id } ∷ []) [] ++ (record { kind = k; maker = q.node.node_id } ∷ ds)) (λ last m.
           subst (λ es. Matches (or_else (get final.bindings s.number x) N) (meaning bs es x)) (reassociated (not (is_outside_body c.node) && has_parameter_expressions q.node))
           (function s s_opened s_entry q.node opener seen.familiar.node k n (λ w. two w.bind.environment.kind w.bind.environment.maker w.makes w.known.placed.usual) N
-          (not (is_outside_body c.node) && has_parameter_expressions q.node) (ds ++ E) (absent (is_outside_body c.node) refl last) (skips (agree j)))) i
+          (not (is_outside_body c.node) && has_parameter_expressions q.node) (ds ++ E) (absent (is_outside_body c.node) refl last) (skips m)))
+          (λ v. all_made (not (is_outside_body c.node) && has_parameter_expressions q.node))
         where
+          all_made : (t : Bool) → AllOfOpener (cond t (record { kind = environment.Body; maker = q.node.node_id } ∷ []) [] ++ (record { kind = k; maker = q.node.node_id } ∷ ds))
+          all_made true = ((refl, refl, refl), ((refl, n.0, n.1), all))
+          all_made false = ((refl, n.0, n.1), all)
+
           reassociated : (t : Bool) → cond t (record { kind = environment.Body; maker = q.node.node_id } ∷ []) [] ++ (record { kind = k; maker = q.node.node_id } ∷ (ds ++ E)) ≡ (cond t (record { kind = environment.Body; maker = q.node.node_id } ∷ []) [] ++ (record { kind = k; maker = q.node.node_id } ∷ ds)) ++ E
           reassociated true = refl
           reassociated false = refl
@@ -418,7 +472,7 @@ module _ (p : Tree) (h : first_fault p ≡ None) (e : is_ecmascript p ≡ true) 
         go _ v (inner_chain s i o j) = absurd (no_maker s v none_made)
 
     -- or one with a scope
-    one_case : (k : AstType) (n : EnvironmentKind) → q.node.kind ≡ k → made_by k q.node c.node ≡ record { kind = n; maker = q.node.node_id } ∷ [] → ((m : ℕ) → has_scope (record { kind = n; maker = m }) ≡ true) → ((j : EnvironmentKind) → may_make k j ≡ true → j ≡ n) → same_environment_kind n environment.Object ≡ false
+    one_case : (k : AstType) (n : EnvironmentKind) → q.node.kind ≡ k → made_by k q.node c.node ≡ record { kind = n; maker = q.node.node_id } ∷ [] → ((m : ℕ) → has_scope (record { kind = n; maker = m }) ≡ true) → ((j : EnvironmentKind) → may_make k j ≡ true → j ≡ n) → (same_environment_kind n environment.Object ≡ false) × (same_environment_kind n environment.Class ≡ false)
         → ChainOf q.node.kind c.role q.node q.chain c.chain → Shows c.chain (record { kind = n; maker = q.node.node_id } ∷ [])
     one_case k n w m scoped only object t = go c.chain refl t
       where
@@ -433,7 +487,7 @@ module _ (p : Tree) (h : first_fault p ≡ None) (e : is_ecmascript p ≡ true) 
     skips_own : Matches N (meaning bs E x) → Matches N (meaning bs ((record { kind = environment.OwnName; maker = q.node.node_id } ∷ []) ++ E) x)
     skips_own m =
         let d : Environment = record { kind = environment.OwnName; maker = q.node.node_id } in
-        subst (Matches N) (sym (meaning_further bs x not_arguments d E refl (unusual d (λ u. never u.0)))) m
+        subst (Matches N) (sym (meaning_further bs x not_arguments d E refl (unusual d refl (λ u. never u.0)))) m
 
     function_case : q.node.kind ≡ kind.Function → ChainOf q.node.kind c.role q.node q.chain c.chain → Shows c.chain (made_by kind.Function q.node c.node)
     function_case w t = go c.chain refl t
@@ -441,8 +495,8 @@ module _ (p : Tree) (h : first_fault p ≡ None) (e : is_ecmascript p ≡ true) 
         go : (chain : List OpenScope) → c.chain ≡ chain → ChainOf q.node.kind c.role q.node q.chain chain → Shows chain (made_by kind.Function q.node c.node)
         go _ v (outer_chain i) = absurd (never (subst (λ a. is_inside a c.role ≡ false) w i))
         go _ v (inner_chain s i o j) =
-            function_shows s o j v environment.Parameters (record { kind = environment.OwnName; maker = q.node.node_id } ∷ []) (subst (λ a. is_function_kind a ≡ true) (sym w) refl) refl
-            (λ z m y u. function_kinds z m (subst (λ a. may_make a z ≡ true) w y) u) skips_own
+            function_shows s o j v environment.Parameters (record { kind = environment.OwnName; maker = q.node.node_id } ∷ []) (subst (λ a. is_function_kind a ≡ true) (sym w) refl) (refl, refl)
+            (λ z m y u. function_kinds z m (subst (λ a. may_make a z ≡ true) w y) u) skips_own ((refl, refl, refl), tt)
 
     arrow_case : q.node.kind ≡ kind.ArrowFunctionExpression → ChainOf q.node.kind c.role q.node q.chain c.chain → Shows c.chain (made_by kind.ArrowFunctionExpression q.node c.node)
     arrow_case w t = go c.chain refl t
@@ -450,15 +504,15 @@ module _ (p : Tree) (h : first_fault p ≡ None) (e : is_ecmascript p ≡ true) 
         go : (chain : List OpenScope) → c.chain ≡ chain → ChainOf q.node.kind c.role q.node q.chain chain → Shows chain (made_by kind.ArrowFunctionExpression q.node c.node)
         go _ v (outer_chain i) = absurd (never (subst (λ a. is_inside a c.role ≡ false) w i))
         go _ v (inner_chain s i o j) =
-            function_shows s o j v environment.ArrowParameters [] (subst (λ a. is_function_kind a ≡ true) (sym w) refl) refl
-            (λ z m y u. arrow_kinds z (subst (λ a. may_make a z ≡ true) w y)) (λ m. m)
+            function_shows s o j v environment.ArrowParameters [] (subst (λ a. is_function_kind a ≡ true) (sym w) refl) (refl, refl)
+            (λ z m y u. arrow_kinds z (subst (λ a. may_make a z ≡ true) w y)) (λ m. m) tt
 
     -- the body of an `if` opens no scope, and no plain name is of its environment
     if_case : q.node.kind ≡ kind.IfStatement → ChainOf q.node.kind c.role q.node q.chain c.chain → Shows c.chain (made_by kind.IfStatement q.node c.node)
     if_case w t = by (is kind.Function c.node && is_statement c.node) refl
       where
         outer : (chain : List OpenScope) → ChainOf q.node.kind c.role q.node q.chain chain → Shows chain (record { kind = environment.IfBody; maker = c.node.node_id } ∷ [])
-        outer _ (outer_chain i) = λ j. subst (Matches N) (sym (meaning_further bs x not_arguments (record { kind = environment.IfBody; maker = c.node.node_id }) E refl (unusual (record { kind = environment.IfBody; maker = c.node.node_id }) (λ u. never u.1)))) (agree j)
+        outer _ (outer_chain i) = λ j. subst (Matches N) (sym (meaning_further bs x not_arguments (record { kind = environment.IfBody; maker = c.node.node_id }) E refl (unusual (record { kind = environment.IfBody; maker = c.node.node_id }) refl (λ u. never u.1)))) (agree j)
         outer _ (inner_chain s i o j) = absurd (never (sym (subst (λ a. is_inside a c.role ≡ true) w i)))
 
         by : (b : Bool) → (is kind.Function c.node && is_statement c.node) ≡ b → Shows c.chain (cond b (record { kind = environment.IfBody; maker = c.node.node_id } ∷ []) [])
@@ -469,41 +523,114 @@ module _ (p : Tree) (h : first_fault p ≡ None) (e : is_ecmascript p ≡ true) 
     switch_case w t = by (is kind.SwitchCase c.node) refl
       where
         by : (b : Bool) → is kind.SwitchCase c.node ≡ b → Shows c.chain (cond b (record { kind = environment.Block; maker = q.node.node_id } ∷ []) [])
-        by true v = one_case kind.SwitchStatement environment.Block w (ap (λ b. cond b (record { kind = environment.Block; maker = q.node.node_id } ∷ []) []) v) (λ m. refl) (λ j y. environment_kind_is j environment.Block y) refl t
+        by true v = one_case kind.SwitchStatement environment.Block w (ap (λ b. cond b (record { kind = environment.Block; maker = q.node.node_id } ∷ []) []) v) (λ m. refl) (λ j y. environment_kind_is j environment.Block y) (refl, refl) t
         by false v = none_case kind.SwitchStatement w (ap (λ b. cond b (record { kind = environment.Block; maker = q.node.node_id } ∷ []) []) v) t
+
+    -- inside a class its name means what it means around, and its scope binds nothing else
+    module _ (w : q.node.kind ≡ kind.Class) where
+      abbrev Inside : Environment
+      Inside = record { kind = environment.Class; maker = q.node.node_id }
+
+      program_class : kind.Program ≡ kind.Class → ⊥
+      program_class u = absurd cc
+
+      inner_first : (b : Bound) → b.environment ≡ innermost E → (l : List Node) → q.path ≡ l → (b.environment ∷ outside_innermost E) ≡ E
+      inner_first b v [] u = absurd (program_class (sym (subst (EndsAtProgram q.node) u seen.familiar.rooted) ∙ w))
+      inner_first b v (y ∷ path) u = go E v (subst (λ l. Among (innermost (environments q.node l)) (environments q.node l)) (sym u) (innermost_among q.node y path (subst (EndsAtProgram q.node) u seen.familiar.rooted)))
+        where
+          go : (es : List Environment) → b.environment ≡ innermost es → Among (innermost es) es → (b.environment ∷ outside_innermost es) ≡ es
+          go [] k a = absurd a
+          go (d ∷ ds) k a = ap (λ z. z ∷ ds) k
+
+      all_among : (is : List ℕ) (s : ℕ) (j : ℕ) → AllAre is s → Among j is → symbol_at (analysis_of p) j ≡ Some s
+      all_among [] s j k a = absurd a
+      all_among (i ∷ is) s j k (inl v) = subst (λ z. symbol_at (analysis_of p) z ≡ Some s) v k.0
+      all_among (i ∷ is) s j k (inr a) = all_among is s j k.1 a
+
+      -- around the class the name has the symbol of each identifier that is there
+      symbol_around : (d : Environment) (ds : List Environment) (j : ℕ) → Among j (identifiers_in bs d x) → Matches N (meaning bs (d ∷ ds) x) → (y : ℕ) × (N ≡ Some y) × (symbol_at (analysis_of p) j ≡ Some y)
+      symbol_around d ds j a m = by (is_made_for environment.Object d) refl
+        where
+          by : (t : Bool) → is_made_for environment.Object d ≡ t → (y : ℕ) × (N ≡ Some y) × (symbol_at (analysis_of p) j ≡ Some y)
+          by true o = absurd (subst (Matches N) (meaning_object bs x not_arguments d ds o) m)
+          by false o = go (identifiers_in bs d x) refl
+            where
+              go : (is : List ℕ) → identifiers_in bs d x ≡ is → (y : ℕ) × (N ≡ Some y) × (symbol_at (analysis_of p) j ≡ Some y)
+              go [] v = absurd (subst (Among j) v a)
+              go (i ∷ is) v =
+                  let (y, there, all) = subst (Matches N) (meaning_here bs x not_arguments d ds i is o v) m in
+                  (y, there, all_among (i ∷ is) y j all (subst (Among j) v a))
+
+      symbol_inside : Matches N (meaning bs E x) → (j : ℕ) → Among j (identifiers_in bs Inside x) → (y : ℕ) × (N ≡ Some y) × (symbol_at (analysis_of p) j ≡ Some y)
+      symbol_inside m j a =
+          let here_is : IsHere Inside j = is_here Inside j a in
+          elim here_is.there [
+            | inl v ↦ absurd (never (ap (is_made_for environment.Class) (sym v) ∙ no_class here_is.bind here_is.known.plainly))
+            | inr also ↦ around here_is (class_here Inside j here_is also)
+          ]
+        where
+          around : (k : IsHere Inside j) → IsClassBound k.known.placed.by_node.place k.bind Inside → (y : ℕ) × (N ≡ Some y) × (symbol_at (analysis_of p) j ≡ Some y)
+          around k u =
+              let same : k.known.placed.by_node.place ≡ q = entered_once p numbered k.known.placed.by_node.place q k.known.placed.by_node.entered seen.entered (sym (ap (λ z. z.maker) u.inside)) in
+              let env : k.bind.environment ≡ innermost E = u.around ∙ ap (λ r. innermost (environments r.node r.path)) same in
+              let first : (k.bind.environment ∷ outside_innermost E) ≡ E = inner_first k.bind env q.path refl in
+              let identifier : Among j (identifiers_in bs k.bind.environment x) = subst (λ z. Among z (identifiers_in bs k.bind.environment x)) k.identifier (identifier_here ws x k.bind.environment ws k.bind k.among k.named refl) in
+              symbol_around k.bind.environment (outside_innermost E) j identifier (subst (λ es. Matches N (meaning bs es x)) (sym first) m)
+
+      all_inside : Matches N (meaning bs E x) → (y : ℕ) → N ≡ Some y → (is : List ℕ) → ((j : ℕ) → Among j is → Among j (identifiers_in bs Inside x)) → AllAre is y
+      all_inside m y g [] f = tt
+      all_inside m y g (i ∷ is) f =
+          let (z, there, symbol) = symbol_inside m i (f i (inl refl)) in
+          (symbol ∙ ap Some (some_is z y (sym there ∙ g)), all_inside m y g is (λ j a. f j (inr a)))
+
+      inside_shows : Matches N (meaning bs E x) → Matches N (meaning bs (Inside ∷ E) x)
+      inside_shows m = go (identifiers_in bs Inside x) refl
+        where
+          go : (is : List ℕ) → identifiers_in bs Inside x ≡ is → Matches N (meaning bs (Inside ∷ E) x)
+          go [] v = subst (Matches N) (sym (meaning_further bs x not_arguments Inside E refl v)) m
+          go (i ∷ is) v =
+              let (y, there, symbol) = symbol_inside m i (subst (Among i) (sym v) (inl refl)) in
+              subst (Matches N) (sym (meaning_here bs x not_arguments Inside E i is refl v)) (y, there, all_inside m y there (i ∷ is) (λ j a. subst (Among j) (sym v) a))
+
+      class_round : (chain : List OpenScope) → c.chain ≡ chain → ChainOf q.node.kind c.role q.node q.chain chain → Shows chain (Inside ∷ [])
+      class_round _ v (outer_chain i) = λ j. inside_shows (agree j)
+      class_round _ v (inner_chain s i o j) = seen_by s o j v (Inside ∷ []) (λ last m.
+          further s (s_opened s o j v) (s_entry s o j v) q.node o seen.familiar.node N (meaning bs (Inside ∷ E) x)
+          (unanswered s (s_opened s o j v) (s_entry s o j v) q.node o seen.familiar.node (λ b. never (sym (ap (λ z. same_environment_kind z environment.Class) (environment_kind_is b.bind.environment.kind environment.Class (subst (λ a. may_make a b.bind.environment.kind ≡ true) w b.makes))) ∙ no_class b.bind b.known.plainly)))
+          (inside_shows m))
+          (λ header. absurd (never (sym header ∙ j ∙ ap (λ a. is_in_header a c.role) w)))
 
     class_case : q.node.kind ≡ kind.Class → ChainOf q.node.kind c.role q.node q.chain c.chain → Shows c.chain (made_by kind.Class q.node c.node)
     class_case w t = by (is kind.Decorator c.node) refl
       where
         by : (b : Bool) → is kind.Decorator c.node ≡ b → Shows c.chain (cond b [] (record { kind = environment.Class; maker = q.node.node_id } ∷ []))
         by true v = none_case kind.Class w (ap (λ b. cond b [] (record { kind = environment.Class; maker = q.node.node_id } ∷ [])) v) t
-        by false v = one_case kind.Class environment.Class w (ap (λ b. cond b [] (record { kind = environment.Class; maker = q.node.node_id } ∷ [])) v) (λ m. refl) (λ j y. environment_kind_is j environment.Class y) refl t
+        by false v = class_round w c.chain refl t
 
     never_with : q.node.kind ≡ kind.WithStatement → ⊥
     never_with w =
-        let apart : (is kind.WithStatement q.node || in_with_under q.path) ≡ false = subst (λ l. in_with_under l ≡ false) path seen_child.apart_from_with in
         let there : is kind.WithStatement q.node ≡ true = subst (λ a. same_kind a kind.WithStatement ≡ true) (sym w) refl in
-        never (sym (ap (λ b. b || in_with_under q.path) there) ∙ apart)
+        never (sym (ap (λ b. b || in_with_under q.path) there) ∙ apart_here)
 
     by_kind : (k : AstType) → q.node.kind ≡ k → ChainOf q.node.kind c.role q.node q.chain c.chain → Shows c.chain (made_by k q.node c.node)
-    by_kind kind.Program w t = one_case kind.Program environment.Global w refl (λ m. refl) (λ j y. environment_kind_is j environment.Global y) refl t
+    by_kind kind.Program w t = one_case kind.Program environment.Global w refl (λ m. refl) (λ j y. environment_kind_is j environment.Global y) (refl, refl) t
     by_kind kind.Function w t = function_case w t
     by_kind kind.ArrowFunctionExpression w t = arrow_case w t
-    by_kind kind.StaticBlock w t = one_case kind.StaticBlock environment.StaticBlock w refl (λ m. refl) (λ j y. environment_kind_is j environment.StaticBlock y) refl t
-    by_kind kind.BlockStatement w t = one_case kind.BlockStatement environment.Block w refl (λ m. refl) (λ j y. environment_kind_is j environment.Block y) refl t
+    by_kind kind.StaticBlock w t = one_case kind.StaticBlock environment.StaticBlock w refl (λ m. refl) (λ j y. environment_kind_is j environment.StaticBlock y) (refl, refl) t
+    by_kind kind.BlockStatement w t = one_case kind.BlockStatement environment.Block w refl (λ m. refl) (λ j y. environment_kind_is j environment.Block y) (refl, refl) t
     by_kind kind.SwitchStatement w t = switch_case w t
     by_kind kind.IfStatement w t = if_case w t
-    by_kind kind.ForStatement w t = one_case kind.ForStatement environment.Loop w refl (λ m. refl) (λ j y. environment_kind_is j environment.Loop y) refl t
-    by_kind kind.ForInStatement w t = one_case kind.ForInStatement environment.Loop w refl (λ m. refl) (λ j y. environment_kind_is j environment.Loop y) refl t
-    by_kind kind.ForOfStatement w t = one_case kind.ForOfStatement environment.Loop w refl (λ m. refl) (λ j y. environment_kind_is j environment.Loop y) refl t
-    by_kind kind.CatchClause w t = one_case kind.CatchClause environment.Catch w refl (λ m. refl) (λ j y. environment_kind_is j environment.Catch y) refl t
+    by_kind kind.ForStatement w t = one_case kind.ForStatement environment.Loop w refl (λ m. refl) (λ j y. environment_kind_is j environment.Loop y) (refl, refl) t
+    by_kind kind.ForInStatement w t = one_case kind.ForInStatement environment.Loop w refl (λ m. refl) (λ j y. environment_kind_is j environment.Loop y) (refl, refl) t
+    by_kind kind.ForOfStatement w t = one_case kind.ForOfStatement environment.Loop w refl (λ m. refl) (λ j y. environment_kind_is j environment.Loop y) (refl, refl) t
+    by_kind kind.CatchClause w t = one_case kind.CatchClause environment.Catch w refl (λ m. refl) (λ j y. environment_kind_is j environment.Catch y) (refl, refl) t
     by_kind kind.Class w t = class_case w t
     by_kind kind.WithStatement w t = absurd (never_with w)
     by_kind _ w t = none_case _ w refl t
 
   -- ---- all places
 
-  agree_steps : (q : Place) (own : Option OpenScope) (n cursor : ℕ) (f : Forest) → (is kind.BindingIdentifier q.node ≡ false → Agrees q) → IsSeen q → OwnOf q own → EachStep SeenAt (steps_below q own n cursor f) → EachStep AgreesAt (steps_below q own n cursor f)
+  agree_steps : (q : Place) (own : Option OpenScope) (n cursor : ℕ) (f : Forest) → (is kind.BindingIdentifier q.node ≡ false → in_with_under q.path ≡ false → Agrees q) → IsSeen q → OwnOf q own → EachStep SeenAt (steps_below q own n cursor f) → EachStep AgreesAt (steps_below q own n cursor f)
   agree_steps q own n cursor nothing agree seen o k = last_case (EachStep AgreesAt) q own n tt (tt, (tt, tt))
   agree_steps q own n cursor (tree r k2 span text marks below id after) agree seen o k =
       let node : Node = record { kind = k2; span = span; text = text; marks = marks; children = below; node_id = id } in
@@ -514,7 +641,7 @@ module _ (p : Tree) (h : first_fault p ≡ None) (e : is_ecmascript p ≡ true) 
       let no_identifier : is kind.BindingIdentifier q.node ≡ false = not-true (same_kind q.node.kind kind.BindingIdentifier) (and_first (not (same_kind q.node.kind kind.BindingIdentifier)) _ well) in
       let o_scope : OwnOf q turn.scope = own_of q r own n o in
       let chain : ChainOf q.node.kind r q.node q.chain turn.child.chain = chain_of q r turn.scope cursor node child_seen.familiar.undecorated (is_open_inside q r own n) o_scope in
-      let child : is kind.BindingIdentifier node ≡ false → Agrees turn.child = λ i. by_kind q turn.child (agree no_identifier) seen child_seen refl well i q.node.kind refl chain in
+      let child : is kind.BindingIdentifier node ≡ false → in_with_under (q.node ∷ q.path) ≡ false → Agrees turn.child = λ i w. by_kind q turn.child (agree no_identifier (with_outer q w)) seen child_seen refl well i w q.node.kind refl chain in
       each_of_turn AgreesAt turn (record {
         before = opening_case (EachStep AgreesAt) q r own n tt (tt, tt);
         whole = each_of_node AgreesAt turn.child turn.below child (agree_steps turn.child None turn.next turn.inner below child child_seen tt (each_left SeenAt turn.below (leaving turn.child ∷ []) sees.whole.1)) tt;
@@ -522,18 +649,18 @@ module _ (p : Tree) (h : first_fault p ≡ None) (e : is_ecmascript p ≡ true) 
         others = agree_steps q turn.scope turn.rest turn.past after agree seen o_scope sees.others;
       })
 
-  seen_each : (ss : List Step) → EachStep KnownAt ss → EachStep (FamiliarAt (node_at p)) ss → EachStep (IsPlaceOpened (openers (steps p))) ss → EachStep (IsStepIn (table_of p)) ss → EachStep IsOutsideWith ss → EachStep SeenAt ss
-  seen_each [] a b c d w = tt
-  seen_each (entering q ∷ ss) a b c d w = (record { known = a.0; familiar = b.0; opened = c.0; in_table = d.0; apart_from_with = w.0 }, seen_each ss a.1 b.1 c.1 d.1 w.1)
-  seen_each (opening q o ∷ ss) a b c d w = (tt, seen_each ss a.1 b.1 c.1 d.1 w.1)
-  seen_each (header_ending q o ∷ ss) a b c d w = (tt, seen_each ss a.1 b.1 c.1 d.1 w.1)
-  seen_each (closing q o ∷ ss) a b c d w = (tt, seen_each ss a.1 b.1 c.1 d.1 w.1)
-  seen_each (leaving q ∷ ss) a b c d w = (tt, seen_each ss a.1 b.1 c.1 d.1 w.1)
+  seen_each : (ss : List Step) → ((q : Place) → Among (entering q) ss → Among (entering q) (steps p)) → EachStep KnownAt ss → EachStep (FamiliarAt (node_at p)) ss → EachStep (IsPlaceOpened (openers (steps p))) ss → EachStep (IsStepIn (table_of p)) ss → EachStep SeenAt ss
+  seen_each [] f a b c d = tt
+  seen_each (entering q ∷ ss) f a b c d = (record { entered = f q (inl refl); known = a.0; familiar = b.0; opened = c.0; in_table = d.0 }, seen_each ss (λ r i. f r (inr i)) a.1 b.1 c.1 d.1)
+  seen_each (opening q o ∷ ss) f a b c d = (tt, seen_each ss (λ r i. f r (inr i)) a.1 b.1 c.1 d.1)
+  seen_each (header_ending q o ∷ ss) f a b c d = (tt, seen_each ss (λ r i. f r (inr i)) a.1 b.1 c.1 d.1)
+  seen_each (closing q o ∷ ss) f a b c d = (tt, seen_each ss (λ r i. f r (inr i)) a.1 b.1 c.1 d.1)
+  seen_each (leaving q ∷ ss) f a b c d = (tt, seen_each ss (λ r i. f r (inr i)) a.1 b.1 c.1 d.1)
 
   pub agree_program : EachStep AgreesAt (steps p)
   agree_program =
       let root : Place = root_place p in
       let n : ℕ = on_entering p.root.kind 0 in
       let below : List Step = steps_below root None 0 n p.root.children in
-      let all : EachStep SeenAt (steps p) = seen_each (steps p) (known_program p h e) (familiar_program p h e numbered) (places_opened p) (steps_in p (has_form p h)) none in
-      each_of_node AgreesAt root below (λ i j. refl) (agree_steps root None 0 n p.root.children (λ i j. refl) all.0 tt (each_left SeenAt below (leaving root ∷ []) all.1)) tt
+      let all : EachStep SeenAt (steps p) = seen_each (steps p) (λ q i. i) (known_program p h e) (familiar_program p h e numbered) (places_opened p) (steps_in p (has_form p h)) in
+      each_of_node AgreesAt root below (λ i w j. refl) (agree_steps root None 0 n p.root.children (λ i w j. refl) all.0 tt (each_left SeenAt below (leaving root ∷ []) all.1)) tt

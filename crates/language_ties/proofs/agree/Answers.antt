@@ -1,5 +1,5 @@
 -- Of a plain name whose declarations keep clear, a scope binds exactly what the environments of its opener bind.
-use Rattle.std.proofs.Common.{◌≡◌, ℕ, ◌<◌, List, Option, Some, None, true, length, refl, sym, ap, subst, ◌∙◌, arith}
+use Rattle.std.proofs.Common.{◌≡◌, ℕ, ◌<◌, List, Option, Some, None, true, inl, inr, length, refl, sym, ap, subst, ◌∙◌, arith}
 use Rattle.std.specs.Prelude.{slice_get}
 use Rattle.std.proofs.lemmas.Option.{slice_get_within}
 use Rattle.semantic_syntax.specs.Reading as reading
@@ -11,6 +11,7 @@ use Rattle.semantic_model.specs.Binding.{get}
 use Rattle.semantic_model.specs.Declaration.{Declaration, home, body_or}
 use Rattle.semantic_model.specs.Entries.{Among}
 use Rattle.semantic_model.specs.Event.{declarations, events}
+use Rattle.semantic_model.specs.Tie.{until_end_of}
 use Rattle.semantic_model.specs.Fold.{State, start}
 use Rattle.semantic_model.specs.Hoist.{run}
 use Rattle.semantic_model.specs.Place.{OpenScope}
@@ -18,18 +19,18 @@ use Rattle.semantic_model.specs.Step.{steps}
 use Rattle.semantic_model.specs.TablesOf.{tables_of, scopes, evals}
 use Rattle.semantic_model.proofs.fits.Outwards.{bound_as, scopes_length}
 use Rattle.semantic_model.proofs.fold.Orders.{table_of}
-use Rattle.language_ties.specs.AgreeingNames.{IsPlainName, HasNoWith}
+use Rattle.language_ties.specs.AgreeingNames.{IsPlainName, IsBoundOutsideWith}
 use Rattle.language_ties.specs.Bound.{Bound, written}
 use Rattle.language_ties.specs.EcmaScript.{is_ecmascript}
-use Rattle.language_ties.specs.SharedSymbols.{AllKeepClear, ShareSymbols, HasHomesSymbol, IsDeclaredAt}
+use Rattle.language_ties.specs.SharedSymbols.{AllKeepClear, ShareSymbols, HasHomesSymbol, IsDeclaredAt, IsBoundIn}
 use Rattle.language_ties.proofs.UndeclaredNames.{each_identifier}
 use Rattle.language_ties.proofs.agree.KnownBounds.{some_is, KnownBound, known_bound, bodiless}
 use Rattle.language_ties.proofs.clear.SingleNames.{identifier_of, same_declaration, declared_once}
-use Rattle.language_ties.proofs.shared.HomesShared.{share_symbols}
+use Rattle.language_ties.proofs.shared.HomesShared.{share_symbols, WasDeclared, was_declared}
 use Rattle.language_ties.proofs.symbols.ScopeOpeners.{openers, IsOpened, one_scope}
 use Rattle.language_ties.proofs.symbols.SymbolNumbers.{symbol_is}
 
-module _ (p : Tree) (h : first_fault p ≡ None) (e : is_ecmascript p ≡ true) (numbered : IsNumbered p.root) (none : HasNoWith p) (x : Name) (clear : AllKeepClear x (declarations (events (steps p)))) (plain : IsPlainName p x) where
+module _ (p : Tree) (h : first_fault p ≡ None) (e : is_ecmascript p ≡ true) (numbered : IsNumbered p.root) (x : Name) (none : IsBoundOutsideWith p x) (clear : AllKeepClear x (declarations (events (steps p)))) (plain : IsPlainName p x) where
   abbrev table : List (Option ℕ)
   table = table_of p
 
@@ -43,10 +44,10 @@ module _ (p : Tree) (h : first_fault p ≡ None) (e : is_ecmascript p ≡ true) 
   shared = share_symbols p h e x clear
 
   -- the symbol
-  pub symbol_of : (b : Bound) → KnownBound p h e numbered none x plain b → ℕ
+  pub symbol_of : (b : Bound) → KnownBound p h e numbered x none plain b → ℕ
   symbol_of b k = (shared.share k.declares.declaration k.declares.among k.declares.named k.declares.visible).symbol
 
-  pub has_symbol : (b : Bound) (k : KnownBound p h e numbered none x plain b) → symbol_at (analysis_of p) b.identifier ≡ Some (symbol_of b k)
+  pub has_symbol : (b : Bound) (k : KnownBound p h e numbered x none plain b) → symbol_at (analysis_of p) b.identifier ≡ Some (symbol_of b k)
   unfolding symbol_of
   has_symbol b k =
       let s : HasHomesSymbol p k.declares.declaration = shared.share k.declares.declaration k.declares.among k.declares.named k.declares.visible in
@@ -56,13 +57,13 @@ module _ (p : Tree) (h : first_fault p ≡ None) (e : is_ecmascript p ≡ true) 
   within c o q = omega (arith, slice_get_within table c o q, scopes_length (evals (steps p)) (steps p))
 
   -- the scope that the maker of the environment opens binds the name to it
-  pub answers : (b : Bound) (k : KnownBound p h e numbered none x plain b) (s : OpenScope) → IsOpened (openers (steps p)) s → s.opener ≡ b.environment.maker → get final.bindings s.number x ≡ Some (symbol_of b k)
+  pub answers : (b : Bound) (k : KnownBound p h e numbered x none plain b) (s : OpenScope) → IsOpened (openers (steps p)) s → s.opener ≡ b.environment.maker → get final.bindings s.number x ≡ Some (symbol_of b k)
   unfolding symbol_of
   answers b k s o q =
       let d : Declaration = k.declares.declaration in
       let y : HasHomesSymbol p d = shared.share d k.declares.among k.declares.named k.declares.visible in
       let number : d.route.target.number ≡ s.number = one_scope p numbered d.route.target s k.declares.opened o (k.declares.maker ∙ sym q) in
-      let home_is : home d ≡ d.route.target.number = ap (body_or d.route.target.number) (bodiless p h e numbered none x plain b k) in
+      let home_is : home d ≡ d.route.target.number = ap (body_or d.route.target.number) (bodiless p h e numbered x none plain b k) in
       let there : reading.bound_in (tables_of p) (home d) x ≡ Some y.symbol = subst (λ n. reading.bound_in (tables_of p) (home d) n ≡ Some y.symbol) k.declares.named y.bound in
       let at : reading.bound_in (tables_of p) d.route.target.number x ≡ Some y.symbol = subst (λ c. reading.bound_in (tables_of p) c x ≡ Some y.symbol) home_is there in
       subst (λ c. get final.bindings c x ≡ Some y.symbol) number (sym (bound_as p d.route.target.number x (within d.route.target.number d.route.target.body k.declares.entry)) ∙ at)
@@ -79,12 +80,37 @@ module _ (p : Tree) (h : first_fault p ≡ None) (e : is_ecmascript p ≡ true) 
       let there : reading.bound_in (tables_of p) s.number x ≡ Some y = bound_as p s.number x (within s.number s.body entry) ∙ g in
       let w : IsDeclaredAt p x s.number y = shared.bound s.number y there in
       let (b, a, n, i) = each_identifier p.source_type x (λ j. (b : Bound) × Among b ws × (b.name ≡ x) × (b.identifier ≡ j)) p h e (λ b a n. (b, a, n, refl)) w.declaration w.among w.named in
-      let k : KnownBound p h e numbered none x plain b = known_bound p h e numbered none x plain b a n in
+      let k : KnownBound p h e numbered x none plain b = known_bound p h e numbered x none plain b a n in
       let d : Declaration = k.declares.declaration in
       let one : identifier_of w.declaration ≡ identifier_of d = sym i ∙ sym k.declares.identifier in
       let same : w.declaration ≡ d = same_declaration w.declaration d (declarations (events (steps p))) w.among k.declares.among one (declared_once p (identifier_of w.declaration) h numbered) in
-      let home_is : home d ≡ d.route.target.number = ap (body_or d.route.target.number) (bodiless p h e numbered none x plain b k) in
+      let home_is : home d ≡ d.route.target.number = ap (body_or d.route.target.number) (bodiless p h e numbered x none plain b k) in
       let homes : home d ≡ s.number = ap home (sym same) ∙ w.stands in
       let number : d.route.target.number ≡ s.number = sym home_is ∙ homes in
       let opener : Some d.route.target.opener ≡ Some s.opener = sym k.declares.opened ∙ ap (slice_get (openers (steps p))) number ∙ o in
       record { bind = b; among = a; named = n; maker = sym k.declares.maker ∙ some_is d.route.target.opener s.opener opener }
+
+  -- what binds nothing in the end bound nothing where a header ended
+  pub nothing_before : (c : ℕ) (s : OpenScope) → IsOpened (openers (steps p)) s → ((b : Bound) → Among b ws → b.name ≡ x → b.environment.maker ≡ s.opener → ⊥) → get (run start (until_end_of c (events (steps p)))).bindings s.number x ≡ None
+  nothing_before c s o apart = go (get (run start (until_end_of c (events (steps p)))).bindings s.number x) refl
+    where
+      in_scope : (y : ℕ) → get (run start (until_end_of c (events (steps p)))).bindings s.number x ≡ Some y → ⊥
+      in_scope y g =
+          let w : WasDeclared p h e x clear s.number = was_declared p h e x clear c s.number y g in
+          let (b, a, n, i) = each_identifier p.source_type x (λ j. (b : Bound) × Among b ws × (b.name ≡ x) × (b.identifier ≡ j)) p h e (λ b a n. (b, a, n, refl)) w.declaration w.among w.named in
+          let k : KnownBound p h e numbered x none plain b = known_bound p h e numbered x none plain b a n in
+          let d : Declaration = k.declares.declaration in
+          let one : identifier_of w.declaration ≡ identifier_of d = sym i ∙ sym k.declares.identifier in
+          let same : w.declaration ≡ d = same_declaration w.declaration d (declarations (events (steps p))) w.among k.declares.among one (declared_once p (identifier_of w.declaration) h numbered) in
+          at_target b a n k (subst (λ z. IsBoundIn z s.number) same w.bound)
+        where
+          no_number : None ≡ Some s.number → ⊥
+          no_number q = absurd cc
+
+          at_target : (b : Bound) → Among b ws → b.name ≡ x → (k : KnownBound p h e numbered x none plain b) → IsBoundIn k.declares.declaration s.number → ⊥
+          at_target b a n k (inl number) = apart b a n (sym k.declares.maker ∙ some_is k.declares.declaration.route.target.opener s.opener (sym k.declares.opened ∙ ap (slice_get (openers (steps p))) number ∙ o))
+          at_target b a n k (inr body) = no_number (sym (bodiless p h e numbered x none plain b k) ∙ body)
+
+      go : (t : Option ℕ) → get (run start (until_end_of c (events (steps p)))).bindings s.number x ≡ t → get (run start (until_end_of c (events (steps p)))).bindings s.number x ≡ None
+      go None q = q
+      go (Some y) q = absurd (in_scope y q)

@@ -1,5 +1,5 @@
 -- The identifiers by which an environment binds a plain name, and what they make the name mean.
-use Rattle.std.proofs.Common.{◌≡◌, ℕ, List, [], ◌∷◌, Bool, true, false, ◌&&◌, ◌||◌, cond, map, filter, inl, inr, refl, sym, ap, subst, ◌∙◌, bytes_eq, codes}
+use Rattle.std.proofs.Common.{◌≡◌, ℕ, List, [], ◌∷◌, Bool, true, false, ◌&&◌, ◌||◌, cond, map, filter, inl, inr, ◌⊎◌, refl, sym, ap, subst, ◌∙◌, bytes_eq, codes}
 use Rattle.std.specs.List.{list_any}
 use denote.Enum.Bare.{true_same}
 use Rattle.std.proofs.lemmas.Bool.Decides.{eqb_tells}
@@ -7,17 +7,15 @@ use Rattle.semantic_syntax.proofs.Truth.{and_first, and_second, and_false}
 use Rattle.semantic_syntax.specs.Tables.{Name}
 use Rattle.semantic_model.specs.Entries.{Among}
 use Rattle.semantic_model.proofs.once.ListedUnder.{name_tells}
-use Rattle.language_ties.specs.AgreeingNames.{is_plain}
 use Rattle.language_ties.specs.Bound.{Bound, is_bound_as}
 use Rattle.language_ties.specs.Environments.{Environment, same_environment_kind, same_environment, is_made_for}
 use Rattle.language_ties.specs.Meaning.{of_object, bound, is_bound_in, identifiers_in, binds_arguments, bound_or, meaning}
-use Rattle.language_ties.specs.Moved.{moved, unless_barred}
+use Rattle.language_ties.specs.Moved.{moved, bars, unless_barred}
 use Rattle.language_ties.specs.contracts.environment_kind.EnvironmentKind.{the_type as the_kinds}
 use Rattle.language_ties.specs.declared.bound_as.BoundAs.TheVariants as way
 use Rattle.language_ties.specs.declared.environment_kind.EnvironmentKind.{EnvironmentKind}
 use Rattle.language_ties.specs.declared.environment_kind.EnvironmentKind.TheVariants as environment
 use Rattle.language_ties.proofs.agree.MadeEnvironments.{same_environment_is}
-use Rattle.language_ties.proofs.agree.PlainBounds.{by_one}
 
 same_kind_again : (k : EnvironmentKind) → same_environment_kind k k ≡ true
 same_kind_again k = true_same the_kinds k k refl
@@ -47,16 +45,31 @@ moved_environment ws b = go (is_bound_as way.Function b)
     go true = refl
     go false = refl
 
-moved_also : (ws : List Bound) (b : Bound) → b.also ≡ [] → (moved ws b).also ≡ []
-moved_also ws b e = go (is_bound_as way.Function b)
+moved_also : (ws : List Bound) (b : Bound) (d : Environment) → Among d (moved ws b).also → Among d b.also
+moved_also ws b d = go (is_bound_as way.Function b)
   where
-    go : (t : Bool) → (cond t (record b { also = unless_barred ws b b.also }) b).also ≡ []
-    go true = ap (unless_barred ws b) e
-    go false = e
+    unless : (es : List Environment) → Among d (unless_barred ws b es) → Among d es
+    unless [] a = a
+    unless (target ∷ es) a = by (list_any (bars b target) ws) a
+      where
+        by : (t : Bool) → Among d (cond t [] (target ∷ es)) → Among d (target ∷ es)
+        by true i = absurd i
+        by false i = i
 
-or_nothing : (a : Bool) → (a || false) ≡ true → a ≡ true
-or_nothing true h = h
-or_nothing false h = h
+    go : (t : Bool) → Among d (cond t (record b { also = unless_barred ws b b.also }) b).also → Among d b.also
+    go true a = unless b.also a
+    go false a = a
+
+either : (a b : Bool) → (a || b) ≡ true → (a ≡ true) ⊎ (b ≡ true)
+either true b h = inl refl
+either false b h = inr h
+
+any_among : (ds : List Environment) (e : Environment) → list_any (λ d. same_environment d e) ds ≡ true → Among e ds
+any_among [] e h = absurd cc
+any_among (d ∷ ds) e h = elim (either (same_environment d e) (list_any (λ i. same_environment i e) ds) h) [
+  | inl w ↦ inl (same_environment_is d e w)
+  | inr w ↦ inr (any_among ds e w)
+]
 
 module _ (ws : List Bound) (x : Name) (e : Environment) where
   -- an identifier of the environment is of what it binds
@@ -64,17 +77,19 @@ module _ (ws : List Bound) (x : Name) (e : Environment) where
     pub bind : Bound
     pub among : Among bind cs
     pub named : bind.name ≡ x
-    pub there : bind.environment ≡ e
+    pub there : (bind.environment ≡ e) ⊎ Among e bind.also
     pub identifier : bind.identifier ≡ i
 
   abbrev pub identifiers_of : List Bound → List ℕ
   identifiers_of cs = map (λ b. b.identifier) (filter (is_bound_in e x) (map (moved ws) cs))
 
-  tested : (c : Bound) → is_plain c ≡ true → is_bound_in e x (moved ws c) ≡ true → c.environment ≡ e
-  tested c plain h =
+  tested : (c : Bound) → is_bound_in e x (moved ws c) ≡ true → (c.environment ≡ e) ⊎ Among e c.also
+  tested c h =
       let two : (same_environment (moved ws c).environment e || list_any (λ d. same_environment d e) (moved ws c).also) ≡ true = and_second (bytes_eq (moved ws c).name x) _ h in
-      let one : (same_environment (moved ws c).environment e || false) ≡ true = subst (λ ds. (same_environment (moved ws c).environment e || list_any (λ d. same_environment d e) ds) ≡ true) (moved_also ws c (by_one c plain)) two in
-      sym (moved_environment ws c) ∙ same_environment_is (moved ws c).environment e (or_nothing (same_environment (moved ws c).environment e) one)
+      elim (either (same_environment (moved ws c).environment e) (list_any (λ d. same_environment d e) (moved ws c).also) two) [
+        | inl w ↦ inl (sym (moved_environment ws c) ∙ same_environment_is (moved ws c).environment e w)
+        | inr w ↦ inr (moved_also ws c e (any_among (moved ws c).also e w))
+      ]
 
   test_name : (c : Bound) → is_bound_in e x (moved ws c) ≡ true → c.name ≡ x
   test_name c h = elim (name_tells (moved ws c).name x) [
@@ -88,9 +103,9 @@ module _ (ws : List Bound) (x : Name) (e : Environment) where
       let env : same_environment (moved ws c).environment e ≡ true = ap (λ d. same_environment d e) (moved_environment ws c ∙ q) ∙ same_again e in
       rw (name, env) refl
 
-  pub bound_here : (cs : List Bound) → ((b : Bound) → Among b cs → b.name ≡ x → is_plain b ≡ true) → (i : ℕ) → Among i (identifiers_of cs) → IsBoundHere cs i
-  bound_here [] plain i a = absurd a
-  bound_here (c ∷ cs) plain i a = go (is_bound_in e x (moved ws c)) refl a (bound_here cs (λ b k. plain b (inr k)) i)
+  pub bound_here : (cs : List Bound) → (i : ℕ) → Among i (identifiers_of cs) → IsBoundHere cs i
+  bound_here [] i a = absurd a
+  bound_here (c ∷ cs) i a = go (is_bound_in e x (moved ws c)) refl a (bound_here cs i)
     where
       more : IsBoundHere cs i → IsBoundHere (c ∷ cs) i
       more h = record { bind = h.bind; among = inr h.among; named = h.named; there = h.there; identifier = h.identifier }
@@ -98,7 +113,7 @@ module _ (ws : List Bound) (x : Name) (e : Environment) where
       go : (t : Bool) → is_bound_in e x (moved ws c) ≡ t → Among i (map (λ b. b.identifier) (cond t (moved ws c ∷ filter (is_bound_in e x) (map (moved ws) cs)) (filter (is_bound_in e x) (map (moved ws) cs)))) → (Among i (map (λ b. b.identifier) (filter (is_bound_in e x) (map (moved ws) cs))) → IsBoundHere cs i) → IsBoundHere (c ∷ cs) i
       go true q (inl j) later =
           let named : c.name ≡ x = test_name c q in
-          record { bind = c; among = inl refl; named = named; there = tested c (plain c (inl refl) named) q; identifier = sym (moved_identifier ws c) ∙ j }
+          record { bind = c; among = inl refl; named = named; there = tested c q; identifier = sym (moved_identifier ws c) ∙ j }
       go true q (inr j) later = more (later j)
       go false q j later = more (later j)
 
@@ -124,6 +139,10 @@ module _ (bs : List Bound) (x : Name) (not_arguments : bytes_eq x (codes "argume
       ap (λ b. cond b (of_object e) (bound_or e (identifiers_in bs e x) (cond (binds_arguments e x) (bound e []) (meaning bs ds x)))) o
       ∙ ap (λ l. bound_or e l (cond (binds_arguments e x) (bound e []) (meaning bs ds x))) i
       ∙ ap (λ b. cond b (bound e []) (meaning bs ds x)) no_arguments
+
+  -- an object's means what it has
+  pub meaning_object : is_made_for environment.Object e ≡ true → meaning bs (e ∷ ds) x ≡ of_object e
+  meaning_object o = ap (λ b. cond b (of_object e) (bound_or e (identifiers_in bs e x) (cond (binds_arguments e x) (bound e []) (meaning bs ds x)))) o
 
   pub meaning_here : (i : ℕ) (is : List ℕ) → is_made_for environment.Object e ≡ false → identifiers_in bs e x ≡ i ∷ is → meaning bs (e ∷ ds) x ≡ bound e (i ∷ is)
   meaning_here i is o q =

@@ -8,7 +8,7 @@ use Rattle.semantic_tree.specs.declared.node.Node.{Node}
 use Rattle.semantic_model.specs.Entries.{Among}
 use Rattle.semantic_model.specs.Place as place
 use Rattle.semantic_model.specs.Step.{entering, steps}
-use Rattle.language_ties.specs.AgreeingNames.{is_plain, IsPlainName, HasNoWith}
+use Rattle.language_ties.specs.AgreeingNames.{is_plain, IsPlainName, IsBoundOutsideWith}
 use Rattle.language_ties.specs.Bound.{Bound, written}
 use Rattle.language_ties.specs.EcmaScript.{is_ecmascript}
 use Rattle.language_ties.proofs.agree.FamiliarPlaces.{IsFamiliar, FamiliarAt, IsClauseScope, familiar_program, innermost_clause}
@@ -26,7 +26,7 @@ never x h = absurd cc
 never_both : true ≡ false → ⊥
 never_both h = absurd cc
 
-module _ (p : Tree) (h : first_fault p ≡ None) (e : is_ecmascript p ≡ true) (numbered : IsNumbered p.root) (none : HasNoWith p) (x : Name) (plain : IsPlainName p x) where
+module _ (p : Tree) (h : first_fault p ≡ None) (e : is_ecmascript p ≡ true) (numbered : IsNumbered p.root) (x : Name) (none : IsBoundOutsideWith p x) (plain : IsPlainName p x) where
   abbrev ws : List Bound
   ws = written p.source_type (steps p)
 
@@ -39,7 +39,7 @@ module _ (p : Tree) (h : first_fault p ≡ None) (e : is_ecmascript p ≡ true) 
   pub known_bound : (b : Bound) → Among b ws → b.name ≡ x → KnownBound b
   known_bound b a n =
       let one : is_plain b ≡ true = plain b a n in
-      let placed : IsPlacedBound p b = placed_bound p h e numbered none b a one in
+      let placed : IsPlacedBound p b = placed_bound p h e numbered x none b a n one in
       record { plainly = one; placed = placed; declares = declaration_of p h e numbered x b placed.by_node n }
 
   -- its scope is no clause's

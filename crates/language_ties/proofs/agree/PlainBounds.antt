@@ -6,6 +6,7 @@ use Rattle.semantic_kinds.specs.Kinds.{same_kind}
 use Rattle.semantic_kinds.specs.declared.kind.AstType.{AstType}
 use Rattle.semantic_kinds.specs.declared.kind.AstType.TheVariants as kind
 use Rattle.semantic_kinds.specs.declared.role.Role.TheVariants as role
+use Rattle.semantic_syntax.specs.Tables.{Name}
 use Rattle.semantic_syntax.specs.declared.source_type.SourceType.{SourceType}
 use Rattle.semantic_tree.specs.Faults.{first_fault}
 use Rattle.semantic_tree.specs.Tree.{Tree, IsNumbered}
@@ -18,7 +19,8 @@ use Rattle.semantic_model.specs.Place.{Place}
 use Rattle.semantic_model.specs.Step.{Step, entering, opening, header_ending, closing, leaving, steps}
 use Rattle.semantic_model.proofs.lists.Members.{among_cases}
 use Rattle.program_laws.proofs.DeclaredNodes.{among_map, among_flat}
-use Rattle.language_ties.specs.AgreeingNames.{has_none, is_plain, IsOutsideWith, HasNoWith}
+use Rattle.tangle_model.specs.Surroundings.{in_with_under}
+use Rattle.language_ties.specs.AgreeingNames.{has_none, is_plain, IsBoundOutsideWith}
 use Rattle.language_ties.specs.Bound as language
 use Rattle.language_ties.specs.Bound.{Bound, bound_in, bound_here, bound_outward, bound_by_declarator, bound_by_declaration, bound_by_function, bound_by_class, bound_by_catch, bound_by, is_bound_as, written}
 use Rattle.language_ties.specs.EcmaScript.{is_ecmascript}
@@ -54,33 +56,37 @@ bound_at_place s (leaving q ∷ ss) b a = later s (leaving q) ss b (bound_at_pla
 
 -- ---- what it is to be plain
 
-or_none : (a c : Bool) → not (a || c) ≡ true → (a ≡ false) × (c ≡ false)
-or_none true c h = absurd cc
-or_none false true h = absurd cc
-or_none false false h = (refl, refl)
+nor : (a b c : Bool) → not (a || (b || c)) ≡ true → (a ≡ false) × (b ≡ false) × (c ≡ false)
+nor true b c h = absurd cc
+nor false true c h = absurd cc
+nor false false true h = absurd cc
+nor false false false h = (refl, refl, refl)
 
 module _ (b : Bound) (h : is_plain b ≡ true) where
-  rest : (not (is_made_for environment.Catch b.environment || is_bound_as bound.CatchName b) && (not (is_bound_as bound.OwnName b) && (not (is_bound_as bound.Function b) || takes_variables b.environment))) ≡ true
-  rest = and_second (has_none b.also) _ h
+  rest : (not (is_made_for environment.Catch b.environment || (is_made_for environment.Class b.environment || is_bound_as bound.CatchName b)) && (not (is_bound_as bound.OwnName b) && (not (is_bound_as bound.Function b) || takes_variables b.environment))) ≡ true
+  rest = and_second (has_none b.also || is_bound_as bound.Lexical b) _ h
 
   more : (not (is_bound_as bound.OwnName b) && (not (is_bound_as bound.Function b) || takes_variables b.environment)) ≡ true
-  more = and_second (not (is_made_for environment.Catch b.environment || is_bound_as bound.CatchName b)) _ rest
+  more = and_second (not (is_made_for environment.Catch b.environment || (is_made_for environment.Class b.environment || is_bound_as bound.CatchName b))) _ rest
 
-  pub by_one : b.also ≡ []
-  by_one = go b.also (and_first (has_none b.also) _ h)
+  pub by_one : is_bound_as bound.Lexical b ≡ false → b.also ≡ []
+  by_one other = go b.also (subst (λ t. (has_none b.also || t) ≡ true) other (and_first (has_none b.also || is_bound_as bound.Lexical b) _ h))
     where
-      go : (es : List Environment) → has_none es ≡ true → es ≡ []
+      go : (es : List Environment) → (has_none es || false) ≡ true → es ≡ []
       go [] e = refl
       go (x ∷ es) e = absurd cc
 
-  no_catches : (is_made_for environment.Catch b.environment ≡ false) × (is_bound_as bound.CatchName b ≡ false)
-  no_catches = or_none (is_made_for environment.Catch b.environment) (is_bound_as bound.CatchName b) (and_first (not (is_made_for environment.Catch b.environment || is_bound_as bound.CatchName b)) _ rest)
+  no_catches : (is_made_for environment.Catch b.environment ≡ false) × (is_made_for environment.Class b.environment ≡ false) × (is_bound_as bound.CatchName b ≡ false)
+  no_catches = nor (is_made_for environment.Catch b.environment) (is_made_for environment.Class b.environment) (is_bound_as bound.CatchName b) (and_first (not (is_made_for environment.Catch b.environment || (is_made_for environment.Class b.environment || is_bound_as bound.CatchName b))) _ rest)
 
   pub no_catch : is_made_for environment.Catch b.environment ≡ false
   no_catch = no_catches.0
 
+  pub no_class : is_made_for environment.Class b.environment ≡ false
+  no_class = no_catches.1
+
   pub no_catch_name : is_bound_as bound.CatchName b ≡ false
-  no_catch_name = no_catches.1
+  no_catch_name = no_catches.2
 
   pub no_own : is_bound_as bound.OwnName b ≡ false
   no_own = not-true (is_bound_as bound.OwnName b) (and_first (not (is_bound_as bound.OwnName b)) _ more)
@@ -161,7 +167,7 @@ module _ (s : SourceType) (x y : Node) (path : List Node) (rooted : EndsAtProgra
 
   -- a function that is a statement, and no function in a block
   statement : (b : Bound) → is_plain b ≡ true → (t : Bool) → (n : Node) → b ≡ cond t (bound_in bound.Function (innermost es) (variable_environment es ∷ []) (passed es) n) (bound_here bound.Function es n) → Stands x (y ∷ path) b
-  statement b h true n q = absurd (never_empty (variable_environment es) [] (sym (by_one b h) ∙ ap (λ i. i.also) q))
+  statement b h true n q = absurd (never_empty (variable_environment es) [] (sym (by_one b h (ap (is_bound_as bound.Lexical) q)) ∙ ap (λ i. i.also) q))
   statement b h false n q =
       let env : b.environment ≡ innermost es = ap (λ i. i.environment) q in
       let takes : takes_variables (innermost es) ≡ true = subst (λ d. takes_variables d ≡ true) env (taking b h (ap (is_bound_as bound.Function) q)) in
@@ -186,13 +192,13 @@ module _ (s : SourceType) (x y : Node) (path : List Node) (rooted : EndsAtProgra
           let (n, d, q) = among_map (bound_in bound.OwnName (record { kind = environment.OwnName; maker = x.node_id }) [] []) (names_at role.Id x) b c in
           absurd (never_both (ap (is_bound_as bound.OwnName) q ∙ no_own b h))
 
-  classes : (b : Bound) → is_plain b ≡ true → Among b (bound_by_class x (y ∷ path)) → Stands x (y ∷ path) b
-  classes b h a = go (is_statement x) a
+  classes : (b : Bound) → x.kind ≡ kind.Class → is_plain b ≡ true → Among b (bound_by_class x (y ∷ path)) → Stands x (y ∷ path) b
+  classes b e h a = go (is_statement x) a
     where
       go : (t : Bool) → Among b (map (cond t (bound_in bound.Lexical (innermost es) (record { kind = environment.Class; maker = x.node_id } ∷ []) []) (bound_in bound.OwnName (record { kind = environment.Class; maker = x.node_id }) [] [])) (names_at role.Id x)) → Stands x (y ∷ path) b
       go true c =
           let (n, d, q) = among_map (bound_in bound.Lexical (innermost es) (record { kind = environment.Class; maker = x.node_id } ∷ []) []) (names_at role.Id x) b c in
-          absurd (never_empty (record { kind = environment.Class; maker = x.node_id }) [] (sym (by_one b h) ∙ sym (ap (λ i. i.also) q)))
+          here kind.Class b e refl (sym (ap (λ i. i.environment) q))
       go false c =
           let (n, d, q) = among_map (bound_in bound.OwnName (record { kind = environment.Class; maker = x.node_id }) [] []) (names_at role.Id x) b c in
           absurd (never_both (ap (is_bound_as bound.OwnName) q ∙ no_own b h))
@@ -205,7 +211,7 @@ module _ (s : SourceType) (x y : Node) (path : List Node) (rooted : EndsAtProgra
   by_kind : (k : AstType) (b : Bound) → x.kind ≡ k → is_plain b ≡ true → Among b (bound_by k s x (y ∷ path)) → Stands x (y ∷ path) b
   by_kind kind.VariableDeclarator b e h a = variables b e a
   by_kind kind.Function b e h a = functions b h a
-  by_kind kind.Class b e h a = classes b h a
+  by_kind kind.Class b e h a = classes b e h a
   by_kind kind.FormalParameter b e h a = names_here kind.FormalParameter bound.Parameter (bound_names x) b e refl a
   by_kind kind.FormalParameterRest b e h a = names_here kind.FormalParameterRest bound.Parameter (bound_names x) b e refl a
   by_kind kind.CatchParameter b e h a = catches (children_of role.Pattern x.children) b e a
@@ -225,7 +231,7 @@ pub record IsPlacedBound (p : Tree) (b : Bound) : Type 0 where
   pub makes : may_make maker.kind b.environment.kind ≡ true
   pub body : is_made_for environment.Body b.environment ≡ true → has_parameter_expressions maker ≡ true
 
-placed_in : (p : Tree) (b : Bound) (q : Place) (path : List Node) → q.path ≡ path → Among (entering q) (steps p) → IsFamiliar (node_at p) q → IsOutsideWith (entering q) → is_plain b ≡ true → Among b (bound_by q.node.kind p.source_type q.node q.path) → IsPlacedBound p b
+placed_in : (p : Tree) (b : Bound) (q : Place) (path : List Node) → q.path ≡ path → Among (entering q) (steps p) → IsFamiliar (node_at p) q → in_with_under q.path ≡ false → is_plain b ≡ true → Among b (bound_by q.node.kind p.source_type q.node q.path) → IsPlacedBound p b
 placed_in p b q [] e a f w h c = absurd (root_binds q.node.kind (subst (EndsAtProgram q.node) e f.rooted) (subst (λ l. Among b (bound_by q.node.kind p.source_type q.node l)) e c))
   where
     root_binds : (k : AstType) → q.node.kind ≡ kind.Program → Among b (bound_by q.node.kind p.source_type q.node []) → ⊥
@@ -252,10 +258,10 @@ placed_in p b q (y ∷ path) e a f w h c =
       body = m.body;
     }
 
-pub placed_bound : (p : Tree) → first_fault p ≡ None → is_ecmascript p ≡ true → IsNumbered p.root → HasNoWith p → (b : Bound) → Among b (written p.source_type (steps p)) → is_plain b ≡ true → IsPlacedBound p b
-placed_bound p h e numbered none b a plain =
+pub placed_bound : (p : Tree) → first_fault p ≡ None → is_ecmascript p ≡ true → IsNumbered p.root → (x : Name) → IsBoundOutsideWith p x → (b : Bound) → Among b (written p.source_type (steps p)) → b.name ≡ x → is_plain b ≡ true → IsPlacedBound p b
+placed_bound p h e numbered x none b a named plain =
     let at : IsBoundAt p.source_type (steps p) b = bound_at_place p.source_type (steps p) b a in
     placed_in p b at.place at.place.path refl at.entered
     (each_at (FamiliarAt (node_at p)) (steps p) (entering at.place) (familiar_program p h e numbered) at.entered)
-    (each_at IsOutsideWith (steps p) (entering at.place) none at.entered)
+    (none at.place at.entered b at.binds named)
     plain at.binds

@@ -31,7 +31,7 @@ use Rattle.semantic_model.proofs.form.ParameterShape.{is_parameter}
 use Rattle.semantic_model.proofs.lists.Members.{among_left, among_right, among_cases}
 use Rattle.semantic_model.proofs.once.ListedUnder.{name_tells}
 use Rattle.program_laws.proofs.DeclaredNodes.{among_map, among_flat}
-use Rattle.language_ties.specs.AgreeingNames.{is_plain, IsPlainName, IsOutsideWith, HasNoWith}
+use Rattle.language_ties.specs.AgreeingNames.{is_plain, IsPlainName, IsBoundOutsideWith}
 use Rattle.language_ties.specs.Bound as language
 use Rattle.language_ties.specs.Bound.{Bound, bound_in, bound_here, bound_outward, bound_by_declarator, bound_by_declaration, bound_by_function, bound_by_class, bound_by_catch, bound_by, bound_at, is_bound_as, written}
 use Rattle.language_ties.specs.contracts.bound_as.BoundAs.{the_type as the_ways}
@@ -405,7 +405,7 @@ no_function b k h n = elim (cases_Bool (is_bound_as bound.Function b)) [
   | inl q ↦ (let s : b.sort ≡ bound.Function = same_true the_ways tt b.sort bound.Function q in absurd (never (sym h ∙ subst (λ w. is_bound_as k (record b { sort = w }) ≡ false) (sym s) n)))
 ]
 
-module _ (p : Tree) (h : first_fault p ≡ None) (e : is_ecmascript p ≡ true) (numbered : IsNumbered p.root) (none : HasNoWith p) (x : Name) (plain_name : IsPlainName p x) (no_clash : has_clash p x ≡ false) where
+module _ (p : Tree) (h : first_fault p ≡ None) (e : is_ecmascript p ≡ true) (numbered : IsNumbered p.root) (x : Name) (none : IsBoundOutsideWith p x) (plain_name : IsPlainName p x) (no_clash : has_clash p x ≡ false) where
   abbrev ws : List Bound
   ws = written p.source_type (steps p)
 
@@ -431,13 +431,13 @@ module _ (p : Tree) (h : first_fault p ≡ None) (e : is_ecmascript p ≡ true) 
     bind : Bound
     among : Among bind ws
     named : bind.name ≡ x
-    known : KnownBound p h e numbered none x plain_name bind
+    known : KnownBound p h e numbered x none plain_name bind
     same : known.declares.declaration ≡ d
 
   explained : (d : Declaration) → Among d ds → d.naming.name ≡ x → IsExplained d
   explained d a n =
       let (b, i, m, j) = each_identifier p.source_type x (λ k. (b : Bound) × Among b ws × (b.name ≡ x) × (b.identifier ≡ k)) p h e (λ b i m. (b, i, m, refl)) d a n in
-      let k : KnownBound p h e numbered none x plain_name b = known_bound p h e numbered none x plain_name b i m in
+      let k : KnownBound p h e numbered x none plain_name b = known_bound p h e numbered x none plain_name b i m in
       let one : identifier_of k.declares.declaration ≡ identifier_of d = k.declares.identifier ∙ j in
       record { bind = b; among = i; named = m; known = k; same = same_declaration k.declares.declaration d ds k.declares.among a one (declared_once p (identifier_of k.declares.declaration) h numbered) }
 
@@ -455,7 +455,7 @@ module _ (p : Tree) (h : first_fault p ≡ None) (e : is_ecmascript p ≡ true) 
       let (s, at, number) = scope_of_number v.known.declares.declaration.route.passed n i in
       let before : Among s (passed_before is_var q.chain) = route_passes q.chain s (subst (λ r. Among s r.passed) variable.route at) in
       let known : IsKnown q = each_at KnownAt (steps p) (entering q) (known_program p h e) there in
-      let round : map maker_of_scope q.chain ≡ makers (environments q.node q.path) = known.round (each_at IsOutsideWith (steps p) (entering q) none there) in
+      let round : map maker_of_scope q.chain ≡ makers (environments q.node q.path) = known.round (none q there v.bind v.known.declares.binds v.named) in
       let passing : IsPassed (environments q.node q.path) s = passes_scope q.chain q.node q.path s round before in
       let takes : (takes_variables passing.passes ≡ false) × Among passing.passes (environments q.node q.path) = passed_takes_none (environments q.node q.path) passing.passes passing.among in
       let opened : AllOpened (openers (steps p)) q.chain = each_at (IsPlaceOpened (openers (steps p))) (steps p) (entering q) (places_opened p) there in
@@ -483,7 +483,7 @@ module _ (p : Tree) (h : first_fault p ≡ None) (e : is_ecmascript p ≡ true) 
   keeps_clear d c v w = subst (λ z. KeepsClear z c) v.same (subst (KeepsClear v.known.declares.declaration) w.same (record {
     as_variable = λ how n i b. elim b [
       | inl t ↦ passes_none d c v w how n i t
-      | inr t ↦ nowhere n (sym (bodiless p h e numbered none x plain_name w.bind w.known) ∙ t)
+      | inr t ↦ nowhere n (sym (bodiless p h e numbered x none plain_name w.bind w.known) ∙ t)
     ];
     as_function = λ how m. v.known.declares.unmoved how;
     as_catch_name = λ how b. caught_never v how;

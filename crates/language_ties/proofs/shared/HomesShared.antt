@@ -1,5 +1,5 @@
 -- In an ECMAScript program, declarations of a name that keep clear of each other share the symbols of their homes.
-use Rattle.std.proofs.Common.{◌≡◌, ℕ, zero, suc, ◌+◌, ◌<◌, ◌≤◌, List, [], ◌∷◌, Option, Some, None, true, inl, inr, refl, sym, ap, subst, ◌∙◌, length, map, arith, bytes_eq}
+use Rattle.std.proofs.Common.{◌≡◌, ℕ, zero, suc, ◌+◌, ◌==◌, ◌<◌, ◌≤◌, List, [], ◌∷◌, Option, Some, None, Bool, true, false, cond, inl, inr, refl, sym, ap, subst, ◌∙◌, length, map, arith, bytes_eq}
 use Rattle.std.specs.Prelude.{slice_get, slice_index_or}
 use Rattle.std.specs.List.{range_with_len}
 use Rattle.std.specs.Map.{lookup}
@@ -12,6 +12,7 @@ use Rattle.semantic_model.specs.Binding.{Binding, get, bound_by}
 use Rattle.semantic_model.specs.Declaration.{Declaration, home, body_or}
 use Rattle.semantic_model.specs.Entries.{Among}
 use Rattle.semantic_model.specs.Event.{Event, declares, takes_over, ends_header, events, declarations, written_declarations}
+use Rattle.semantic_model.specs.Tie.{until_end_of}
 use Rattle.semantic_model.specs.Fold.{State, Made, start}
 use Rattle.semantic_model.specs.Hoist.{act, run}
 use Rattle.semantic_model.specs.NodeTable.{Belongs, node_tables}
@@ -29,11 +30,11 @@ use Rattle.semantic_model.proofs.form.Shape.{has_form}
 use Rattle.semantic_model.proofs.lists.Members.{among_left, among_last}
 use Rattle.semantic_model.proofs.once.HeadersEndOnce.{less_or}
 use Rattle.language_ties.specs.EcmaScript.{is_ecmascript}
-use Rattle.language_ties.specs.SharedSymbols.{AllKeepClear, ShareSymbols}
+use Rattle.language_ties.specs.SharedSymbols.{AllKeepClear, ShareSymbols, IsBoundIn}
 use Rattle.language_ties.proofs.shared.Events.{AllNumbered, numbered_events}
 use Rattle.language_ties.proofs.shared.Numbers.{numbered_program}
 use Rattle.language_ties.proofs.shared.PlainNodes.{ecmascript_program}
-use Rattle.language_ties.proofs.shared.Runs.{SharedAtLast, shared_run, none_pending}
+use Rattle.language_ties.proofs.shared.Runs.{SharedAtLast, shared_run, shared_until, none_pending}
 use Rattle.language_ties.proofs.shared.Shared.{Shared, IsBoundNow, IsNowIn, BoundBy, shared_start}
 
 -- ---- what is declared was made
@@ -61,6 +62,18 @@ beyond : (bs : List Binding) (i k c : ℕ) → k ≤ c → slice_index_or (map (
 beyond bs i zero c h = refl
 beyond bs i (suc k) zero h = absurd (omega arith)
 beyond bs i (suc k) (suc c) h = beyond bs (i + 1) k c (omega arith)
+
+-- what is declared before the end of a header is declared
+until_among : (e : ℕ) (es : List Event) (d : Declaration) → Among d (declarations (until_end_of e es)) → Among d (declarations es)
+until_among e [] d a = a
+until_among e (declares f ∷ es) d (inl q) = inl q
+until_among e (declares f ∷ es) d (inr a) = inr (until_among e es d a)
+until_among e (takes_over c b ∷ es) d a = until_among e es d a
+until_among e (ends_header c ∷ es) d a = go (c == e) (until_among e es d) a
+  where
+    go : (b : Bool) → (Among d (declarations (until_end_of e es)) → Among d (declarations es)) → Among d (declarations (cond b [] (ends_header c ∷ until_end_of e es))) → Among d (declarations es)
+    go true later i = absurd i
+    go false later i = later i
 
 -- ---- the whole program
 
@@ -147,3 +160,23 @@ module _ (p : Tree) (h : first_fault p ≡ None) (e : is_ecmascript p ≡ true) 
           is = subst (λ r. Among {A = Belongs} (record { node = w.made.declaration.naming.identifier; number = r }) (node_tables (steps p)).symbols) w.symbol (belongs_made w.made final.made w.among);
         });
   }
+
+  -- a declaration of the name that the scope binds
+  pub record WasDeclared (c : ℕ) : Type 0 where
+    pub declaration : Declaration
+    pub among : Among declaration (declarations es)
+    pub named : declaration.naming.name ≡ x
+    pub bound : IsBoundIn declaration c
+
+  -- what a scope binds where a header ends was declared
+  pub was_declared : (e c s : ℕ) → get (run start (until_end_of e es)).bindings c x ≡ Some s → WasDeclared c
+  was_declared e c s g =
+      let st : State = run start (until_end_of e es) in
+      let last : SharedAtLast table root (nearest p) x st = shared_until table root (nearest p) x e 0 0 start es numbered (events_in p f) led (orderly_events p f) (sound_start table) clear (λ y a. absurd a) (λ y a. absurd a) (shared_start table x) in
+      let w : BoundBy table x last.0 last.1 st.made c s = last.2.bound c s g in
+      record {
+        declaration = w.made.declaration;
+        among = until_among e es w.made.declaration (elim (made_declared w.made start (until_end_of e es) w.among) [ inl k ↦ absurd k | inr k ↦ k ]);
+        named = w.named;
+        bound = elim w.now [ inl k ↦ inl k | inr k ↦ inr k.0 ];
+      }

@@ -1,5 +1,5 @@
 -- Through all events, declarations of a name that keep clear of each other share the symbols of their scopes.
-use Rattle.std.proofs.Common.{◌≡◌, ℕ, suc, ◌==◌, List, [], ◌∷◌, Option, Some, None, true, false, ◌||◌, inl, inr, ◌⊎◌, refl, sym, ap, subst, ◌∙◌}
+use Rattle.std.proofs.Common.{◌≡◌, ℕ, suc, ◌==◌, List, [], ◌∷◌, Option, Some, None, Bool, true, false, ◌||◌, cond, inl, inr, ◌⊎◌, refl, sym, ap, subst, ◌∙◌}
 use Rattle.std.specs.Prelude.{slice_get}
 use Rattle.std.proofs.lemmas.Bool.Decides.{eqb_tells}
 use Rattle.semantic_syntax.specs.Tables.{Name}
@@ -7,6 +7,7 @@ use Rattle.semantic_model.specs.Binding.{Binding, get, put, take_over}
 use Rattle.semantic_model.specs.Declaration.{Declaration}
 use Rattle.semantic_model.specs.Entries.{Among}
 use Rattle.semantic_model.specs.Event.{Event, declares, takes_over, ends_header, declarations}
+use Rattle.semantic_model.specs.Tie.{until_end_of}
 use Rattle.semantic_model.specs.Fold.{State, Made}
 use Rattle.semantic_model.specs.Hoist.{act, run}
 use Rattle.semantic_model.proofs.alone.Homecoming.{takes, AllHomed}
@@ -72,6 +73,21 @@ module _ (table : List (Option ℕ)) (root : slice_get table 0 ≡ Some None) (v
   shared_run n m st (takes_over c b ∷ es) num ins lead order sound keep clear led h =
       shared_run (suc b) (suc b) (act st (takes_over c b)) es num.2 ins.1 lead order.1 (sound_act table st (takes_over c b) order.0 sound) keep clear led (shared_taken table x n m st c b order.0 num.0 num.1 h)
   shared_run n m st (ends_header c ∷ es) num ins lead order sound keep clear led h = shared_run n m st es num ins.1 lead order.1 sound keep clear led h
+
+  -- and where a header ends
+  pub shared_until : (e n m : ℕ) (st : State) (es : List Event) → AllNumbered n m es → AllEventsIn table root es → AllEventsLed v table es → Orderly table st es → Sound table st → AllKeepClear x (declarations es) → AreClear st.made es → AreLed st.made → Shared table x n m st → SharedAtLast (run st (until_end_of e es))
+  shared_until e n m st [] num ins lead order sound keep clear led h = (n, m, h)
+  shared_until e n m st (declares d ∷ es) num ins lead order sound keep clear led h =
+      let fit : IsFit table n m num.0 num.1 d = fit_of n m num.0 num.1 d num.2 ins.0 in
+      shared_until e num.0 num.1 (act st (declares d)) es num.3 ins.1 lead.1 order.1 (sound_act table st (declares d) order.0 sound) keep.1 (clear_next st d es clear keep.0) (led_next st d lead.0 led)
+      (one_declaration n m num.0 num.1 st d es fit lead.0 order sound clear led h)
+  shared_until e n m st (takes_over c b ∷ es) num ins lead order sound keep clear led h =
+      shared_until e (suc b) (suc b) (act st (takes_over c b)) es num.2 ins.1 lead order.1 (sound_act table st (takes_over c b) order.0 sound) keep clear led (shared_taken table x n m st c b order.0 num.0 num.1 h)
+  shared_until e n m st (ends_header c ∷ es) num ins lead order sound keep clear led h = go (c == e) (shared_until e n m st es num ins.1 lead order.1 sound keep clear led h)
+    where
+      go : (b : Bool) → SharedAtLast (run st (until_end_of e es)) → SharedAtLast (run st (cond b [] (ends_header c ∷ until_end_of e es)))
+      go true k = (n, m, h)
+      go false k = k
 
   -- ---- nothing stays in a clause
 

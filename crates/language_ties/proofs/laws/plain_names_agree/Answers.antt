@@ -1,6 +1,11 @@
-use Rattle.language_ties.proofs.agree.AgreeingUses.{agrees_outside_headers}
+use Rattle.language_ties.proofs.agree.AgreeingUses.{agrees_apart}
+use Rattle.language_ties.proofs.agree.Differing.{nothing_differs}
 use Rattle.language_ties.proofs.clear.UnclashedNames.{unclashed_clear}
 use Rattle.language_ties.proofs.laws.plain_names_agree.Goals as goal
 
-pub returns : goal.returns
-returns c = λ p name h e numbered none not_arguments plain no_clash. agrees_outside_headers p h e numbered none name not_arguments (unclashed_clear p h e numbered none name plain no_clash) plain
+pub returns-clause-each : goal.returns-clause-each
+returns-clause-each c = λ p name h e numbered outside not_arguments plain no_clash. agrees_apart p h e numbered name outside not_arguments (unclashed_clear p h e numbered name outside plain no_clash) plain
+
+pub returns-clause-none : goal.returns-clause-none
+returns-clause-none c = λ p name h e numbered outside not_arguments plain no_clash apart.
+    nothing_differs p name (λ q a k n. agrees_apart p h e numbered name outside not_arguments (unclashed_clear p h e numbered name outside plain no_clash) plain q a k n (apart q a k n))
