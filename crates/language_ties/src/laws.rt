@@ -43,8 +43,10 @@ pub fn names_are_bound()
 /// Tables and language agree on a name that no node of an ECMAScript program binds: no environment binds it by an identifier, and
 /// no reference of it is tied.
 pub fn unbound_names_are_free()
-    ensures nowhere { (p : Tree) (name : Name) (e : Environment) → binds_name p name ≡ false → identifiers_in (bound_of p) e name ≡ [] }
-    ensures free { (p : Tree) (name : Name) → first_fault p ≡ None → is_ecmascript p ≡ true → binds_name p name ≡ false → IsFreeEverywhere p name }
+    ensures nowhere { (p : Tree) (name : Name) (e : Environment) → binds_name p name ≡ false
+        → identifiers_in (bound_of p) e name ≡ [] }
+    ensures free { (p : Tree) (name : Name) → first_fault p ≡ None → is_ecmascript p ≡ true
+        → binds_name p name ≡ false → IsFreeEverywhere p name }
 {}
 
 /// Where the declarations of a name keep clear of each other, those with one home have one symbol, which that scope binds in the
@@ -52,13 +54,16 @@ pub fn unbound_names_are_free()
 /// moves out of its block meets none, and a plain catch name has its clause to itself. So do names that are declared once. The
 /// name of a function expression may have a symbol of its own, which the others in its scope hide.
 pub fn clear_names_share_symbols()
-    ensures { (p : Tree) (name : Name) → first_fault p ≡ None → is_ecmascript p ≡ true → AllKeepClear name (declarations (events (steps p))) → ShareSymbols p name }
+    ensures { (p : Tree) (name : Name) → first_fault p ≡ None → is_ecmascript p ≡ true
+        → AllKeepClear name (declarations (events (steps p))) → ShareSymbols p name }
 {}
 
 /// The identifiers by which the environments of one node bind such a name have one symbol, outside of `with`. Functions in blocks
 /// and own names of expressions are left out.
 pub fn environments_have_one_symbol()
-    ensures { (p : Tree) (name : Name) → first_fault p ≡ None → is_ecmascript p ≡ true → IsNumbered p.root → AllKeepClear name (declarations (events (steps p))) → EnvironmentsHaveOneSymbol p name }
+    ensures { (p : Tree) (name : Name) → first_fault p ≡ None → is_ecmascript p ≡ true
+        → IsNumbered p.root → AllKeepClear name (declarations (events (steps p)))
+        → EnvironmentsHaveOneSymbol p name }
 {}
 
 /// Each reference of an ECMAScript program uses its name as a value, and each symbol is a value, so that none is passed by: a
@@ -70,9 +75,14 @@ pub fn references_are_tied_nearest()
 /// Declarations of a name keep clear of each other where it is bound as no variable, no function and no plain catch name, where
 /// one identifier alone binds it, and where it is bound in plain ways, nowhere in a `with`, and no `var` clashes.
 pub fn names_keep_clear()
-    ensures lexical { (p : Tree) (name : Name) → first_fault p ≡ None → is_ecmascript p ≡ true → StaysInside p name → AllKeepClear name (declarations (events (steps p))) }
-    ensures once { (p : Tree) (name : Name) → first_fault p ≡ None → is_ecmascript p ≡ true → IsNumbered p.root → IsBoundOnce p name → AllKeepClear name (declarations (events (steps p))) }
-    ensures unclashed { (p : Tree) (name : Name) → first_fault p ≡ None → is_ecmascript p ≡ true → IsNumbered p.root → IsBoundOutsideWith p name → IsPlainName p name → has_clash p name ≡ false → AllKeepClear name (declarations (events (steps p))) }
+    ensures lexical { (p : Tree) (name : Name) → first_fault p ≡ None → is_ecmascript p ≡ true
+        → StaysInside p name → AllKeepClear name (declarations (events (steps p))) }
+    ensures once { (p : Tree) (name : Name) → first_fault p ≡ None → is_ecmascript p ≡ true
+        → IsNumbered p.root → IsBoundOnce p name
+        → AllKeepClear name (declarations (events (steps p))) }
+    ensures unclashed { (p : Tree) (name : Name) → first_fault p ≡ None → is_ecmascript p ≡ true
+        → IsNumbered p.root → IsBoundOutsideWith p name → IsPlainName p name
+        → has_clash p name ≡ false → AllKeepClear name (declarations (events (steps p))) }
 {}
 
 /// Tables and language agree on a name of which no `var` clashes, and which the program binds by `var`, `let`, `const`, imports,
@@ -80,6 +90,11 @@ pub fn names_keep_clear()
 /// by which the innermost environment binds the name that binds it at all, and free where none does. Left out are references in a
 /// `with` and in the header of a function that binds the name itself.
 pub fn plain_names_agree()
-    ensures each { (p : Tree) (name : Name) → first_fault p ≡ None → is_ecmascript p ≡ true → IsNumbered p.root → IsBoundOutsideWith p name → bytes_eq name (codes "arguments") ≡ false → IsPlainName p name → has_clash p name ≡ false → AgreesApart p name }
-    ensures none { (p : Tree) (name : Name) → first_fault p ≡ None → is_ecmascript p ≡ true → IsNumbered p.root → IsBoundOutsideWith p name → bytes_eq name (codes "arguments") ≡ false → IsPlainName p name → has_clash p name ≡ false → AllStandApart p name → differing p name ≡ [] }
+    ensures each { (p : Tree) (name : Name) → first_fault p ≡ None → is_ecmascript p ≡ true
+        → IsNumbered p.root → IsBoundOutsideWith p name → bytes_eq name (codes "arguments") ≡ false
+        → IsPlainName p name → has_clash p name ≡ false → AgreesApart p name }
+    ensures none { (p : Tree) (name : Name) → first_fault p ≡ None → is_ecmascript p ≡ true
+        → IsNumbered p.root → IsBoundOutsideWith p name → bytes_eq name (codes "arguments") ≡ false
+        → IsPlainName p name → has_clash p name ≡ false → AllStandApart p name
+        → differing p name ≡ [] }
 {}
