@@ -8,5 +8,6 @@ mod long_row;
 mod look_ups;
 mod nodes;
 mod other_source;
+mod plain_redeclarations;
 mod table_text;
 mod types_removed;
