@@ -22,6 +22,15 @@ const PAIRS: &[(&[AstType], &[AstType], bool, bool)] = &[
     (&[AstType::Class], &[AstType::Function], false, false),
 ];
 
+/// How many kinds are set.
+fn size_of(set: &AstTypesBitset) -> usize {
+    let mut size: usize = 0;
+    for _kind in set {
+        size = size.saturating_add(1);
+    }
+    size
+}
+
 #[test]
 fn sets_of_kinds_are_compared(rt: HostRuntime) {
     for (first, second, meet, holds) in PAIRS {
@@ -29,7 +38,7 @@ fn sets_of_kinds_are_compared(rt: HostRuntime) {
         let other = AstTypesBitset::from_types(second);
         assert_eq!(rt; set.intersects(&other), *meet);
         assert_eq!(rt; set.contains(&other), *holds);
-        assert_eq!(rt; set.iter().count(), first.len());
+        assert_eq!(rt; size_of(&set), first.len());
     }
 }
 
@@ -39,6 +48,6 @@ fn each_kind_is_set_alone(rt: HostRuntime) {
         let mut set = AstTypesBitset::new();
         set.set(*kind);
         assert!(rt; set.has(*kind));
-        assert_eq!(rt; set.iter().count(), 1);
+        assert_eq!(rt; size_of(&set), 1);
     }
 }
