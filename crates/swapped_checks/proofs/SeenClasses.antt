@@ -1,5 +1,5 @@
 -- The classes that rules see are the same where names are others.
-use Rattle.std.proofs.Common.{◌≡◌, ℕ, ◌+◌, List, [], ◌∷◌, ◌++◌, Option, Some, None, cond, if◌then◌else◌, Bool, true, false, not, ◌&&◌, ◌||◌, inl, inr, ◌⊎◌, refl, sym, ap, subst, ◌∙◌, map, flat_map, bytes_eq, codes, option_map}
+use Rattle.std.proofs.Common.{◌≡◌, ℕ, ◌+◌, List, [], ◌∷◌, ◌++◌, Option, Some, None, cond, if◌then◌else◌, Bool, true, false, not, ◌&&◌, ◌||◌, inl, inr, ◌⊎◌, refl, ap, ◌∙◌, map, bytes_eq, codes, option_map}
 use Rattle.std.specs.Prelude.{filter_map, is_some}
 use Rattle.std.specs.List.{list_all, cons_option}
 use Rattle.std.specs.Option.{option_and_then}
@@ -9,7 +9,6 @@ use Rattle.semantic_syntax.specs.Sets.{union}
 use Rattle.semantic_syntax.specs.Tables.{Name}
 use Rattle.semantic_syntax.specs.declared.spans.Span.{Span}
 use Rattle.semantic_syntax.specs.declared.element_kind.TheConstants.ElementKind as element
-use Rattle.semantic_kinds.specs.Classes.{is_member}
 use Rattle.semantic_kinds.specs.Kinds.{same_kind}
 use Rattle.semantic_kinds.specs.Roles.{same_role}
 use Rattle.semantic_kinds.specs.declared.kind.AstType.{AstType}
@@ -19,24 +18,23 @@ use Rattle.semantic_kinds.specs.declared.marks.Marks.{Marks}
 use Rattle.semantic_kinds.specs.declared.role.Role.{Role}
 use Rattle.semantic_kinds.specs.declared.role.Role.TheVariants as role
 use Rattle.semantic_tree.specs.Forest.{Forest, nothing, tree}
-use Rattle.semantic_tree.specs.KeyNames.{static_name, key_name_by, key_name}
+use Rattle.semantic_tree.specs.KeyNames.{key_name_by, key_name}
 use Rattle.semantic_tree.specs.Nodes.{first_of}
 use Rattle.semantic_tree.specs.Renamed.{setting_below, renamed_text, renamed, renamed_node}
-use Rattle.semantic_tree.specs.Views.{is, has, has_text, has_child, holds, all_in, child_of, children_of}
+use Rattle.semantic_tree.specs.Views.{is, has, holds, all_in, child_of, children_of}
 use Rattle.semantic_tree.specs.declared.node.Node.{Node}
 use Rattle.semantic_tree.specs.declared.swap.Setting.{Setting}
-use Rattle.semantic_model.specs.Class.{PrivateUse, Class, uses_under, uses_below, body_count, classes_below, classes}
+use Rattle.semantic_model.specs.Class.{PrivateUse, uses_under, uses_below, body_count, classes_below, classes}
 use Rattle.semantic_model.specs.Element.{Element, element_with, is_implemented, method_kind, element_of_method, element_of, elements_of, element_ids}
 use Rattle.semantic_model.proofs.form.Clauses.{kind_is}
 use Rattle.semantic_model.proofs.swapped.Alike.{text_renamed}
-use Rattle.check_model.specs.Sight.{SeenClass}
 use Rattle.check_model.specs.SightOf.{class_of, classes_around, bodies_of, classes_at, uses_if, uses_at, elements_if, elements_at}
 use Rattle.swapped_checks.specs.SwappedPrograms.{holds_below, holds_within}
 use Rattle.swapped_checks.specs.SwappedSight.{IsRenamed, renamed_at, has_plain_pieces}
 use Rattle.swapped_checks.proofs.ClassRows.{exactly, key_text, key_kept}
 use Rattle.swapped_checks.proofs.PlainForm.{has_own_pieces}
 use Rattle.swapped_checks.proofs.Pairwise.{Each, Both, flat_same}
-use Rattle.swapped_checks.proofs.RenamedNodes.{KeepsWords, kind_agrees, same_kinds, same_ids, plain_text, word_agrees, child_both}
+use Rattle.swapped_checks.proofs.RenamedNodes.{KeepsWords, same_kinds, same_ids, plain_text, word_agrees, child_both}
 use Rattle.swapped_checks.proofs.Spots.{Within}
 
 module _ (f : Name → Name) (keeps : KeepsWords f) (test : Node → Bool) (plain : (n : Node) → test n ≡ true → has_own_pieces n ≡ true) where

@@ -1,8 +1,8 @@
 -- What rules see at a place of a program is what they see at that place of the program with other names, with other names.
-use Rattle.std.proofs.Common.{◌≡◌, ℕ, List, [], ◌∷◌, Option, Some, None, Bool, true, false, ◌&&◌, inl, inr, ◌⊎◌, refl, sym, ap, ◌∙◌, map}
+use Rattle.std.proofs.Common.{◌≡◌, ℕ, List, [], ◌∷◌, Bool, true, inl, inr, refl, ap, ◌∙◌, map}
 use Rattle.std.specs.List.{list_all}
 use Rattle.std.proofs.lemmas.Bool.{and_from}
-use Rattle.semantic_syntax.proofs.Truth.{and_first, and_second}
+use Rattle.semantic_syntax.proofs.Truth.{and_first}
 use Rattle.semantic_syntax.specs.Tables.{Name}
 use Rattle.semantic_kinds.specs.Kinds.{same_kind}
 use Rattle.semantic_kinds.specs.declared.kind.AstType.TheVariants as kind
@@ -11,20 +11,19 @@ use Rattle.semantic_tree.specs.Forest.{Forest}
 use Rattle.semantic_tree.specs.Views.{is, all_in}
 use Rattle.semantic_tree.specs.declared.node.Node.{Node}
 use Rattle.semantic_model.specs.Ambient.{ambient_inside}
-use Rattle.semantic_model.specs.Binding.{Binding, bound_by}
+use Rattle.semantic_model.specs.Binding.{bound_by}
 use Rattle.semantic_model.specs.Fold.{State, Made}
 use Rattle.semantic_model.specs.Place.{Place, OpenScope}
 use Rattle.semantic_model.specs.ScopeKind.{opened_scope}
 use Rattle.semantic_model.specs.Swap.{renamed_key}
-use Rattle.semantic_model.proofs.swapped.AlikeFold.{renamed_made, renamed_bindings, renamed_state, bound_by_same}
+use Rattle.semantic_model.proofs.swapped.AlikeFold.{renamed_made, renamed_state, bound_by_same}
 use Rattle.semantic_model.proofs.swapped.AlikeProgram.{Keeps}
 use Rattle.semantic_model.proofs.swapped.AlikeScopes.{re, opened_same}
 use Rattle.semantic_model.proofs.swapped.AlikeSteps.{SamePlace}
 use Rattle.check_model.specs.Classes.{members}
-use Rattle.check_model.specs.Sight.{Sight, SeenScope}
-use Rattle.check_model.specs.SightOf.{seen_scope, or_own, scopes_at, pair_of, list_if, bound_at, classes_at, uses_at, elements_at, sight_of}
-use Rattle.swapped_checks.specs.SwappedPrograms.{holds_below, holds_within}
-use Rattle.swapped_checks.specs.SwappedSight.{IsRenamed, AreRenamed, IsRenamedSight, HasPlainParts, has_plain_labels, has_plain_pieces, has_plain_keys}
+use Rattle.check_model.specs.SightOf.{seen_scope, or_own, scopes_at, pair_of, list_if, bound_at, sight_of}
+use Rattle.swapped_checks.specs.SwappedPrograms.{holds_below}
+use Rattle.swapped_checks.specs.SwappedSight.{AreRenamed, IsRenamedSight, HasPlainParts, has_plain_labels, has_plain_pieces}
 use Rattle.swapped_checks.proofs.PlainForm.{has_own_pieces}
 use Rattle.swapped_checks.proofs.Pairwise.{Each, flat_each}
 use Rattle.swapped_checks.proofs.RenamedNodes.{KeepsWords, same_kinds, either_text}

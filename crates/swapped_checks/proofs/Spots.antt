@@ -1,9 +1,8 @@
 -- A program with other names is walked through the same places, whose nodes and paths are renamed.
-use Rattle.std.proofs.Common.{◌≡◌, ℕ, ◌+◌, List, [], ◌∷◌, ◌++◌, Option, Some, None, cond, Bool, true, false, not, ◌&&◌, refl, sym, ap, subst, ◌∙◌}
+use Rattle.std.proofs.Common.{◌≡◌, ℕ, ◌+◌, List, [], ◌∷◌, ◌++◌, Option, Some, None, cond, Bool, true, false, not, ◌&&◌, sym, ap, subst, ◌∙◌}
 use Rattle.semantic_syntax.proofs.Truth.{and_first, and_second}
 use Rattle.std.proofs.lemmas.Bool.{and_from}
 use Rattle.semantic_syntax.specs.Tables.{Name}
-use Rattle.semantic_kinds.specs.declared.kind.AstType.{AstType}
 use Rattle.semantic_kinds.specs.declared.role.Role.{Role}
 use Rattle.semantic_kinds.specs.declared.role.Role.TheVariants as role
 use Rattle.semantic_tree.specs.Forest.{Forest, nothing, tree}

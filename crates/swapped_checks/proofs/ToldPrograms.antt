@@ -1,13 +1,11 @@
 -- The diagnostics of a program with other names are those of the program, told again.
-use Rattle.std.proofs.Common.{◌≡◌, ℕ, List, [], ◌∷◌, ◌++◌, Option, Some, None, cond, if◌then◌else◌, Bool, true, false, ◌&&◌, ◌||◌, not, inl, inr, ◌⊎◌, refl, sym, ap, subst, ◌∙◌, map, length, drop, bytes_eq, codes}
+use Rattle.std.proofs.Common.{◌≡◌, ℕ, List, [], ◌∷◌, ◌++◌, None, cond, if◌then◌else◌, Bool, true, false, ◌&&◌, ◌||◌, not, refl, sym, ap, subst, ◌∙◌, map, length, drop, bytes_eq, codes}
 use Rattle.std.specs.Prelude.{filter_map}
 use Rattle.std.specs.List.{cons_option}
 use Rattle.std.specs.Str.{encode_utf8_all}
 use Rattle.std.proofs.lemmas.List.{append-nil, length-map, drop-map}
-use Rattle.std.proofs.lemmas.Bool.{cases_Bool}
 use Rattle.semantic_syntax.proofs.Truth.{and_first, and_second}
 use Rattle.semantic_syntax.specs.Tables.{Name, Tables}
-use Rattle.semantic_syntax.specs.declared.references.Reference.{Reference}
 use Rattle.semantic_kinds.specs.Roles.{same_role}
 use Rattle.semantic_kinds.specs.declared.kind.AstType.TheVariants as kind
 use Rattle.semantic_kinds.specs.declared.role.Role.TheVariants as role
@@ -16,16 +14,15 @@ use Rattle.semantic_tree.specs.Renamed.{swap, renamed_tree, swapped_tree}
 use Rattle.semantic_tree.specs.Tree.{Tree}
 use Rattle.semantic_tree.specs.Views.{is}
 use Rattle.semantic_tree.specs.declared.node.Node.{Node}
-use Rattle.semantic_diagnostics.specs.declared.diagnostic.Diagnostic.{Diagnostic}
 use Rattle.semantic_model.specs.Declaration.{How, plain, hoisted, moved, caught, Declaration}
 use Rattle.semantic_model.specs.Binder.{declared_on_entering, declared_on_opening}
-use Rattle.semantic_model.specs.Event.{Event, takes_over, declares, declared_at, written_declarations, any_bars, is_barred, staying, placed_by, is_catch_body, taken_over, declares_all, events_of, events}
+use Rattle.semantic_model.specs.Event.{takes_over, declares, written_declarations, any_bars, is_barred, staying, placed_by, is_catch_body, taken_over, declares_all, events_of, events}
 use Rattle.semantic_model.specs.Fold.{Conflict, State, start}
 use Rattle.semantic_model.specs.Hoist.{run}
 use Rattle.semantic_model.specs.Place.{Place, OpenScope, innermost, outside}
 use Rattle.semantic_model.specs.Reference.{references}
 use Rattle.semantic_model.specs.Step.{Step, entering, opening, header_ending, closing, leaving, steps}
-use Rattle.semantic_model.specs.TablesOf.{entry_of, tables_of}
+use Rattle.semantic_model.specs.TablesOf.{entry_of}
 use Rattle.semantic_model.specs.Tie.{Tie, symbol_of, ties}
 use Rattle.semantic_model.proofs.swapped.Alike.{map_append}
 use Rattle.semantic_model.proofs.swapped.AlikeBinder.{renamed_declaration, ren, parent_kind}
@@ -35,7 +32,6 @@ use Rattle.semantic_model.proofs.swapped.AlikeProgram.{Keeps, swap_keeps, progra
 use Rattle.semantic_model.proofs.swapped.AlikeSteps.{SamePlace, AlikeStep, AlikeSteps}
 use Rattle.semantic_model.proofs.swapped.AlikeTies.{tables_renamed}
 use Rattle.check_model.specs.DiagnosticsOf.{told, conflicts_since, rows_at, told_along, free_of, diagnostics_of}
-use Rattle.check_model.specs.Rows.{rows_of}
 use Rattle.check_model.specs.SightOf.{free_by, free_nodes, sight_of}
 use Rattle.swapped_checks.specs.SwappedPrograms.{holds_within, is_other_string}
 use Rattle.swapped_checks.specs.RuleWords.{rule_words, is_rule_word}
