@@ -89,7 +89,7 @@ module _ (p : Tree) (faultless : first_fault p ≡ None) (numbered : IsNumbered 
   is_program = sym (has_form p faultless).root
 
   module _ (free : first_fixed (exported_names (steps p)) (bears_name (analysis_of p) s) (steps p) ≡ None) (alone : BelongsTo p s y.name) (unused : IsUnused p new) where
-    is_swapped : q ≡ swapped_tree y.name new unmarked
+    pub is_swapped : q ≡ swapped_tree y.name new unmarked
     is_swapped =
         let shed : Node → Marks = without_where (sheds chosen) mark.Shorthand in
         let stands : AloneIn chosen y.name new Elsewhere p.root.children = stands_alone p faultless numbered s y there free new alone unused in

@@ -17,4 +17,5 @@ pub mod Programs
 pub mod Rows
 pub mod BackAllowed
 pub mod AloneConflicts
+pub mod AloneErrors
 pub mod KeptSymbols
