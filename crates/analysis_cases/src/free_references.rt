@@ -48,7 +48,7 @@ fn free_in(alloc: Global, program: &Program) -> Result<(Vec<u32>, Vec<u32>), All
 fn what_is_free_is_told_by_node_and_by_reference(rt: HostRuntime) -> Result<(), Fail> {
     let program = read_program(rt.alloc(), ONE_FREE.as_bytes())?;
     let (nodes, references) = free_in(rt.alloc(), &program)?;
-    assert_eq!(rt; nodes.as_slice(), &[7]);
-    assert_eq!(rt; references.as_slice(), &[1]);
+    assert_eq!(rt; nodes.as_slice(), [7].as_slice());
+    assert_eq!(rt; references.as_slice(), [1].as_slice());
     Ok(())
 }
