@@ -1,13 +1,21 @@
 """What a build says on standard error: in a terminal a line that is written over, elsewhere plain lines, one a minute. All times are in seconds."""
 
 import contextlib
-import shutil
+import os
 import sys
 import time
 
 SAYS_EVERY = 60
 SHOWS_EVERY = 0.5
 BAR = 20
+COLUMNS = 80
+
+
+def columns():
+    """How wide the terminal on standard error is: standard output may be a pipe."""
+    with contextlib.suppress(OSError):
+        return os.get_terminal_size(sys.stderr.fileno()).columns or COLUMNS
+    return COLUMNS
 
 
 class Progress:
@@ -39,7 +47,7 @@ class Progress:
         """Shows how far the build is."""
         if self.is_terminal:
             self.shown = time.monotonic()
-            self.write(f"\r{text[:shutil.get_terminal_size().columns - 1]}\x1b[K")
+            self.write(f"\r{text[:columns() - 1]}\x1b[K")
             self.is_line_open = True
         else:
             self.say(text)

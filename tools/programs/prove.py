@@ -208,7 +208,9 @@ class Proof:
     def show(self):
         """Shows how far the proof is."""
         done = sum(it.is_done for it in self.crates)
-        how_far = f"{done} of {len(self.crates)} crates, {self.progress.seconds() / 60:.0f} min so far, some {self.forecast.seconds_left() / 60:.0f} min left"
+        left, so_far = self.forecast.seconds_left() / 60, self.progress.seconds() / 60
+        # What is wanted most stands first, since a terminal may cut the line.
+        how_far = f"some {left:.0f} min left, {so_far:.0f} min so far, {done} of {len(self.crates)} crates"
         at_work = ", ".join(it.name for it in self.at_work())
         self.progress.show_part(self.names, self.forecast.percent(), f"{how_far}: {at_work}")
 
