@@ -5,6 +5,7 @@
 
 ghost use Rattle.std.specs.Prelude.{◌<◌, length, IfSome};
 
+pub mod one_node;
 pub mod swapped;
 
 use scoping::Scoping;

@@ -1,0 +1,26 @@
+//! The early errors of one node alone, as whoever walks a tree without the analysis asks for them.
+ghost use Rattle.std.specs.Prelude.{◌≡◌, ◌++◌, true, false, Ok};
+ghost use Rattle.check_model.specs.Rows.{rows_of};
+ghost use Rattle.check_context.specs.Handed.{sight};
+
+use checker::{CheckContext, check, is_checkable};
+use semantic_diagnostics::Diagnostics;
+use semantic_tree::AstKind;
+use std::alloc::{AllocError, Global};
+
+/// Adds the early errors of the node, and tells whether it could: where node and context don't fit together nothing is told.
+pub fn add_early_errors<'a>(
+    alloc: Global,
+    kind: AstKind<'a>,
+    ctx: &CheckContext<'a, '_>,
+    out: &mut Diagnostics,
+) -> Result<bool, AllocError>
+    ensures told { result ≡ Ok true → out.new ≡ out.old ++ rows_of (sight kind.entry.node.now ctx.now) }
+    ensures unfit { result ≡ Ok false → out.new ≡ out.old }
+{
+    if !is_checkable(kind, ctx) {
+        return Ok(false);
+    }
+    check(alloc, kind, ctx, out)?;
+    Ok(true)
+}
