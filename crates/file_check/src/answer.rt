@@ -9,7 +9,7 @@ ghost use Rattle.program_ends.specs.Answering.{WritesAll};
 ghost use Rattle.report_answers.specs.Codes.{status_for};
 ghost use Rattle.report_answers.specs.Found.{found_in};
 ghost use Rattle.report_answers.specs.Report.{answer_text};
-ghost use Rattle.name_lint.specs.Codes as names;
+ghost use Rattle.name_lint.specs.Codes as lint;
 ghost use Rattle.name_lint.specs.Gathered.{text_of, span_of};
 ghost use Rattle.name_lint.specs.Lines.{name_lines};
 ghost use Rattle.file_check.specs.Asked.{check_request};
@@ -63,7 +63,7 @@ fn finish_both<K: Sink>(
         ++ name_lines ret.now.semantic.scoping (map text_of nodes.now)
         (map span_of nodes.now) names.now.unused names.now.undeclared)
         (status_of_both (status_for ret.now.diagnostics)
-        (names.status_for names.now.unused names.now.undeclared)) result }
+        (lint.status_for names.now.unused names.now.undeclared)) result }
 {
     let reported = finish_answer(alloc, check_request(), ret, out)?;
     let named = finish_names(alloc, ret.semantic.scoping(), nodes, names, out)?;

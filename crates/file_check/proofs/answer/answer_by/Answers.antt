@@ -1,7 +1,7 @@
 use Rattle.std.proofs.Common.{◌≡◌, ◌++◌, ℕ, List, length, map, sym, ap, ◌∙◌, refl}
 use Rattle.std.proofs.lemmas.List.{length-map}
 use Rattle.semantic_model.specs.Step.{steps}
-use Rattle.name_lint.specs.Codes as names
+use Rattle.name_lint.specs.Codes as lint
 use Rattle.name_lint.specs.Gathered.{Gathered, text_of, span_of}
 use Rattle.name_lint.specs.Known.{names_of}
 use Rattle.name_lint.specs.Lines.{name_lines}
@@ -41,7 +41,7 @@ returns g c =
     gives g.K.Sink.held g.K.Sink.faults end_of (Answers c.args.words.now) c.args.program.now _ _
     (answer_text check_request (found_in c.args.ret.now)
     ++ name_lines c.args.ret.now.semantic.scoping (map text_of c.references.result.now) (map span_of c.references.result.now) c.in_ok-names.names.unused c.in_ok-names.names.undeclared)
-    (status_of_both (report.status_for c.args.ret.now.diagnostics) (names.status_for c.in_ok-names.names.unused c.in_ok-names.names.undeclared)) c.finish_both.result
+    (status_of_both (report.status_for c.args.ret.now.diagnostics) (lint.status_for c.in_ok-names.names.unused c.in_ok-names.names.undeclared)) c.finish_both.result
     (record {
       report_end = report.end_of (report.status_for c.args.ret.now.diagnostics);
       report_text = answer_text check_request (found_in c.args.ret.now);
@@ -52,15 +52,15 @@ returns g c =
         told = ap (λ (labels : List ℕ). answer_text check_request (record (found_of c.args.program.now c.args.ret.now.semantic.scoping c.args.ret.now.diagnostics) { labels = labels })) c.requires.labels;
         ends = refl;
       };
-      names_end = end_of (names.status_for c.in_ok-names.names.unused c.in_ok-names.names.undeclared);
+      names_end = end_of (lint.status_for c.in_ok-names.names.unused c.in_ok-names.names.undeclared);
       names_text = name_lines c.args.ret.now.semantic.scoping (map text_of c.references.result.now) (map span_of c.references.result.now) c.in_ok-names.names.unused c.in_ok-names.names.undeclared;
       named = record {
         unused = c.in_ok-names.names.unused;
         are_unused = c.in_ok-names.ensures.unused;
         told = lines_told c.args.program.now c.args.ret.now.semantic.scoping _ _ _ _ _ c.requires.analysis.tables texts spans c.in_ok-names.ensures.undeclared;
-        ends = ap (λ (xs : List ℕ). end_of (names.status_for c.in_ok-names.names.unused xs)) c.in_ok-names.ensures.undeclared;
+        ends = ap (λ (xs : List ℕ). end_of (lint.status_for c.in_ok-names.names.unused xs)) c.in_ok-names.ensures.undeclared;
       };
       told = refl;
-      ends = ends_of_both (report.status_for c.args.ret.now.diagnostics) (names.status_for c.in_ok-names.names.unused c.in_ok-names.names.undeclared);
+      ends = ends_of_both (report.status_for c.args.ret.now.diagnostics) (lint.status_for c.in_ok-names.names.unused c.in_ok-names.names.undeclared);
     })
     c.finish_both.ensures
