@@ -72,7 +72,8 @@ class AnalysedDocument {
     return new Answers({ text, tree, ...answers, positions: this.places.positions });
   }
 
-  // What the programs answer on the tree, as bolgwyr check asks them. Once they have it there is time to prepare what their answers are read with.
+  // What the programs answer on the tree, as bolgwyr check asks them. Once they have it there is time to prepare what their answers are
+  // read with.
   async ask(tree) {
     const tools = toolsFor(PROGRAMS);
     let waiting = tools.length;

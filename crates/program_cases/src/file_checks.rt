@@ -99,5 +99,5 @@ pub fn write_all(rt: &HostRuntime) -> io::Result<()> {
     write_run(rt, tree.as_str(), 0, 0)?;
     write_run(rt, tree.as_str(), 1, 0)?;
     write_run(rt, tree.as_str(), 0, 1)?;
-    write_run(rt, tree.as_str(), 0, 2)
+    write_run(rt, tree.as_str(), 0, 18)
 }
