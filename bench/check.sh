@@ -33,7 +33,7 @@ part() { node $flags bench/check-parts.js "$@"; }
 parsing() { part parse <"$scratch/files"; }
 conversion() { part convert <"$scratch/files"; }
 eslint() { node --max-old-space-size=8192 --max-semi-space-size=32 bench/check-parts.js eslint "$scratch"; }
-programs() { for tree in "$scratch"/trees/*; do "$program" report --check <"$tree"; "$program" name_lint <"$tree"; done; }
+programs() { for tree in "$scratch"/trees/*; do "$program" file_check <"$tree"; done; }
 check() { xargs -d '\n' -n 100000 -s 1900000 bin/bolgwyr check --no-cache --format unix <"$scratch/files"; }
 parts='check eslint parsing conversion programs'
 

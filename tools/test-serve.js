@@ -70,6 +70,7 @@ const REQUESTS = [
   [['mangler', '--toplevel'], sample('function.json')],
   [['name_lint', 'b'], sample('names.json')],
   [['tangled_names'], sample('tangled.json')],
+  [['file_check', 'b'], sample('names.json')],
   [['module_linker'], sample('modules.json')],
   [['report'], Buffer.alloc(0)],
 ];
@@ -155,11 +156,12 @@ async function tryStandIns(folder) {
 }
 
 // Many requests at once, of one tool and of several, are each answered as when they stand alone.
-async function tryPool(isTogether) {
-  const pool = new Pool({ size: 3, programs: programsFor(['report', 'name_lint']), isTogether });
+async function tryPool(enough) {
+  const pool = new Pool({ size: 3, programs: programsFor(['report', 'name_lint']), enough });
   const words = { report: ['--check'], name_lint: [] };
   const inputs = ['function.json', 'names.json', 'tangled.json', 'assignment.json'].map(sample);
-  const runs = await Promise.all([...inputs, ...inputs, ...inputs].map((input) => pool.runAll(Object.keys(words), words, input)));
+  const runAll = (input) => Promise.all(Object.keys(words).map((tool) => pool.run(tool, words[tool], input)));
+  const runs = await Promise.all([...inputs, ...inputs, ...inputs].map(runAll));
   pool.close();
   runs.forEach((pair, at) => Object.keys(words).forEach((tool, place) => {
     const { status, stdout, stderr } = pair[place];
@@ -171,8 +173,8 @@ async function main() {
   const folder = fs.mkdtempSync(path.join(os.tmpdir(), 'bolgwyr-test-'));
   try {
     await tryStandIns(folder);
-    await tryPool(true);
-    await tryPool(false);
+    await tryPool(3);
+    await tryPool(1);
   } finally {
     fs.rmSync(folder, { recursive: true, force: true });
   }

@@ -43,9 +43,12 @@ function fail(tool, { status, signal, stderr }) {
   throw new RunFault(`${program}: status ${status}${line === '' ? '' : `: ${line}`}`);
 }
 
-// The run of a tool, where it has an answer: statuses 0 and 1. A report is never empty.
+// Tools whose answer is a report, or begins with one. A report is never empty.
+const REPORTING = ['report', 'file_check'];
+
+// The run of a tool, where it has an answer: statuses 0 and 1.
 function answered(tool, run) {
-  const has = (run.status === 0 || run.status === 1) && (tool !== 'report' || run.stdout.length > 0);
+  const has = (run.status === 0 || run.status === 1) && (!REPORTING.includes(tool) || run.stdout.length > 0);
   return has ? run : fail(tool, run);
 }
 

@@ -8,11 +8,8 @@ const { Refusal } = require('../analyse/refusal.js');
 const { convertText } = require('../analyse/tree.js');
 const { Answers } = require('./answers.js');
 const { findingsOf, syntaxFinding } = require('./findings.js');
+const { WORDS, answersIn, toolsFor } = require('./requests.js');
 const { programsFor } = require('./rules.js');
-
-// The words with which each program is asked. No name is told to the lint of names: what it says without is filtered by
-// the names that are known, which is what it does itself, and a thousand words cost more than its answer.
-const WORDS = { name_lint: [], report: ['--check'] };
 
 function treeOf(text, settings) {
   const tree = convertText(text, settings);
@@ -20,10 +17,10 @@ function treeOf(text, settings) {
   return tree;
 }
 
-// The findings by the runs of the programs.
-function judge(text, tree, runs, settings) {
-  const { name_lint: names, report } = runs;
-  return findingsOf(new Answers({ text, tree, names: names?.stdout, report: report?.stdout }), settings);
+// The findings by the runs of some tools, in their order.
+function judge(text, tree, tools, runs, settings) {
+  const written = Object.fromEntries(tools.map((tool, at) => [tool, runs[at].stdout]));
+  return findingsOf(new Answers({ text, tree, ...answersIn(written) }), settings);
 }
 
 // What a refusal comes to: a finding where there is a place, else the file has no answer.
@@ -38,8 +35,8 @@ function refused(error) {
 function checkText(text, settings) {
   try {
     const tree = treeOf(text, settings);
-    const runs = programsFor(settings.rules).map((tool) => [tool, askAbout(tree, tool, WORDS[tool])]);
-    return judge(text, tree, Object.fromEntries(runs), settings);
+    const tools = toolsFor(programsFor(settings.rules));
+    return judge(text, tree, tools, tools.map((tool) => askAbout(tree, tool, WORDS[tool])), settings);
   } catch (error) {
     return refused(error);
   }
@@ -57,10 +54,10 @@ function sound(tree, tool, run) {
 async function checkBy(pool, text, settings) {
   try {
     const tree = treeOf(text, settings);
-    const tools = programsFor(settings.rules);
-    const runs = await pool.runAll(tools, WORDS, tree.json);
+    const tools = toolsFor(programsFor(settings.rules));
+    const runs = await Promise.all(tools.map((tool) => pool.run(tool, WORDS[tool], tree.json)));
     tools.forEach((tool, at) => sound(tree, tool, runs[at]));
-    return judge(text, tree, Object.fromEntries(tools.map((tool, at) => [tool, runs[at]])), settings);
+    return judge(text, tree, tools, runs, settings);
   } catch (error) {
     return refused(error);
   }

@@ -5,14 +5,14 @@ const { Pool } = require('../programs/pool.js');
 const { checkBy } = require('./check.js');
 const { resultOf } = require('./one-file.js');
 
-// How many trees wait for a program: enough that none is idle.
+// How many trees wait for a program: enough that none is idle, and that another one is worth its start.
 const WAITING = 3;
 
 const breath = () => new Promise((resolve) => { setImmediate(resolve); });
 
 // Jobs: `{ file, name, settings, place }`; `told` hears the place and the result of each as it comes. `size` is how many programs there are.
 async function checkMany(jobs, { stamp, programs, size }, told) {
-  const pool = new Pool({ size, programs, isTogether: jobs.length > 1 });
+  const pool = new Pool({ size, programs, enough: WAITING });
   const waiting = new Set();
   const faults = [];
   const begin = (job) => {

@@ -6,6 +6,7 @@ const os = require('os');
 const { RunFault } = require('../bolgwyr/faults.js');
 const { programsFor } = require('../programs/index.js');
 const { keptResult } = require('./one-file.js');
+const { toolsFor } = require('./requests.js');
 const { PROGRAMS } = require('./rules.js');
 
 // What a thread more is worth: it has to compile all code anew, which takes as long as a fraction of so many bytes do.
@@ -70,7 +71,7 @@ async function checkAnew(jobs, stamp, told) {
     await checkByThreads(sorted, threads, settings, told);
   } else {
     const { checkMany } = require('./many-files.js');
-    await checkMany(sorted, { ...settings, size: Math.min(processors, PROGRAMS.length * jobs.length) }, told);
+    await checkMany(sorted, { ...settings, size: Math.min(processors, toolsFor(PROGRAMS).length * jobs.length) }, told);
   }
 }
 

@@ -8,13 +8,12 @@ const { parseReport } = require('../analyse/report-parser.js');
 const { Refusal } = require('../analyse/refusal.js');
 const { convertText } = require('../analyse/tree.js');
 const { Answers } = require('../check/answers.js');
+const { WORDS, answersIn, toolsFor } = require('../check/requests.js');
+const { PROGRAMS } = require('../check/rules.js');
 const { Analysed, LONE_HALF } = require('../rename/analysed.js');
 const { Names } = require('./names.js');
 const { Places } = require('./places.js');
 const { runBeside } = require('./programs.js');
-
-// What is asked of each program, as bolgwyr check asks it.
-const WORDS = { report: ['--check'], name_lint: [] };
 
 function sound(tree, tool, run) {
   try {
@@ -68,14 +67,15 @@ class AnalysedDocument {
     const tree = convertText(text, { file: name, clock, changing: this.changing });
     checkSize(tree.json.length, 'its tree');
     const started = performance.now();
-    const [report, names] = await this.ask(tree);
+    const answers = await this.ask(tree);
     clock.programs = performance.now() - started;
-    return new Answers({ text, tree, names, report, positions: this.places.positions });
+    return new Answers({ text, tree, ...answers, positions: this.places.positions });
   }
 
-  // What the programs answer on the tree. Once they have it there is time to prepare what their answers are read with.
-  ask(tree) {
-    const tools = Object.keys(WORDS);
+  // What the programs answer on the tree, as bolgwyr check asks them. Once they have it there is time to prepare what their answers are
+  // read with.
+  async ask(tree) {
+    const tools = toolsFor(PROGRAMS);
     let waiting = tools.length;
     const sent = () => {
       waiting -= 1;
@@ -83,7 +83,8 @@ class AnalysedDocument {
         this.places.prepare();
       }
     };
-    return Promise.all(tools.map(async (tool) => sound(tree, tool, await runBeside(tool, WORDS[tool], tree.json, sent))));
+    const written = tools.map(async (tool) => [tool, sound(tree, tool, await runBeside(tool, WORDS[tool], tree.json, sent))]);
+    return answersIn(Object.fromEntries(await Promise.all(written)));
   }
 
   // The tables, as the renamer takes them.

@@ -29,8 +29,8 @@ let pool = null;
 
 // The run of a tool on a tree, in the form of `runTool`; `sent()` hears that the program has the tree.
 function runBeside(tool, words, input, sent) {
-  pool ??= new Pool({ size: SIDE_BY_SIDE, programs: programsFor(TOOLS), isTogether: false });
-  return pool.run(tool, words, input, { sent });
+  pool ??= new Pool({ size: SIDE_BY_SIDE, programs: programsFor(TOOLS) });
+  return pool.run(tool, words, input, sent);
 }
 
 // Has the programs drop what they are at.

@@ -19,7 +19,7 @@ const isInstalled = () => fs.existsSync(INSTALLED);
 // The report program that is to run in the place of the repository's own.
 const GIVEN = { [REPORT_ALONE]: 'BOLGWYR_REPORT' };
 
-const isNamed = () => Boolean(process.env[GIVEN[REPORT_ALONE]]);
+const isReportGiven = () => Boolean(process.env[GIVEN[REPORT_ALONE]]);
 
 // Whether the folder that is named for programs has the one with the report alone.
 function isInFolder() {
@@ -31,10 +31,10 @@ const asked = (tool, isAlone) => (isAlone ? { crate: REPORT_ALONE, words: [] } :
 
 // The crate whose program answers many requests to a tool, and the words by which that program knows it. All tools are in one program,
 // so that one is to be built.
-const servedBy = (tool) => asked(tool, tool === 'report' && isNamed());
+const servedBy = (tool) => asked(tool, tool === 'report' && isReportGiven());
 
 // The same for a program that runs for one answer.
-const runBy = (tool) => asked(tool, tool === 'report' && (isNamed() || isInFolder()));
+const runBy = (tool) => asked(tool, tool === 'report' && (isReportGiven() || isInFolder()));
 
 // The crates whose programs answer requests to some tools.
 const cratesOf = (tools) => [...new Set(tools.map((tool) => servedBy(tool).crate))];
@@ -130,4 +130,4 @@ function runTool(tool, words, input) {
   return { status: run.status, signal: run.signal, stdout: run.stdout, stderr: run.stderr.toString('utf8') };
 }
 
-module.exports = { CRATES, SERVING, STATES, cratesOf, isInstalled, prepare, programPath, programsFor, prove, readyOf, runBy, runTool, servedBy };
+module.exports = { CRATES, SERVING, STATES, cratesOf, isInstalled, isReportGiven, prepare, programPath, programsFor, prove, readyOf, runBy, runTool, servedBy };

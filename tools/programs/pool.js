@@ -23,24 +23,14 @@ function runOnce(program, words, input) {
   });
 }
 
-// How many requests wait at a program before another one is started beside it: to start one takes longer than most answers do.
-const ENOUGH = 6;
-
 class Pool {
-  // `size` is how many programs there are at most; `programs` tells where those of the crates stand; `isTogether`, whether one of them gets
-  // all that is asked of an input, which takes less than to wake several.
-  constructor({ size, programs, isTogether }) {
+  // `size` is how many programs there are at most; `programs` tells where those of the crates stand; `enough`, how many requests wait at a
+  // program before another one is started beside it: to start one takes longer than most answers do.
+  constructor({ size, programs, enough = 1 }) {
     this.size = size;
     this.programs = programs;
-    this.isTogether = isTogether;
-    this.enough = isTogether ? ENOUGH : 1;
+    this.enough = enough;
     this.served = [];
-  }
-
-  // The runs of some tools on an input; each is asked with the words that it has in the table.
-  runAll(tools, words, input) {
-    const one = this.isTogether ? this.idlest() : undefined;
-    return Promise.all(tools.map((tool) => this.run(tool, words[tool], input, { program: one })));
   }
 
   // The program that has least to do, or one more where all have enough.
@@ -55,10 +45,10 @@ class Pool {
   }
 
   // The run of a tool on an input, in the form of `runTool`; `sent()` hears that a program that stays has the input.
-  run(tool, words, input, { program = this.idlest(), sent } = {}) {
+  run(tool, words, input, sent) {
     const { crate, words: own } = servedBy(tool);
     const all = [...own, ...words];
-    return crate === SERVING ? program.run(all, input, sent) : runOnce(this.programs[crate], all, input);
+    return crate === SERVING ? this.idlest().run(all, input, sent) : runOnce(this.programs[crate], all, input);
   }
 
   // Drops all that programs that stay are asked.

@@ -16,6 +16,6 @@ mod undeclared_names;
 pub use finding::find_names;
 pub use found_names::{NameReport, names_by, names_in};
 pub use id_lists::{IdList, ReferenceIdList, SymbolIdList};
-pub use program::{USAGE, run_names};
+pub use program::{USAGE, are_names, finish_names, run_names};
 pub use program_ends::FindingStatus as NamesStatus;
 pub use tree_pass::TreePass;

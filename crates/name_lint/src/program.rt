@@ -37,8 +37,8 @@ fn is_name(word: &str) -> bool
     !word.is_empty()
 }
 
-/// Whether the words are names.
-fn are_names(words: &[String]) -> bool
+/// Whether the words are names: none is empty.
+pub fn are_names(words: &[String]) -> bool
     ensures { IsTrue result ↔ AreNames words.now }
 {
     words.iter().all(|word| is_name(word.as_str()))
@@ -55,8 +55,9 @@ fn status_for(report: &NameReport) -> NamesStatus
     }
 }
 
-/// Writes the lines on what was found, and gives the status for them; `nodes` are the nodes of all references.
-fn finish_answer<K: Sink>(
+/// Writes the lines on what was found, and gives the status for them; `nodes` are the nodes of all references. It answers
+/// `Write` where a call on the sink failed or took nothing, and `Memory`. The sink has taken a prefix of the lines then.
+pub fn finish_names<K: Sink>(
     alloc: Global,
     scoping: &Scoping,
     nodes: &[AstKind<'_>],
@@ -89,7 +90,7 @@ fn answer_by<K: Sink>(
 {
     let pass = TreePass::over(alloc, program, tables)?;
     let report = names_by(alloc, program, scoping, tables, &pass, words)?;
-    finish_answer(alloc, scoping, pass.references(), &report, out)
+    finish_names(alloc, scoping, pass.references(), &report, out)
 }
 
 /// Analyses a program, and writes the lines on its names.

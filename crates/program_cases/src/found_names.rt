@@ -10,8 +10,8 @@ use std::alloc::{AllocError, Global};
 use std::{fs, io};
 use tree_json::read_program;
 
-// The names of a text, one a line.
-fn names_in(alloc: Global, text: &str) -> Result<Vec<String>, AllocError> {
+/// The names of a text, one a line.
+pub fn names_in(alloc: Global, text: &str) -> Result<Vec<String>, AllocError> {
     let mut names = Vec::new(alloc);
     for name in text.lines() {
         names.push(String::from_str(alloc, name)?)?;

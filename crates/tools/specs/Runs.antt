@@ -8,12 +8,13 @@ use Rattle.renamer.specs.Meaning as rename_meaning
 use Rattle.mangler_program.specs.Meaning as mangle_meaning
 use Rattle.name_lint.specs.Meaning as lint_meaning
 use Rattle.tangle_lint.specs.Meaning as tangle_meaning
+use Rattle.file_check.specs.Meaning as check_meaning
 use Rattle.module_linker.specs.Meaning as link_meaning
 use Rattle.tools.specs.Ends.{end_of}
 use Rattle.tools.specs.declared.status.ToolStatus.{ToolStatus}
 use Rattle.tools.specs.declared.status.ToolStatus.TheVariants as ran
 use Rattle.tools.specs.declared.tool.Tool.{Tool}
-use Rattle.tools.specs.declared.tool.Tool.TheVariants.{Report, Renamer, Mangler, NameLint, TangledNames, ModuleLinker}
+use Rattle.tools.specs.declared.tool.Tool.TheVariants.{Report, Renamer, Mangler, NameLint, TangledNames, FileCheck, ModuleLinker}
 
 -- what the tool has done at a status of its own
 abbrev pub Means : Tool → SourceCall → SinkCall → SinkCall → List (String Global) → ToolStatus → Type 0
@@ -22,6 +23,7 @@ Means Renamer source out errs words (ran.Rename status) = rename_meaning.Means s
 Means Mangler source out errs words (ran.Mangle status) = mangle_meaning.Means source out errs words status
 Means NameLint source out errs words (ran.Finding status) = lint_meaning.Means source out errs words status
 Means TangledNames source out errs words (ran.Finding status) = tangle_meaning.Means source out errs words status
+Means FileCheck source out errs words (ran.Finding status) = check_meaning.Means source out errs words status
 Means ModuleLinker source out errs words (ran.Finding status) = link_meaning.Means source out errs words status
 Means tool source out errs words status = ⊥
 

@@ -16,7 +16,7 @@ use Rattle.tools.specs.declared.tool.Tool.{Tool}
 
 -- the line on a first word that names no tool
 abbrev pub usage_line : List ℕ
-usage_line = codes "usage: report|renamer|mangler|name_lint|tangled_names|module_linker [WORD ..]\n"
+usage_line = codes "usage: report|renamer|mangler|name_lint|tangled_names|file_check|module_linker [WORD ..]\n"
 
 -- a source that had an input, has this left, and never failed
 abbrev pub source_of : List ℕ → List ℕ → SourceCall

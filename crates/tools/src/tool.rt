@@ -8,6 +8,7 @@ ghost use Rattle.tools.specs.Runs.{IsRunOf, IsGivenBy};
 ghost use Rattle.tools.specs.Usages.{usage_of};
 
 use crate::status::ToolStatus;
+use file_check::run_check;
 use mangler_program::run_mangle;
 use module_linker::run_link;
 use name_lint::run_names;
@@ -20,7 +21,7 @@ use tangle_lint::run_tangled;
 
 /// The line on a first word that names no tool.
 pub const USAGE: &str =
-    "usage: report|renamer|mangler|name_lint|tangled_names|module_linker [WORD ..]\n";
+    "usage: report|renamer|mangler|name_lint|tangled_names|file_check|module_linker [WORD ..]\n";
 
 /// A tool.
 #[derive(Clone, Copy, Debug, PartialEq, Eq)]
@@ -35,6 +36,8 @@ pub enum Tool {
     NameLint,
     /// Tells names for which tables may part from the language.
     TangledNames,
+    /// Tells what the report and the lint of names tell, by one analysis.
+    FileCheck,
     /// Tells what the imports of modules come to.
     ModuleLinker,
 }
@@ -54,6 +57,8 @@ impl Tool {
             Some(Tool::NameLint)
         } else if name == "tangled_names" {
             Some(Tool::TangledNames)
+        } else if name == "file_check" {
+            Some(Tool::FileCheck)
         } else if name == "module_linker" {
             Some(Tool::ModuleLinker)
         } else {
@@ -71,6 +76,7 @@ impl Tool {
             Tool::Mangler => mangler_program::USAGE,
             Tool::NameLint => name_lint::USAGE,
             Tool::TangledNames => tangle_lint::USAGE,
+            Tool::FileCheck => file_check::USAGE,
             Tool::ModuleLinker => module_linker::USAGE,
         }
     }
@@ -93,6 +99,7 @@ impl Tool {
             Tool::Mangler => ToolStatus::Mangle(run_mangle(alloc, words, source, out, errs)),
             Tool::NameLint => ToolStatus::Finding(run_names(alloc, words, source, out, errs)),
             Tool::TangledNames => ToolStatus::Finding(run_tangled(alloc, words, source, out, errs)),
+            Tool::FileCheck => ToolStatus::Finding(run_check(alloc, words, source, out, errs)),
             Tool::ModuleLinker => ToolStatus::Finding(run_link(alloc, words, source, out, errs)),
         }
     }

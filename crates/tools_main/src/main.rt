@@ -12,7 +12,7 @@ use tools::{Tool, Tools};
 
 /// The line on a first word that names no tool.
 const USAGE: &str =
-    "usage: tools_main report|renamer|mangler|name_lint|tangled_names|module_linker|serve [WORD ..]\n";
+    "usage: tools_main report|renamer|mangler|name_lint|tangled_names|file_check|module_linker|serve [WORD ..]\n";
 
 /// Room for the name of a tool, in bytes.
 const LONGEST: usize = 16;

@@ -19,11 +19,11 @@ returns-in_err-pass g c = gives_none g.K.Sink.held g.K.Sink.faults end_of (Answe
 pub returns-in_err-report : goal.returns-in_err-report
 returns-in_err-report g c = gives_none g.K.Sink.held g.K.Sink.faults end_of (Answers c.args.words.now) c.args.program.now c.args.out.now c.from_residual-in_err-report.result c.from_residual-in_err-report.ensures.1
 
-pub finish_answer-requires-clause-unused : goal.finish_answer-requires-clause-unused
-finish_answer-requires-clause-unused g c = unused_below c.args.program.now c.args.scoping.now c.in_ok-report.report.unused c.requires.tables c.in_ok-report.ensures.unused
+pub finish_names-requires-clause-unused : goal.finish_names-requires-clause-unused
+finish_names-requires-clause-unused g c = unused_below c.args.program.now c.args.scoping.now c.in_ok-report.report.unused c.requires.tables c.in_ok-report.ensures.unused
 
-pub finish_answer-requires-clause-undeclared : goal.finish_answer-requires-clause-undeclared
-finish_answer-requires-clause-undeclared g c =
+pub finish_names-requires-clause-undeclared : goal.finish_names-requires-clause-undeclared
+finish_names-requires-clause-undeclared g c =
     let names : map text_of c.references.result.now ≡ reference_names (steps c.args.program.now) = c.references.ensures.names ∙ ap (λ (x : Gathered). x.names) c.in_ok-pass.ensures.gathered in
     undeclared_below (names_of c.args.words.now) c.args.program.now c.in_ok-report.report.undeclared (length c.references.result.now) (sym (ap length names) ∙ length-map c.references.result.now text_of) c.in_ok-report.ensures.undeclared
 
@@ -33,11 +33,11 @@ returns g c =
     let spans : map span_of c.references.result.now ≡ reference_spans (steps c.args.program.now) = c.references.ensures.spans ∙ ap (λ (x : Gathered). x.spans) c.in_ok-pass.ensures.gathered in
     gives g.K.Sink.held g.K.Sink.faults end_of (Answers c.args.words.now) c.args.program.now _ _
     (name_lines c.args.scoping.now (map text_of c.references.result.now) (map span_of c.references.result.now) c.in_ok-report.report.unused c.in_ok-report.report.undeclared)
-    (status_for c.in_ok-report.report.unused c.in_ok-report.report.undeclared) c.finish_answer.result
+    (status_for c.in_ok-report.report.unused c.in_ok-report.report.undeclared) c.finish_names.result
     (record {
       unused = c.in_ok-report.report.unused;
       are_unused = c.in_ok-report.ensures.unused;
       told = lines_told c.args.program.now c.args.scoping.now _ _ _ _ _ c.requires.tables names spans c.in_ok-report.ensures.undeclared;
       ends = ap (λ (xs : List ℕ). end_of (status_for c.in_ok-report.report.unused xs)) c.in_ok-report.ensures.undeclared;
     })
-    c.finish_answer.ensures
+    c.finish_names.ensures
