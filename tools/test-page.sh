@@ -21,9 +21,10 @@ mv "$folder/programs/stored-report.sh" "$folder/programs/report_main"
 ln -sf "${BOLGWYR_PROGRAMS:-$here/../crates/tools_main/out}/tools_main" "$folder/programs/tools_main"
 BOLGWYR_PROGRAMS="$folder/programs" "$bolgwyr" scopes faulty.ts -o "$folder/faulty.html"
 "$bolgwyr" scopes renamed.ts -o "$folder/renamed.html"
+"$bolgwyr" scopes property.ts -o "$folder/property.html"
 (cd project && "$bolgwyr" scopes --project main.mjs -o "$folder/project.html")
 node long-source.js >"$folder/long.mjs"
 "$bolgwyr" scopes "$folder/long.mjs" -o "$folder/long.html"
 node whole.js "$folder/shown.html" shown.mjs "$folder/faulty.html" faulty.ts "$folder/long.html" "$folder/long.mjs" \
-    "$folder/renamed.html" renamed.ts "$folder/project.html" project/main.mjs
+    "$folder/renamed.html" renamed.ts "$folder/property.html" property.ts "$folder/project.html" project/main.mjs
 node page.js "$folder"

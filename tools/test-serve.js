@@ -155,6 +155,29 @@ async function tryStandIns(folder) {
   expect('a program that there is not', true, (await told(missing.run(['a'], Buffer.alloc(0)))).startsWith("can't be run"));
 }
 
+// What is dropped has no answer, and what is asked behind it has one: of another program while the first is at work, else of the same.
+async function tryDropping(folder) {
+  const program = path.join(folder, 'dropping');
+  fs.writeFileSync(program, STAND_IN(9, ''), { mode: 0o755 });
+  const served = new Served(program);
+  const ask = (word) => told(served.run([word], Buffer.alloc(300_000)));
+  const dropped = [ask('a'), ask('b')];
+  const first = served.child;
+  served.abandon();
+  expect('what is dropped', ['wants the answer any more', 'wants the answer any more'], await Promise.all(dropped));
+  expect('what is asked behind it', '1 c', await ask('c'));
+  const second = served.child;
+  const late = ask('d');
+  served.abandon();
+  await late;
+  while (served.waiting.length > 0) {
+    await new Promise((resolve) => setTimeout(resolve, 10));
+  }
+  expect('what is asked later', '1 e', await ask('e'));
+  expect('the programs that answered', [false, true], [first === second, second === served.child]);
+  served.close();
+}
+
 // Many requests at once, of one tool and of several, are each answered as when they stand alone.
 async function tryPool(enough) {
   const pool = new Pool({ size: 3, programs: programsFor(['report', 'name_lint']), enough });
@@ -173,6 +196,7 @@ async function main() {
   const folder = fs.mkdtempSync(path.join(os.tmpdir(), 'bolgwyr-test-'));
   try {
     await tryStandIns(folder);
+    await tryDropping(folder);
     await tryPool(3);
     await tryPool(1);
   } finally {

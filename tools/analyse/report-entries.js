@@ -21,7 +21,7 @@ function numberAt(bytes, from) {
 }
 
 // The lines that begin with a word, which number what they tell of from 0 on. A place is that of the line end before a line: a report has
-// a line of another word first.
+// a line of another word first. Most lines are asked for in order, and found a few lines behind the one before.
 class Numbered {
   constructor(bytes, word) {
     this.bytes = bytes;
@@ -29,16 +29,29 @@ class Numbered {
     this.begin = `${LINE_END}${word} `;
     this.first = bytes.indexOf(this.begin);
     this.last = bytes.lastIndexOf(this.begin);
+    this.found = this.first; // the line that was asked for last
   }
 
   numberAt(place) {
     return numberAt(this.bytes, place + this.begin.length);
   }
 
+  // Two lines: one up to that of a number, and that one or one behind it. Steps from the line that was found last grow.
+  around(number) {
+    let low = this.numberAt(this.found) <= number ? this.found : this.first;
+    for (let step = 1; low < this.last && this.numberAt(low) < number; step *= 2) {
+      const place = this.bytes.indexOf(this.begin, Math.min(low + step, this.last));
+      if (this.numberAt(place) > number) {
+        return [low, place];
+      }
+      low = place;
+    }
+    return [low, low];
+  }
+
   // Where the line of a number begins.
   startOf(number) {
-    let low = this.first;
-    let high = this.last;
+    let [low, high] = this.around(number);
     while (low < high) {
       const middle = (low + high + 1) >>> 1;
       const place = this.bytes.indexOf(this.begin, middle);
@@ -51,6 +64,7 @@ class Numbered {
     if (low === -1 || this.numberAt(low) !== number) {
       throw new RunFault(`the report has no ${this.word} ${number}`);
     }
+    this.found = low;
     return low + LINE_END.length;
   }
 }

@@ -32,7 +32,7 @@ function entry(list, id, what) {
   if (id >= list.length) {
     throw new SyntaxError(`there is no ${what} ${id}`);
   }
-  return list[id];
+  return list.at(id);
 }
 
 // An entry that has this id.
@@ -257,11 +257,28 @@ function parseReport(text, wanted = null) {
   return readLines(text, emptyReport(), wanted);
 }
 
+// A list of which one entry alone is read. Its length counts those before it, too, for which there is no room.
+class LoneEntry {
+  constructor(id) {
+    this.length = id;
+    this.read = undefined;
+  }
+
+  push(made) {
+    this.length += 1;
+    this.read = made;
+  }
+
+  at(id) {
+    return id === this.length - 1 ? this.read : undefined;
+  }
+}
+
 // The entry of this id in a list of a report, of which these lines are.
 function parseEntry(text, list, id) {
-  const report = emptyReport();
-  report[list].length = id;
-  return readLines(text, report, null)[list][id];
+  const entries = new LoneEntry(id);
+  readLines(text, { [list]: entries }, null);
+  return entries.read;
 }
 
 module.exports = { ReportFault, parseEntry, parseReport };

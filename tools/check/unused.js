@@ -80,14 +80,16 @@ function isBeforeUsed(symbol, answers) {
   return lastUsed.get(list) > symbol.span.start;
 }
 
+// A parameter of a constructor that is a property of its class, too, is for whoever has an object of it.
+function isProperty(tree, node) {
+  const { kind, marks } = tree.row(node);
+  return kind === 'FormalParameter' && marks.some((mark) => PROPERTY_MARKS.includes(mark));
+}
+
 function isToldParameter(symbol, answers, options) {
   const { tree } = answers;
   const owner = ownerOf(tree, symbol.node);
-  const { marks } = tree.row(symbol.node);
-  if (options.args === 'none' || isOfSignature(tree, owner) || isOfSetter(tree, owner)) {
-    return false;
-  }
-  if (marks.some((mark) => PROPERTY_MARKS.includes(mark))) {
+  if (options.args === 'none' || isOfSignature(tree, owner) || isOfSetter(tree, owner) || isProperty(tree, symbol.node)) {
     return false;
   }
   return options.args === 'all' || !isPlain(tree, symbol) || !isBeforeUsed(symbol, answers);
@@ -169,4 +171,4 @@ function* unused(answers, { ignore, ...options }, exported) {
   }
 }
 
-module.exports = { unused };
+module.exports = { isProperty, unused };

@@ -7,6 +7,7 @@ const { RefusedTree, answered } = require('../analyse/program.js');
 const { parseReport } = require('../analyse/report-parser.js');
 const { Refusal } = require('../analyse/refusal.js');
 const { convertText } = require('../analyse/tree.js');
+const { RunFault } = require('../bolgwyr/faults.js');
 const { Answers } = require('../check/answers.js');
 const { WORDS, answersIn, toolsFor } = require('../check/requests.js');
 const { PROGRAMS } = require('../check/rules.js');
@@ -30,6 +31,7 @@ class AnalysedDocument {
     this.places = new Places(text, encoding);
     this.clock = {};
     this.kept = new Map();
+    this.isLeft = false; // whether nobody wants answers on this text any more
   }
 
   once(name, make) {
@@ -59,6 +61,14 @@ class AnalysedDocument {
     return this.once('ready', () => this.make());
   }
 
+  // Hears whether the text has changed meanwhile, before the programs are asked.
+  async goesOn() {
+    await new Promise((resolve) => setImmediate(resolve));
+    if (this.isLeft) {
+      throw new RunFault('the document has changed meanwhile');
+    }
+  }
+
   async make() {
     const { text, name, clock } = this;
     if (LONE_HALF.test(text)) {
@@ -66,6 +76,7 @@ class AnalysedDocument {
     }
     const tree = convertText(text, { file: name, clock, changing: this.changing });
     checkSize(tree.json.length, 'its tree');
+    await this.goesOn();
     const started = performance.now();
     const answers = await this.ask(tree);
     clock.programs = performance.now() - started;

@@ -6,8 +6,8 @@ const { Pool } = require('../programs/pool.js');
 
 const TOOLS = ['report', 'name_lint', 'renamer'];
 
-// As many answers as are waited for at once.
-const SIDE_BY_SIDE = 2;
+// As many answers as are waited for at once, and as many beside them that a change has made void.
+const SIDE_BY_SIDE = 4;
 
 const INFO = 3;
 const ERROR = 1;

@@ -8,9 +8,6 @@ const { Documents } = require('./documents.js');
 const { ResponseFault } = require('./faults.js');
 const { uriOf } = require('./methods.js');
 
-// How long no key may have been pressed before a text is analysed unasked.
-const PAUSE_MILLISECONDS = 40;
-
 // How long after its diagnostics the tables of a text are made ready for the next request.
 const LEISURE_MILLISECONDS = 400;
 
@@ -65,9 +62,9 @@ class Server {
     this.analyst = new Analyst({ documents: this.documents, client, told, lost: () => this.end(), log: this.log });
   }
 
-  // Has a document's diagnostics published, once no key was pressed for a while.
-  diagnose(uri, pause = 0) {
-    this.after(pause, uri, () => {
+  // Has a document's diagnostics published, once all is heard that came with what it is told for.
+  diagnose(uri) {
+    this.after(0, uri, () => {
       this.analyst.askLater(uri, 'diagnostics', (diagnostics, version) => this.publish(uri, version, diagnostics));
     });
   }
@@ -131,7 +128,7 @@ const NOTIFICATIONS = {
   'textDocument/didChange': (server, params) => {
     const { uri } = server.documents.change(params.textDocument ?? {}, checkedChanges(params));
     server.analyst.changed(uri);
-    server.diagnose(uri, PAUSE_MILLISECONDS);
+    server.diagnose(uri);
   },
   // The settings around it may have changed.
   'textDocument/didSave': (server, { textDocument }) => server.diagnose(server.documents.get(textDocument?.uri).uri),

@@ -11,6 +11,7 @@ const { ANSWERS } = require('./answers/index.js');
 const { client } = workerData;
 const analysed = new Map();
 const trees = new Map(); // of each document as it changes
+let asked = null; // the document of the last question
 
 function documentOf({ uri, document }) {
   if (!trees.has(uri)) {
@@ -26,6 +27,7 @@ function documentOf({ uri, document }) {
 async function answerTo(question) {
   const notices = [];
   const document = documentOf(question);
+  asked = document;
   try {
     const result = await ANSWERS[question.method](document, question.params, { client, notice: (notice) => notices.push(notice) });
     return { result: JSON.stringify(result ?? null), notices, times: document.timesOnce() };
@@ -37,6 +39,7 @@ async function answerTo(question) {
 
 parentPort.on('message', async (message) => {
   if (message.isVoid) {
+    asked.isLeft = true;
     abandonRuns();
   } else if (message.closed !== undefined) {
     analysed.delete(message.closed);

@@ -17,8 +17,11 @@ class Served {
 
   // The run of a tool on an input, in the form of `runTool`; `sent()` hears that the program has the input.
   run(words, input, sent = UNHEARD) {
+    if (this.waiting.length > 0 && this.waiting.every(({ isDropped }) => isDropped)) {
+      this.leave();
+    }
     return new Promise((resolve, reject) => {
-      const request = { words, input, sent, resolve, reject };
+      const request = { words, input, sent, resolve, reject, isDropped: false };
       this.waiting.push(request);
       if (this.child === null) {
         this.start();
@@ -82,15 +85,21 @@ class Served {
     this.waiting.splice(0).forEach(({ reject }) => reject(fault));
   }
 
-  // Drops what waits: nobody wants the answers any more. Another program stands ready instead of the one that is at work.
+  // Drops what waits: nobody wants the answers any more. The program goes on with it until it is asked again: to end it and to start
+  // another one takes as long as many an answer.
   abandon() {
-    if (this.waiting.length > 0) {
-      const { child } = this;
-      this.child = null;
-      this.fail(new RunFault('nobody wants the answer any more'));
-      child.kill('SIGKILL');
-      this.start();
+    for (const request of this.waiting) {
+      request.isDropped = true;
+      request.reject(new RunFault('nobody wants the answer any more'));
     }
+  }
+
+  // Ends the program with all that waits.
+  leave() {
+    const { child } = this;
+    this.child = null;
+    this.waiting = [];
+    child.kill('SIGKILL');
   }
 
   // Has the program end once it has answered what waits.

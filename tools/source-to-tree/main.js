@@ -2,11 +2,13 @@
 // Reads a source file and writes its tree's JSON to standard output.
 
 const fs = require('fs');
+const { GOALS, PARSERS } = require('./choices');
 const { treeOf, Refusal } = require('./convert');
 const { readText } = require('./input');
 
-const USAGE = 'usage: main.js [--parser acorn|typescript|babel|estree] [--goal script|module|commonjs] [--parsers FOLDER] [--source FILE] [--time] FILE';
-const CHOICES = { '--parser': ['acorn', 'typescript', 'babel', 'estree'], '--goal': ['script', 'module', 'commonjs'], '--parsers': null, '--source': null };
+// An ESTree of another tool is taken, too.
+const CHOICES = { '--parser': [...PARSERS, 'estree'], '--goal': GOALS, '--parsers': null, '--source': null };
+const USAGE = `usage: main.js [--parser ${CHOICES['--parser'].join('|')}] [--goal ${GOALS.join('|')}] [--parsers FOLDER] [--source FILE] [--time] FILE`;
 
 function optionsOf(words) {
   const options = { time: false };

@@ -3,7 +3,7 @@
 // How long after the last of some keys bolgwyr lsp says what it finds in a file of ten thousand lines, and answers a hover: in
 // milliseconds by the clock, and the processor time of the server with the programs that it runs. Other work on the machine counts in
 // the first and not in the second. A fixed loop between the rounds tells how fast the machine is meanwhile, by the same two measures.
-// usage: latency.js [--rounds N] [--within MILLISECONDS]   (status 1 where the median of the clock's is more)
+// usage: latency.js [--rounds N] [--within MILLISECONDS] [--used]   (status 1 where the median of the clock's is more)
 
 const fs = require('fs');
 const path = require('path');
@@ -62,8 +62,8 @@ function processorTime(root) {
 // Where the keys are pressed: behind the name of a function in the middle.
 function placeIn(text) {
   const lines = text.split('\n');
-  const line = lines.findIndex((one) => one.startsWith('function work250('));
-  return { line, character: 'function work250'.length };
+  const line = lines.findIndex((one) => one.includes('function work250('));
+  return { line, character: lines[line].indexOf('(') };
 }
 
 const change = (client, version, range, text) => client.notify('textDocument/didChange', {
@@ -108,14 +108,15 @@ async function main() {
   const program = new Command('latency')
     .option('--rounds <number>', 'how many times', Number, 15)
     .option('--within <milliseconds>', 'how long it may take by the clock', Number, Infinity)
+    .option('--used', 'a file with twenty findings in place of 3,500')
     .parse();
-  const { rounds, within } = program.opts();
-  const text = execFileSync(process.execPath, [SOURCE], { encoding: 'utf8', maxBuffer: Infinity });
+  const { rounds, within, used } = program.opts();
+  const text = execFileSync(process.execPath, [SOURCE, ...(used ? ['--used'] : [])], { encoding: 'utf8', maxBuffer: Infinity });
   const client = new Client();
   await client.request('initialize', { capabilities: {} });
   client.notify('initialized', {});
   client.open(URI, text);
-  await client.diagnosticsOf(URI, 1);
+  const { params: { diagnostics } } = await client.diagnosticsOf(URI, 1);
   Array.from({ length: WARMING }, loop);
   const found = [];
   for (let at = 0; at <= rounds; at += 1) {
@@ -124,7 +125,7 @@ async function main() {
   }
   await client.end();
   const counted = found.slice(1); // the first is for the code to be compiled
-  console.log(`${text.split('\n').length} lines, ${rounds} rounds of ${KEYS.length} keys`);
+  console.log(`${text.split('\n').length} lines, ${diagnostics.length} findings, ${rounds} rounds of ${KEYS.length} keys`);
   console.log(inWords('from the last key until the findings are told, by the clock', counted.map(({ told }) => told)));
   console.log(inWords('processor time of that', counted.map(({ spent }) => spent)));
   console.log(inWords('a hover right behind a key, by the clock', counted.map(({ answered }) => answered)));

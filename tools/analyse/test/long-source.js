@@ -1,11 +1,15 @@
 'use strict';
-// A source of ten thousand lines and more on standard output, with functions in functions, loops, classes and closures.
+// A source of ten thousand lines and more on standard output, with functions in functions, loops, classes and closures. Nothing uses most
+// of its names; with the word --used they are used but for twenty.
+
+const isUsed = process.argv[2] === '--used';
+const EACH = 25; // how many parts there are for one name that nothing uses
 
 const part = (n) => `
 // part ${n}
-function work${n}(list, ...rest) {
+${isUsed ? 'export ' : ''}function work${n}(list, ...rest) {
   const seen = new Map();
-  let count = ${n};
+  let count = ${n};${isUsed && n % EACH === 0 ? '\n  const spare = list.length;' : ''}
   for (const item of list) {
     if (seen.has(item)) {
       count += seen.get(item);

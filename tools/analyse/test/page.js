@@ -6,7 +6,7 @@ const path = require('path');
 const { pathToFileURL } = require('url');
 const { Browser } = require('./browser.js');
 const { click } = require('./tries/asking.js');
-const { tryFindings } = require('./tries/finding.js');
+const { tryFindings, tryProperty } = require('./tries/finding.js');
 const { tryModules, tryScopes } = require('./tries/pictures.js');
 const { tryTies } = require('./tries/project.js');
 const { OPEN_RENAMING, tryLongRenaming, tryRefusals, tryRenaming } = require('./tries/renaming.js');
@@ -52,7 +52,7 @@ async function takePictures({ browser }) {
   }
 }
 
-const TRIES = [tryClicks, tryKeys, tryAddress, tryFindings, tryRenaming, tryRefusals, tryTies, tryScopes, tryModules, tryLong, tryLongRenaming, takePictures];
+const TRIES = [tryClicks, tryKeys, tryAddress, tryFindings, tryProperty, tryRenaming, tryRefusals, tryTies, tryScopes, tryModules, tryLong, tryLongRenaming, takePictures];
 
 async function main() {
   const browser = new Browser();

@@ -1,15 +1,20 @@
 'use strict';
 // Words that commands on source files share.
 
+const { GOALS, PARSERS } = require('../../source-to-tree/choices.js');
 const { load } = require('../../source-to-tree/load.js');
+
+// Adds what is chosen in place of what a file's name tells.
+function addChoices(command) {
+  const { Option } = load('commander');
+  return command
+    .addOption(new Option('--parser <parser>', "in place of what a file's name tells").choices(PARSERS))
+    .addOption(new Option('--goal <goal>', "in place of what a file's name tells").choices(GOALS));
+}
 
 // Adds how a source file is read.
 function addReading(command) {
-  const { Option } = load('commander');
-  return command
-    .option('--stdin-name <file>', 'the name that standard input goes by, which tells its language and goal')
-    .addOption(new Option('--parser <parser>', "in place of what a file's name tells").choices(['acorn', 'typescript']))
-    .addOption(new Option('--goal <goal>', "in place of what a file's name tells").choices(['script', 'module', 'commonjs']));
+  return addChoices(command.option('--stdin-name <file>', 'the name that standard input goes by, which tells its language and goal'));
 }
 
 // Adds what goes on to the report program.
@@ -30,4 +35,4 @@ function reportWords(options) {
 // Standard input goes by the name that it was given.
 const nameOf = (file, options) => (file === '-' ? options.stdinName ?? '-' : file);
 
-module.exports = { addReading, addTables, nameOf, reportWords };
+module.exports = { addChoices, addReading, addTables, nameOf, reportWords };

@@ -15,7 +15,7 @@ const { TreeWriter } = require('../writer');
 const { MARK, commentTexts, hashbang, isOverflow, roomFor } = require('../once');
 const { Refusal } = require('../refusal');
 const { changeBetween } = require('./changes');
-const { copyMovedRows } = require('./moving');
+const { copyMovedRows, numbersEnd } = require('./moving');
 const { isDirective, isInState, movedState, parsePieces } = require('./parsing');
 
 // Why a text isn't taken in pieces. Whoever converts it as a whole says what is wrong with it.
@@ -118,18 +118,24 @@ function checkTogether({ named, goal }, pieces) {
   if (named === undefined && goal === 'module' && !pieces.some((piece) => piece.isModule)) throw new Unfit();
 }
 
-// Where rows begin, in the writer's bytes, as lists one behind the other.
+// Where rows begin, in the writer's bytes, and how far behind that their numbers end, as lists one behind the other.
 class Begins {
   constructor() {
     this.lists = [];
+    this.numbers = [];
+  }
+
+  add(begins, numbers) {
+    this.lists.push(begins);
+    this.numbers.push(numbers);
   }
 
   // Those that were written from a place on, which a comma stands before; gives how many.
   addWritten({ buffer, end }, from) {
     if (from === end) return 0;
-    const list = placesIn(buffer, from, end);
-    this.lists.push(list.subarray(0, -1));
-    return list.length - 1;
+    const list = placesIn(buffer, from, end).subarray(0, -1);
+    this.add(list, Uint16Array.from(list, (begin) => numbersEnd(buffer, begin)));
+    return list.length;
   }
 
   // All of them and the end, so many bytes further on.
@@ -138,6 +144,16 @@ class Begins {
     let count = 0;
     for (const list of this.lists) for (let i = 0; i < list.length; i += 1) all[count++] = list[i] + moved;
     all[count] = end + moved;
+    return all;
+  }
+
+  allNumbers() {
+    const all = new Uint16Array(this.numbers.reduce((sum, list) => sum + list.length, 0));
+    let count = 0;
+    for (const list of this.numbers) {
+      all.set(list, count);
+      count += list.length;
+    }
     return all;
   }
 }
@@ -169,12 +185,14 @@ function writeBefore({ bytes }, begins, known, pieces) {
   bytes.reserve(to - from);
   known.json.copy(bytes.buffer, bytes.end, from, to);
   bytes.end += to - from;
-  begins.lists.push(known.begins.subarray(first, last).map((begin) => begin + moved));
+  begins.add(known.begins.subarray(first, last).map((begin) => begin + moved), known.numbers.subarray(first, last));
 }
 
 function writeBehind({ bytes }, begins, known, pieces, added) {
   const rows = rowsOf(pieces);
-  if (rows > 0) begins.lists.push(copyMovedRows(bytes, known.json, known.begins, known.begins.length - 1 - rows, added));
+  if (rows === 0) return;
+  const written = copyMovedRows(bytes, known, known.begins.length - 1 - rows, added);
+  begins.add(written.begins, written.numbers);
 }
 
 // Writes the tree of what was parsed, and gives what is known of the text then.
@@ -207,6 +225,7 @@ function written(request, parsed, known) {
     json,
     firstRow,
     begins: begins.all(end, firstPlace(json) - writer.start),
+    numbers: begins.allNumbers(),
     pieces,
     anew: fresh.length, // pieces
     comments: parsed.comments,

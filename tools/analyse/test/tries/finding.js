@@ -21,4 +21,12 @@ async function tryFindings({ browser, address, expect }) {
   expect('which is shown', await browser.ask(ids('.visited')), ['finding-4-0']);
 }
 
-module.exports = { tryFindings };
+// A parameter that is a property of its class is no unused name.
+async function tryProperty({ browser, address, expect }) {
+  await browser.open(address('property.html'));
+  expect('unused names in the source', await browser.ask(texts('.source .u')), ['label']);
+  expect('unused names in the list', await browser.ask(texts('#panel-symbols .unused a')), ['label']);
+  expect('unused names that are findings', await browser.ask(texts('#panel-findings .message > a')), ["parameter 'label' is never used"]);
+}
+
+module.exports = { tryFindings, tryProperty };

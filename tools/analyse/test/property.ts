@@ -1,0 +1,3 @@
+export class Shelf {
+  constructor(private books: number, label: string) {}
+}
