@@ -52,10 +52,14 @@ class Kind {
   }
 
   headFor(role) {
-    if (!this.heads.has(role)) this.heads.set(role, wordsOf(`,"${role}","${this.name}",`));
+    let head = this.heads.get(role);
+    if (head === undefined) {
+      head = wordsOf(`,"${role}","${this.name}",`);
+      this.heads.set(role, head);
+    }
     this.lastRole = role;
-    this.lastHead = this.heads.get(role);
-    return this.lastHead;
+    this.lastHead = head;
+    return head;
   }
 }
 
@@ -181,9 +185,13 @@ class TreeWriter {
 
   // The whole text of the tree, as bytes.
   finish({ source, goal, lang, comments }) {
-    const { bytes } = this;
+    const { bytes, offsets } = this;
     const head = Buffer.from(`{"comments":[${comments.join(',')}],"format":1,"goal":"${goal}","lang":"${lang}","rows":[`);
-    bytes.string(`],"source":${JSON.stringify(source)}}`);
+    bytes.ascii('],"source":');
+    const text = JSON.stringify(source);
+    if (offsets.isAscii) bytes.ascii(text);
+    else bytes.string(text);
+    bytes.ascii('}');
     if (head.length + bytes.end - this.start > MOST_BYTES) throw new Refusal('too large');
     if (head.length > this.start) return Buffer.concat([head, bytes.buffer.subarray(this.start, bytes.end)]);
     const first = this.start - head.length;

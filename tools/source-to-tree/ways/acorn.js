@@ -15,6 +15,13 @@ const DYNAMIC_IMPORT_OPTIONS = { what: 'options of `import()`' };
 // Redeclarations pass, and a comma in `import()` that the parser doesn't take is marked.
 function forTheAnalysis(Base) {
   return class extends Base {
+    // acorn adds this property at the first template of a text. All parsers are of one shape where it is there before, and the engine
+    // makes optimized code for one shape.
+    constructor(...given) {
+      super(...given);
+      this.inTemplateElement = false;
+    }
+
     raiseRecoverable(at, message) {
       if (!LEFT_TO_THE_ANALYSIS.test(message)) super.raiseRecoverable(at, message);
     }
