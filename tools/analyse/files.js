@@ -38,13 +38,13 @@ function inputBytes() {
   return input;
 }
 
-// The bytes of a file; `-` is standard input.
-function bytesOf(file) {
+// The bytes of a file, whose size may be known; `-` is standard input.
+function bytesOf(file, size) {
   try {
     if (file === '-') {
       return inputBytes();
     }
-    checkSize(fs.statSync(file).size, 'the file');
+    checkSize(size ?? fs.statSync(file).size, 'the file');
     return fs.readFileSync(file);
   } catch (error) {
     if (error instanceof Refusal) {

@@ -44,22 +44,25 @@ function lastAtMost(list, value) {
   return low;
 }
 
-// Where lines begin behind the line ends of a text, of which most have line feeds alone.
-function* behindLineEnds(text) {
-  if (OTHER_LINE_END.test(text)) {
-    for (const end of text.matchAll(LINE_ENDS)) {
-      yield end.index + end[0].length;
-    }
-    return;
-  }
+// Where lines begin behind line feeds, which are all the line ends that most texts have.
+function behindLineFeeds(text, starts) {
   for (let at = text.indexOf('\n'); at !== -1; at = text.indexOf('\n', at + 1)) {
-    yield at + 1;
+    starts.push(at + 1);
+  }
+}
+
+function behindLineEnds(text, starts) {
+  for (const end of text.matchAll(LINE_ENDS)) {
+    starts.push(end.index + end[0].length);
   }
 }
 
 // A byte order mark belongs to no line.
 function lineStartsOf(text) {
-  return [text.startsWith('\ufeff') ? 1 : 0, ...behindLineEnds(text)];
+  const starts = [text.startsWith('\ufeff') ? 1 : 0];
+  const add = OTHER_LINE_END.test(text) ? behindLineEnds : behindLineFeeds;
+  add(text, starts);
+  return starts;
 }
 
 class Positions {

@@ -45,10 +45,11 @@ function headOf(json) {
 
 // A tree's text as the converter writes it, and what stands in it once that is asked for.
 class Tree {
-  // The places of the rows, where they are known.
-  constructor(json, places) {
+  // What the converter tells besides, where it does: `lang` and `goal`, and the places of the rows or what gives them.
+  constructor(json, { lang, goal, places, placesOf = () => undefined } = {}) {
     this.json = json;
-    this.places = places;
+    this.told = { lang, goal };
+    this.placesOf = places === undefined ? placesOf : () => places;
     this.known = {};
     this.read = new Map(); // the rows that were read, by their nodes
   }
@@ -67,14 +68,22 @@ class Tree {
     return this.kept('head', () => headOf(this.json));
   }
 
+  get lang() {
+    return this.told.lang ?? this.head.lang;
+  }
+
+  get goal() {
+    return this.told.goal ?? this.head.goal;
+  }
+
   // Whether it is TypeScript's.
   get isTyped() {
-    return this.head.lang !== 'js' && this.head.lang !== 'jsx';
+    return this.lang !== 'js' && this.lang !== 'jsx';
   }
 
   // The rows one by one, without a reading of the whole tree.
   get rows() {
-    return this.kept('rows', () => new Rows(this.json, this.places));
+    return this.kept('rows', () => new Rows(this.json, this.placesOf()));
   }
 
   // A row, which isn't to be changed: the next one who asks gets it, too.
@@ -96,8 +105,8 @@ class Tree {
 function convertText(text, { file, parser, goal, clock = {}, changing = require(CONVERTER) }) {
   try {
     const options = { filename: file, clock, ...(parser && { parser }), ...(goal && { goal }) };
-    const { json, places } = changing.treeOf(text, options);
-    return new Tree(json, places);
+    const { json, ...told } = changing.treeOf(text, options);
+    return new Tree(json, told);
   } catch (error) {
     throw refusalOf(error, text);
   }

@@ -79,10 +79,10 @@ function settingsMaker({ parser, goal, ...options }) {
 function jobMaker(options) {
   const configs = new Configs(options.config);
   const settingsFor = settingsMaker(options);
-  return ({ file, isNamed }) => {
+  return ({ file, isNamed, size }) => {
     const name = nameOf(file, options);
     const config = configs.of(name);
-    return isNamed || !config.ignores(name) ? { file, name, settings: settingsFor(config) } : null;
+    return isNamed || !config.ignores(name) ? { file, name, size, settings: settingsFor(config) } : null;
   };
 }
 

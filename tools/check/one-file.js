@@ -27,10 +27,10 @@ function failed({ file }, error) {
   return { file, findings: [], failure: error.message };
 }
 
-// The result of a job, `{ file, name, settings }`; `check` gives the findings of a text. Without a stamp nothing is kept, and there is no key.
+// The result of a job, `{ file, name, settings }` and its `size` where that is known; `check` gives the findings of a text. Without a stamp nothing is kept, and there is no key.
 async function resultOf(job, stamp, check) {
   try {
-    const bytes = bytesOf(job.file);
+    const bytes = bytesOf(job.file, job.size);
     const { text, findings } = textOf(bytes);
     const found = findings ?? await check(text, { ...job.settings, file: job.name });
     const key = stamp === '' ? undefined : keyOf(stamp, bytes, job);

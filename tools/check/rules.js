@@ -33,10 +33,19 @@ const isOn = (rule) => rule !== undefined && rule.severity !== 'off';
 // The programs that any rule goes by.
 const PROGRAMS = [...new Set(Object.values(RULES).flatMap(({ programs }) => programs))];
 
-// The programs that rules need, by their names in tools/programs.
-function programsFor(rules) {
+function programsOf(rules) {
   const wanted = Object.keys(RULES).filter((name) => isOn(rules[name])).flatMap((name) => RULES[name].programs);
   return [...new Set(wanted)];
+}
+
+const programs = new WeakMap(); // by rules: many files have the same
+
+// The programs that rules need, by their names in tools/programs.
+function programsFor(rules) {
+  if (!programs.has(rules)) {
+    programs.set(rules, programsOf(rules));
+  }
+  return programs.get(rules);
 }
 
 module.exports = { PROGRAMS, RULES, SEVERITIES, SYNTAX, UNRESOLVED, defaultRules, isOn, programsFor };

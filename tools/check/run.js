@@ -9,6 +9,9 @@ const { keptResult } = require('./one-file.js');
 const { toolsFor } = require('./requests.js');
 const { PROGRAMS } = require('./rules.js');
 
+// How many programs one thread keeps busy: they answer faster than it makes trees, and each more has to be started.
+const BUSY_PROGRAMS = 2;
+
 // What a thread more is worth: it has to compile all code anew, which takes as long as a fraction of so many bytes do.
 const BYTES_A_THREAD = 5 << 20;
 
@@ -18,7 +21,7 @@ function sizeOf(file) {
 
 // The largest first, so that none of them is begun late.
 function largestFirst(jobs) {
-  return jobs.map((job) => ({ ...job, size: sizeOf(job.file) })).sort((left, right) => right.size - left.size);
+  return jobs.map((job) => ({ ...job, size: job.size ?? sizeOf(job.file) })).sort((left, right) => right.size - left.size);
 }
 
 // Each n-th job, so that shares are about equally large.
@@ -71,7 +74,8 @@ async function checkAnew(jobs, stamp, told) {
     await checkByThreads(sorted, threads, settings, told);
   } else {
     const { checkMany } = require('./many-files.js');
-    await checkMany(sorted, { ...settings, size: Math.min(processors, toolsFor(PROGRAMS).length * jobs.length) }, told);
+    const size = Math.min(processors, BUSY_PROGRAMS, toolsFor(PROGRAMS).length * jobs.length);
+    await checkMany(sorted, { ...settings, size }, told);
   }
 }
 

@@ -36,11 +36,21 @@ function filesOfGlob(word) {
   return names.filter((name) => !ignored.leavesOut(path.join(top, name), false)).sort().map((name) => path.join(plain, name));
 }
 
-// The files of one word. A file that is named is taken, whatever leaves it out.
+// What the system says of a name, or undefined where nothing is there that could be read.
+function statOf(name) {
+  try {
+    return fs.statSync(name, { throwIfNoEntry: false });
+  } catch {
+    return undefined;
+  }
+}
+
+// The files of one word, `{ file, isNamed, size }`; sizes stand where they are known. A file that is named is taken, whatever leaves it out.
 function filesOf(word) {
-  const isThere = word !== '-' && fs.existsSync(word);
-  if (isThere ? !isFolder(word) : !isGlob(word)) {
-    return [{ file: word, isNamed: true }];
+  const found = word === '-' ? undefined : statOf(word);
+  const isThere = found !== undefined;
+  if (isThere ? !found.isDirectory() : !isGlob(word)) {
+    return [{ file: word, isNamed: true, size: found?.size }];
   }
   const files = isThere ? filesOfFolder(word) : filesOfGlob(word);
   if (files.length === 0) {

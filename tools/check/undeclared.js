@@ -26,7 +26,7 @@ function* undeclared(answers, { env, globals }) {
   if (found.length === 0) {
     return;
   }
-  const sets = knownSets(env, new Set(found.map(({ name }) => name)), answers.tree.head.goal);
+  const sets = knownSets(env, new Set(found.map(({ name }) => name)), answers.tree.goal);
   const isKnown = (name) => globals.get(name) ?? sets.some((set) => set.has(name));
   for (const { id, name, span } of found) {
     if (!isKnown(name) && !isUnderTypeof(answers.tree, span) && !isType(answers, id)) {

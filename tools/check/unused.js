@@ -138,7 +138,7 @@ function isAmbient(symbol, answers) {
 
 function isLeftOut(symbol, answers, options) {
   const { ignore, vars, exported } = options;
-  const isGlobal = symbol.scope === 0 && answers.tree.head.goal === 'script';
+  const isGlobal = symbol.scope === 0 && answers.tree.goal === 'script';
   return ignore.test(symbol.name) || (isGlobal && (vars === 'local' || exported.has(symbol.name)));
 }
 
@@ -158,7 +158,7 @@ function unusedHow(symbol, answers) {
 
 function* unused(answers, { ignore, ...options }, exported) {
   const found = answers.namesOf('unused');
-  if (found.length === 0 || answers.tree.head.lang === 'dts') {
+  if (found.length === 0 || answers.tree.lang === 'dts') {
     return;
   }
   const read = { ...options, exported, ignore: new RegExp(ignore || '(?!)', 'u') };

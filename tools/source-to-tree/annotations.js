@@ -4,6 +4,7 @@
 const { skipTrivia, lineEndFrom } = require('./trivia');
 
 const WORD = /[@#]__(PURE|NO_SIDE_EFFECTS)__/g;
+const ENDS = ['PURE__', 'NO_SIDE_EFFECTS__']; // of which a text with a word has one; to look for them takes less than the pattern does
 const REACH = 200; // how far before the word its comment may begin
 
 // The end of the comment round the word at this place, or -1.
@@ -22,6 +23,7 @@ class Annotations {
   constructor(text) {
     this.PURE = new Set();
     this.NO_SIDE_EFFECTS = new Set();
+    if (!ENDS.some((end) => text.includes(end))) return;
     let start = -1; // of the code behind the last comment; words before it stand in comments before the same code
     for (const { index, 1: word } of text.matchAll(WORD)) {
       if (index >= start) {

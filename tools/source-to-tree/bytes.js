@@ -81,6 +81,12 @@ class Bytes {
     this.end = end + length;
   }
 
+  // A string of ASCII, and room for it.
+  ascii(text) {
+    this.reserve(text.length);
+    this.end += this.buffer.latin1Write(text, this.end);
+  }
+
   // Any string, and room for it.
   string(text) {
     this.reserve(Buffer.byteLength(text));

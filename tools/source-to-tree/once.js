@@ -28,7 +28,8 @@ const roomFor = (comments) => HEAD + (comments === undefined ? 0 : COMMENT * com
 // JavaScript with elements is JSX.
 const languageIn = (lang, writer) => (lang === 'js' && writer.hasJsx ? 'jsx' : lang);
 
-// Null where the text was read as a script and is found to be a module.
+// The tree's text, the source, what it was read as and what gives the places of the rows. Null where the text was read as a script and is
+// found to be a module.
 function write(way, parsed, { source, text, lang, goal }) {
   const offsets = new ByteOffsets(text, source.startsWith(MARK));
   const writer = new TreeWriter(offsets, lang, roomFor(parsed.comments));
@@ -37,12 +38,9 @@ function write(way, parsed, { source, text, lang, goal }) {
   const comments = way.write(parsed, text, writer, new Annotations(text));
   writer.close();
   if (writer.isModule && parsed.asScript) return null;
-  return writer.finish({
-    source,
-    lang: languageIn(lang, writer),
-    goal: goal || (writer.isModule ? 'module' : parsed.goal || 'script'),
-    comments: commentTexts(comments, offsets),
-  });
+  const read = { lang: languageIn(lang, writer), goal: goal || (writer.isModule ? 'module' : parsed.goal || 'script') };
+  const json = writer.finish({ source, ...read, comments: commentTexts(comments, offsets) });
+  return { json, source, ...read, placesOf: () => writer.placesIn(json) };
 }
 
 // What the engine says where the stack ends.
@@ -55,11 +53,11 @@ function attempt(turn, request) {
   const started = performance.now();
   const parsed = way.read(text, { ...request, parser, folder });
   const read = performance.now();
-  const json = write(way, parsed, request);
-  if (json === null) return attempt(turn, { ...request, goal: 'module' });
+  const written = write(way, parsed, request);
+  if (written === null) return attempt(turn, { ...request, goal: 'module' });
   clock.parser = read - started;
   clock.conversion = performance.now() - read;
-  return { json, source: request.source };
+  return written;
 }
 
 // Options are those of `treeOf`.

@@ -31,6 +31,7 @@ class ByteOffsets {
     this.shift = marked ? MARK_BYTES : 0;
     this.last = text.length;
     this.blocks = Buffer.byteLength(text, 'utf8') === text.length ? null : blocksOf(text);
+    this.isAscii = this.blocks === null && !marked;
   }
 
   at(offset) {

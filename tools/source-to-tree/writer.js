@@ -3,6 +3,7 @@
 
 const { Refusal } = require('./refusal');
 const { Bytes, WORD, putNumber, wordsOf } = require('./bytes');
+const { firstPlace } = require('./row-places');
 
 const DEEPEST = 1000;
 const MOST_BYTES = 67108864;
@@ -52,10 +53,14 @@ class Kind {
   }
 
   headFor(role) {
-    if (!this.heads.has(role)) this.heads.set(role, wordsOf(`,"${role}","${this.name}",`));
+    let head = this.heads.get(role);
+    if (head === undefined) {
+      head = wordsOf(`,"${role}","${this.name}",`);
+      this.heads.set(role, head);
+    }
     this.lastRole = role;
-    this.lastHead = this.heads.get(role);
-    return this.lastHead;
+    this.lastHead = head;
+    return head;
   }
 }
 
@@ -79,6 +84,14 @@ function endFor(marks) {
   return wordsOf(`,["${sorted.join('","')}"]]`);
 }
 
+const ROWS = 1024; // at first
+
+function grown(places) {
+  const longer = new Uint32Array(2 * places.length);
+  longer.set(places);
+  return longer;
+}
+
 const ROW_ROOM = 512; // for a row without its text: no role, kind or list of marks is half as long
 const BYTES_PER_UNIT = 9; // of a tree, by its source: more than most have
 
@@ -89,8 +102,11 @@ class TreeWriter {
     this.isTyped = lang !== 'js' && lang !== 'jsx';
     this.start = gap;
     this.most = gap + MOST_BYTES;
+    this.last = gap; // the place behind the rows
     this.bytes = new Bytes(gap + ROW_ROOM + Math.min(BYTES_PER_UNIT * offsets.last, MOST_BYTES));
     this.bytes.end = gap;
+    this.places = new Uint32Array(ROWS); // where the rows begin
+    this.rows = 0;
     this.opened = []; // the kinds of the nodes that are open
     this.depth = 0;
     this.functions = 0;
@@ -126,6 +142,8 @@ class TreeWriter {
     const begin = BEGINS[depth] ?? beginOf(depth);
     const head = kind.lastRole === role ? kind.lastHead : kind.headFor(role);
     let at = bytes.end;
+    if (this.rows === this.places.length) this.places = grown(this.places);
+    this.places[this.rows++] = at;
     view.setFloat64(at, begin.words[0], true);
     at += begin.length;
     for (let i = 0, to = at; i < head.words.length; i++, to += WORD) view.setFloat64(to, head.words[i], true);
@@ -179,11 +197,25 @@ class TreeWriter {
     if (this.functions === 0 && (kind.isAwait || mark === 'await' || text === 'await using')) this.isModule = true;
   }
 
+  // Where the rows begin in the text of the tree, and where the last one ends. Behind the first each has a comma before it.
+  placesIn(json) {
+    const shift = this.places[0] - firstPlace(json);
+    const places = this.places.slice(0, this.rows + 1);
+    for (let row = 0; row < this.rows; row++) places[row] += (row === 0 ? 0 : 1) - shift;
+    places[this.rows] = this.last - shift;
+    return places;
+  }
+
   // The whole text of the tree, as bytes.
   finish({ source, goal, lang, comments }) {
-    const { bytes } = this;
+    const { bytes, offsets } = this;
+    this.last = bytes.end;
     const head = Buffer.from(`{"comments":[${comments.join(',')}],"format":1,"goal":"${goal}","lang":"${lang}","rows":[`);
-    bytes.string(`],"source":${JSON.stringify(source)}}`);
+    bytes.ascii('],"source":');
+    const text = JSON.stringify(source);
+    if (offsets.isAscii) bytes.ascii(text);
+    else bytes.string(text);
+    bytes.ascii('}');
     if (head.length + bytes.end - this.start > MOST_BYTES) throw new Refusal('too large');
     if (head.length > this.start) return Buffer.concat([head, bytes.buffer.subarray(this.start, bytes.end)]);
     const first = this.start - head.length;

@@ -2,33 +2,9 @@
 // Reads JavaScript with acorn, and JSX with its plugin.
 
 const { isMissing } = require('../load');
-const { refusalOf, refusalFor } = require('../newer');
-const { isNewerRegExp } = require('../regexps');
 const { parsersFor } = require('../parsers');
 const { EstreeConversion } = require('../estree');
-
-// What acorn would refuse, and the analysis tells with both places.
-const LEFT_TO_THE_ANALYSIS = /^(?:Identifier '[^#].*' has already been declared|Argument name clash)$/;
-
-const DYNAMIC_IMPORT_OPTIONS = { what: 'options of `import()`' };
-
-// Redeclarations pass, and a comma in `import()` that the parser doesn't take is marked.
-function forTheAnalysis(Base) {
-  return class extends Base {
-    raiseRecoverable(at, message) {
-      if (!LEFT_TO_THE_ANALYSIS.test(message)) super.raiseRecoverable(at, message);
-    }
-
-    parseDynamicImport(node) {
-      try {
-        return super.parseDynamicImport(node);
-      } catch (error) {
-        if (node.source && error.pos >= node.source.end && this.input[error.pos] === ',') error.syntax = DYNAMIC_IMPORT_OPTIONS;
-        throw error;
-      }
-    }
-  };
-}
+const { classOver } = require('./acorn-class');
 
 const classes = new WeakMap(); // by parser: its class by plugin, or by null for plain JavaScript
 
@@ -37,7 +13,7 @@ function classFor(parser, jsx) {
   if (!classes.has(parser)) classes.set(parser, new Map());
   const made = classes.get(parser);
   const { Parser } = parser.module;
-  if (!made.has(jsx)) made.set(jsx, forTheAnalysis(jsx === null ? Parser : Parser.extend(jsx.module())));
+  if (!made.has(jsx)) made.set(jsx, classOver(jsx === null ? Parser : Parser.extend(jsx.module())));
   return made.get(jsx);
 }
 
@@ -98,7 +74,10 @@ function parse(Parser, goals, text) {
 // Of two errors that one counts which is further on.
 const furthest = (errors) => errors.reduce((best, error) => (error.pos >= best.pos ? error : best));
 
+// What tells the syntax of an error is loaded for a refusal alone.
 function asRefusal(error, text, parser) {
+  const { refusalOf, refusalFor } = require('../newer');
+  const { isNewerRegExp } = require('../regexps');
   const { pos, message } = error;
   if (error.syntax) return refusalFor(parser, error.syntax, pos);
   const regExp = isNewerRegExp(error, text);
