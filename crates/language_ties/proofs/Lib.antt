@@ -13,3 +13,4 @@ pub mod nearest
 pub mod symbols
 pub mod clear
 pub mod agree
+pub mod headers

@@ -2,14 +2,11 @@
 use Rattle.std.proofs.Common.{◌≡◌, ℕ, suc, ◌+◌, List, [], ◌∷◌, ◌++◌, Option, Some, None, Bool, true, false, ◌&&◌, ◌||◌, not, cond, map, length, inl, inr, ◌⊎◌, refl, sym, ap, subst, ◌∙◌, bytes_eq, codes, arith}
 use Rattle.std.specs.Prelude.{slice_get}
 use Rattle.std.proofs.lemmas.Bool.{not-true}
-use Rattle.semantic_syntax.proofs.Truth.{and_first, and_second, and_false}
+use Rattle.semantic_syntax.proofs.Truth.{and_first, and_second}
 use Rattle.semantic_kinds.specs.Classes.{holds_kind}
 use Rattle.semantic_kinds.specs.Kinds.{same_kind}
-use Rattle.semantic_kinds.specs.Roles.{same_role}
 use Rattle.semantic_kinds.specs.declared.kind.AstType.{AstType}
 use Rattle.semantic_kinds.specs.declared.kind.AstType.TheVariants as kind
-use Rattle.semantic_kinds.specs.declared.role.Role.{Role}
-use Rattle.semantic_kinds.specs.declared.role.Role.TheVariants as role
 use Rattle.semantic_syntax.specs.Tables.{Name}
 use Rattle.semantic_tree.specs.Faults.{first_fault}
 use Rattle.semantic_tree.specs.Forest.{Forest, nothing, tree}
@@ -25,11 +22,10 @@ use Rattle.semantic_model.specs.Entries.{Among}
 use Rattle.semantic_model.specs.Event.{Event, declarations, events}
 use Rattle.semantic_model.specs.Fold.{State, start, or_else}
 use Rattle.semantic_model.specs.Hoist.{run}
-use Rattle.semantic_model.specs.Inside.{is_inside, is_in_header, is_parameter_decorator}
-use Rattle.semantic_model.specs.Place.{Place, OpenScope, outside}
-use Rattle.semantic_model.specs.ScopeKind.{opened_scope}
-use Rattle.semantic_model.specs.Step.{Step, entering, opening, header_ending, closing, leaving, steps_below, steps, root_place, scope_at, child_place, chain_within}
-use Rattle.semantic_model.specs.Tie.{view_by}
+use Rattle.semantic_model.specs.Inside.{is_inside, is_in_header}
+use Rattle.semantic_model.specs.Place.{Place, OpenScope}
+use Rattle.semantic_model.specs.Step.{Step, entering, opening, header_ending, closing, leaving, steps_below, steps, root_place}
+use Rattle.semantic_model.specs.Tie.{view_by, until_end_of}
 use Rattle.semantic_model.proofs.fold.BodyChains.{AllInTable, IsStepIn}
 use Rattle.semantic_model.proofs.fold.Orders.{table_of, steps_in}
 use Rattle.semantic_model.proofs.form.Clauses.{kind_is}
@@ -38,8 +34,10 @@ use Rattle.semantic_model.proofs.form.Shape.{has_form}
 use Rattle.semantic_model.proofs.steps.EachStep.{EachOfTurn, each_left, each_of_node, each_of_turn, turn_of_each}
 use Rattle.semantic_model.proofs.steps.Turn.{Turn, turn_at}
 use Rattle.semantic_model.proofs.steps.TurnCases.{opening_case, ending_case, last_case}
+use Rattle.walk_model.proofs.places.Shapes.{holds_below}
+use Rattle.binding_laws.proofs.CutSteps.{WillAwait}
 use Rattle.tangle_model.specs.Surroundings.{in_with_under}
-use Rattle.language_ties.specs.AgreeingNames.{IsPlainName, IsBoundOutsideWith, NoHeaderBinds}
+use Rattle.language_ties.specs.AgreeingNames.{IsPlainName, IsBoundOutsideWith, StandsInExpressions}
 use Rattle.language_ties.specs.Bound.{Bound, written}
 use Rattle.language_ties.specs.EcmaScript.{is_ecmascript}
 use Rattle.language_ties.specs.Environments.{Environment, same_environment_kind, is_made_for, is_outside_body, has_parameter_expressions, made_by, environments, innermost}
@@ -51,7 +49,7 @@ use Rattle.language_ties.specs.SharedSymbols.{AllKeepClear}
 use Rattle.language_ties.specs.declared.environment_kind.EnvironmentKind.{EnvironmentKind}
 use Rattle.language_ties.specs.declared.environment_kind.EnvironmentKind.TheVariants as environment
 use Rattle.language_ties.proofs.EnvironmentsRound.{IsKnown, KnownAt, known_program}
-use Rattle.language_ties.proofs.agree.Answers.{symbol_of, has_symbol, answers, IsAsked, asked, nothing_before}
+use Rattle.language_ties.proofs.agree.Answers.{symbol_of, has_symbol, answers, IsAsked, asked}
 use Rattle.language_ties.proofs.agree.ClassBounds.{IsClassBound, class_bound}
 use Rattle.language_ties.proofs.agree.EnteredOnce.{entered_once}
 use Rattle.language_ties.proofs.agree.FamiliarPlaces.{stands_well, is_function_kind, IsFamiliar, FamiliarAt, familiar_program}
@@ -59,7 +57,11 @@ use Rattle.language_ties.proofs.agree.Identifiers.{IsBoundHere, bound_here, iden
 use Rattle.language_ties.proofs.agree.KnownBounds.{some_is, KnownBound, known_bound}
 use Rattle.language_ties.proofs.agree.KnownNodes.{node_at}
 use Rattle.language_ties.proofs.agree.MadeEnvironments.{may_make, environment_kind_is, EndsAtProgram, IsUsual, innermost_among}
-use Rattle.language_ties.proofs.agree.PlainBounds.{no_class}
+use Rattle.language_ties.proofs.agree.PlainBounds.{no_class, no_catch}
+use Rattle.language_ties.proofs.headers.ChildChains.{ChainOf, outer_chain, inner_chain, OwnOf, own_of, chain_of}
+use Rattle.language_ties.proofs.headers.HeaderAnswers.{silent, answers_too, awaits}
+use Rattle.language_ties.proofs.headers.HeaderShape.{heads_parameters, tree_heads, header_list}
+use Rattle.language_ties.proofs.headers.Sides.{is_parameters}
 use Rattle.language_ties.proofs.symbols.ScopeOpeners.{openers, IsOpened, AllOpened, IsPlaceOpened, places_opened}
 
 -- a list is not longer than itself
@@ -132,9 +134,9 @@ module _ (p : Tree) (h : first_fault p ≡ None) (e : is_ecmascript p ≡ true) 
   Matches o (bound d []) = ⊥
   Matches o (bound d (i ∷ is)) = (s : ℕ) × (o ≡ Some s) × AllAre (i ∷ is) s
 
-  -- so it is at a place in no header that binds the name
+  -- so it is at a place that stands in expressions among the parameters that bind the name
   abbrev pub Agrees : Place → Type 0
-  Agrees q = NoHeaderBinds ws x q.chain → Matches (nearest_symbol final es x q.chain) (meaning bs (environments q.node q.path) x)
+  Agrees q = StandsInExpressions ws x q.node q.path → Matches (nearest_symbol final es x q.chain) (meaning bs (environments q.node q.path) x)
 
   abbrev pub AgreesAt : Step → Type 0
   AgreesAt (entering q) = is kind.BindingIdentifier q.node ≡ false → in_with_under q.path ≡ false → Agrees q
@@ -216,21 +218,24 @@ module _ (p : Tree) (h : first_fault p ≡ None) (e : is_ecmascript p ≡ true) 
       makes : may_make q.kind bind.environment.kind ≡ true
       body : is_made_for environment.Body bind.environment ≡ true → has_parameter_expressions q ≡ true
 
+    there_of : (b : Bound) → Among b ws → b.name ≡ x → b.environment.maker ≡ q.node_id → IsBoundThere
+    there_of b a n m =
+        let k : Known b = known_bound p h e numbered x none plain b a n in
+        let same : k.placed.maker ≡ q = some_is k.placed.maker q (sym k.placed.found ∙ ap (node_at p) m ∙ found) in
+        record {
+          bind = b;
+          known = k;
+          among = a;
+          named = n;
+          maker = m;
+          makes = subst (λ z. may_make z.kind b.environment.kind ≡ true) same k.placed.makes;
+          body = λ v. subst (λ z. has_parameter_expressions z ≡ true) same (k.placed.body v);
+        }
+
     bound_there : (y : ℕ) → Y ≡ Some y → IsBoundThere
     bound_there y g =
         let w : IsAsked p h e numbered x none clear plain s = asked p h e numbered x none clear plain s y o entry g in
-        let k : Known w.bind = known_bound p h e numbered x none plain w.bind w.among w.named in
-        let maker : w.bind.environment.maker ≡ q.node_id = w.maker ∙ opener in
-        let same : k.placed.maker ≡ q = some_is k.placed.maker q (sym k.placed.found ∙ ap (node_at p) maker ∙ found) in
-        record {
-          bind = w.bind;
-          known = k;
-          among = w.among;
-          named = w.named;
-          maker = maker;
-          makes = subst (λ z. may_make z.kind w.bind.environment.kind ≡ true) same k.placed.makes;
-          body = λ v. subst (λ z. has_parameter_expressions z ≡ true) same (k.placed.body v);
-        }
+        there_of w.bind w.among w.named (w.maker ∙ opener)
 
     -- an environment that binds nothing is none of those
     none_there : (d : Environment) → identifiers_in bs d x ≡ [] → (w : IsBoundThere) → w.bind.environment ≡ d → ⊥
@@ -313,41 +318,7 @@ module _ (p : Tree) (h : first_fault p ≡ None) (e : is_ecmascript p ≡ true) 
   SeenAt (closing q o) = Unit {0}
   SeenAt (leaving q) = Unit {0}
 
-  -- the child's chain is its parent's, or has the parent's own scope before
-  data ChainOf (k : AstType) (r : Role) (q : Node) (outer : List OpenScope) : List OpenScope → Type 0 where
-    outer_chain : is_inside k r ≡ false → ChainOf k r q outer outer
-    inner_chain : (s : OpenScope) → is_inside k r ≡ true → s.opener ≡ q.node_id → s.in_header ≡ is_in_header k r → ChainOf k r q outer (s ∷ outer)
-
-  abbrev OwnOf : Place → Option OpenScope → Type 0
-  OwnOf q None = Unit {0}
-  OwnOf q (Some s) = s.opener ≡ q.node.node_id
-
-  own_of : (q : Place) (r : Role) (own : Option OpenScope) (n : ℕ) → OwnOf q own → OwnOf q (scope_at q r own n)
-  own_of q r (Some s) n k = k
-  own_of q r None n k = go (is_inside q.node.kind r)
-    where
-      go : (b : Bool) → OwnOf q (cond b (Some (opened_scope q n)) None)
-      go true = refl
-      go false = tt
-
-  within_of : (q : Place) (r : Role) (own : Option OpenScope) → (is_inside q.node.kind r ≡ true → own ≡ None → ⊥) → OwnOf q own → ChainOf q.node.kind r q.node q.chain (chain_within q r own)
-  within_of q r None reached o = go (is_inside q.node.kind r) refl
-    where
-      go : (b : Bool) → is_inside q.node.kind r ≡ b → ChainOf q.node.kind r q.node q.chain q.chain
-      go true w = absurd (reached w refl)
-      go false w = outer_chain w
-  within_of q r (Some s) reached o = go (is_inside q.node.kind r) refl
-    where
-      go : (b : Bool) → is_inside q.node.kind r ≡ b → ChainOf q.node.kind r q.node q.chain (cond b (record s { in_header = is_in_header q.node.kind r } ∷ q.chain) q.chain)
-      go true w = inner_chain (record s { in_header = is_in_header q.node.kind r }) w o refl
-      go false w = outer_chain w
-
-  chain_of : (q : Place) (r : Role) (own : Option OpenScope) (cursor : ℕ) (node : Node) → same_role r role.Decorators ≡ false → (is_inside q.node.kind r ≡ true → own ≡ None → ⊥) → OwnOf q own → ChainOf q.node.kind r q.node q.chain (child_place q own cursor r node).chain
-  chain_of q r own cursor node u reached o =
-      let none_decorates : is_parameter_decorator q.node.kind r ≡ false = ap (λ b. holds_kind (kind.FormalParameter ∷ kind.FormalParameterRest ∷ []) q.node.kind && b) u ∙ and_false (holds_kind (kind.FormalParameter ∷ kind.FormalParameterRest ∷ []) q.node.kind) in
-      subst (λ b. ChainOf q.node.kind r q.node q.chain (cond b (outside q.chain) (chain_within q r own))) (sym none_decorates) (within_of q r own reached o)
-
-  module _ (q c : Place) (agree : Agrees q) (seen : IsSeen q) (seen_child : IsSeen c) (path : c.path ≡ q.node ∷ q.path) (well : stands_well q.node.kind c.role c.node.kind [] ≡ true) (no_identifier : is kind.BindingIdentifier c.node ≡ false) (apart : in_with_under c.path ≡ false) where
+  module _ (q c : Place) (agree : Agrees q) (seen : IsSeen q) (seen_child : IsSeen c) (path : c.path ≡ q.node ∷ q.path) (well : stands_well q.node.kind c.role c.node.kind [] ≡ true) (heads : heads_parameters q.node.kind c.role c.node.kind [] ≡ true) (no_identifier : is kind.BindingIdentifier c.node ≡ false) (apart : in_with_under c.path ≡ false) where
     apart_here : (is kind.WithStatement q.node || in_with_under q.path) ≡ false
     apart_here = subst (λ l. in_with_under l ≡ false) path apart
 
@@ -368,10 +339,14 @@ module _ (p : Tree) (h : first_fault p ≡ None) (e : is_ecmascript p ≡ true) 
 
     -- what is to be shown of the environments that the parent makes
     abbrev Shows : List OpenScope → List Environment → Type 0
-    Shows chain ds = NoHeaderBinds ws x chain → Matches (nearest_symbol final es x chain) (meaning bs (ds ++ E) x)
+    Shows chain ds = StandsInExpressions ws x c.node (q.node ∷ q.path) → Matches (nearest_symbol final es x chain) (meaning bs (ds ++ E) x)
 
     outer_shows : Shows q.chain []
-    outer_shows = agree
+    outer_shows = λ i. agree i.1
+
+    -- where the place stands among parameters that bind the name, these have an expression
+    abbrev Expressed : Type 0
+    Expressed = is kind.FormalParameters c.node ≡ true → (b : Bound) → Among b ws → b.name ≡ x → b.environment.maker ≡ q.node.node_id → has_parameter_expressions q.node ≡ true
 
     -- one scope more
     module _ (s : OpenScope) (opener : s.opener ≡ q.node.node_id) (header : s.in_header ≡ is_in_header q.node.kind c.role) (chain : c.chain ≡ s ∷ q.chain) where
@@ -381,34 +356,49 @@ module _ (p : Tree) (h : first_fault p ≡ None) (e : is_ecmascript p ≡ true) 
       s_entry : slice_get (table_of p) s.number ≡ Some s.body
       s_entry = (subst (AllInTable (table_of p)) chain seen_child.in_table).0.entry
 
-      -- environments of the opener, of no object and no class
-      abbrev AllOfOpener : List Environment → Type 0
-      AllOfOpener [] = Unit {0}
-      AllOfOpener (d ∷ ds) = ((d.maker ≡ q.node.node_id) × (is_made_for environment.Object d ≡ false) × (is_made_for environment.Class d ≡ false)) × AllOfOpener ds
+      -- what the scope binds as its header ends
+      abbrev H : Option ℕ
+      H = get (run start (until_end_of s.number es)).bindings s.number x
 
-      -- where they bind nothing the name means what it means around
-      passes : ((b : Bound) → Among b ws → b.name ≡ x → b.environment.maker ≡ s.opener → ⊥) → (ds : List Environment) → AllOfOpener ds → Matches N (meaning bs E x) → Matches N (meaning bs (ds ++ E) x)
-      passes apart [] k m = m
-      passes apart (d ∷ ds) k m = subst (Matches N) (sym (meaning_further bs x not_arguments d (ds ++ E) k.0.1 (nothing (identifiers_in bs d x) refl))) (passes apart ds k.1 m)
-        where
-          nothing : (is : List ℕ) → identifiers_in bs d x ≡ is → identifiers_in bs d x ≡ []
-          nothing [] v = v
-          nothing (i ∷ is) v =
-              let w : IsHere d i = is_here d i (subst (Among i) (sym v) (inl refl)) in
-              absurd (apart w.bind w.among w.named (ap (λ z. z.maker) (directly d i k.0.2 w) ∙ k.0.0 ∙ sym opener))
+      awaited : s.in_header ≡ true → WillAwait s.number [] (steps p)
+      awaited v = awaits p h e numbered x none clear plain c s seen_child.entered (subst (Among s) (sym chain) (inl refl)) no_identifier v
 
-      -- in no header the scope is seen as it is in the end, in one it is empty
-      seen_by : (ds : List Environment) → (s.in_header ≡ false → Matches N (meaning bs E x) → Matches (or_else (get final.bindings s.number x) N) (meaning bs (ds ++ E) x)) → (s.in_header ≡ true → AllOfOpener ds) → Shows (s ∷ q.chain) ds
-      seen_by ds last all i = by s.in_header refl
+      -- in no header the scope is seen as it is in the end, in one as it stands when that ends
+      seen_by : (ds : List Environment) → (s.in_header ≡ false → Matches N (meaning bs E x) → Matches (or_else (get final.bindings s.number x) N) (meaning bs (ds ++ E) x)) → (s.in_header ≡ true → Expressed → Matches N (meaning bs E x) → Matches (or_else H N) (meaning bs (ds ++ E) x)) → Shows (s ∷ q.chain) ds
+      seen_by ds last ends i = by s.in_header refl
         where
           by : (t : Bool) → s.in_header ≡ t → Matches (or_else (get (view_by s.in_header final es s.number).bindings s.number x) N) (meaning bs (ds ++ E) x)
           by false v = subst (λ b. Matches (or_else (get (view_by b final es s.number).bindings s.number x) N) (meaning bs (ds ++ E) x)) (sym v) (last v (agree i.1))
-          by true v =
-              subst (λ b. Matches (or_else (get (view_by b final es s.number).bindings s.number x) N) (meaning bs (ds ++ E) x)) (sym v)
-              (subst (λ t. Matches (or_else t N) (meaning bs (ds ++ E) x)) (sym (nothing_before p h e numbered x none clear plain s.number s s_opened (i.0 v))) (passes (i.0 v) ds (all v) (agree i.1)))
+          by true v = subst (λ b. Matches (or_else (get (view_by b final es s.number).bindings s.number x) N) (meaning bs (ds ++ E) x)) (sym v) (ends v i.0 (agree i.1))
 
-      one_shows : (k : EnvironmentKind) → ((j : EnvironmentKind) → may_make q.node.kind j ≡ true → j ≡ k) → (same_environment_kind k environment.Object ≡ false) × (same_environment_kind k environment.Class ≡ false) → Shows (s ∷ q.chain) (record { kind = k; maker = q.node.node_id } ∷ [])
-      one_shows k only n = seen_by (record { kind = k; maker = q.node.node_id } ∷ []) (λ v. one s s_opened s_entry q.node opener seen.familiar.node k E only n N) (λ v. ((refl, n.0, n.1), tt))
+      -- where the header sees nothing
+      unseen : (m : Meaning) → H ≡ None → Matches N m → Matches (or_else H N) m
+      unseen m g k = subst (λ t. Matches (or_else t N) m) (sym g) k
+
+      there : (b : Bound) → Among b ws → b.name ≡ x → b.environment.maker ≡ s.opener → IsBoundThere s s_opened s_entry q.node opener seen.familiar.node
+      there b a n m = there_of s s_opened s_entry q.node opener seen.familiar.node b a n (m ∙ opener)
+
+      -- no plain name is bound by a clause
+      by_clause : ((j : EnvironmentKind) → may_make q.node.kind j ≡ true → j ≡ environment.Catch) → s.in_header ≡ true → Matches N (meaning bs E x) → Matches (or_else H N) (meaning bs (record { kind = environment.Catch; maker = q.node.node_id } ∷ E) x)
+      by_clause only v m =
+          unseen (meaning bs (Clause ∷ E) x) (silent p h e numbered x none clear plain s s_opened (awaited v) (λ b a n k body. of_clause (there b a n k)))
+          (subst (Matches N) (sym (meaning_further bs x not_arguments Clause E refl (nothing (identifiers_in bs Clause x) refl))) m)
+        where
+          Clause : Environment
+          Clause = record { kind = environment.Catch; maker = q.node.node_id }
+
+          of_clause : IsBoundThere s s_opened s_entry q.node opener seen.familiar.node → ⊥
+          of_clause w = never (sym (ap (λ z. same_environment_kind z environment.Catch) (only w.bind.environment.kind w.makes)) ∙ no_catch w.bind w.known.plainly)
+
+          nothing : (is : List ℕ) → identifiers_in bs Clause x ≡ is → identifiers_in bs Clause x ≡ []
+          nothing [] k = k
+          nothing (i ∷ is) k =
+              let w : IsHere Clause i = is_here Clause i (subst (Among i) (sym k) (inl refl)) in
+              absurd (never (sym (ap (is_made_for environment.Catch) (directly Clause i refl w)) ∙ no_catch w.bind w.known.plainly))
+
+      one_shows : (k : EnvironmentKind) → ((j : EnvironmentKind) → may_make q.node.kind j ≡ true → j ≡ k) → (same_environment_kind k environment.Object ≡ false) × (same_environment_kind k environment.Class ≡ false) → (s.in_header ≡ true → k ≡ environment.Catch) → Shows (s ∷ q.chain) (record { kind = k; maker = q.node.node_id } ∷ [])
+      one_shows k only n clause = seen_by (record { kind = k; maker = q.node.node_id } ∷ []) (λ v. one s s_opened s_entry q.node opener seen.familiar.node k E only n N)
+          (λ v fits m. subst (λ z. Matches (or_else H N) (meaning bs (record { kind = z; maker = q.node.node_id } ∷ E) x)) (sym (clause v)) (by_clause (λ j y. only j y ∙ clause v) v m))
 
       -- outside of its body's environment a child of a function stands in its header
       in_header : is_function_kind q.node.kind ≡ true → is_outside_body c.node ≡ true → s.in_header ≡ false → ⊥
@@ -426,20 +416,51 @@ module _ (p : Tree) (h : first_fault p ≡ None) (e : is_ecmascript p ≡ true) 
           go false true i j w = flipped kind.FormalParameters c.node.kind j
           go false false i j w = absurd cc
 
-      function_shows : (k : EnvironmentKind) (ds : List Environment) → is_function_kind q.node.kind ≡ true → (same_environment_kind k environment.Object ≡ false) × (same_environment_kind k environment.Class ≡ false)
-          → ((j : EnvironmentKind) (m : ℕ) → may_make q.node.kind j ≡ true → IsUsual (record { kind = j; maker = m }) → (j ≡ environment.Body) ⊎ (j ≡ k)) → (Matches N (meaning bs E x) → Matches N (meaning bs (ds ++ E) x)) → AllOfOpener ds
+      -- what stands in the header of a function is its list of parameters
+      list : is_function_kind q.node.kind ≡ true → s.in_header ≡ true → is kind.FormalParameters c.node ≡ true
+      list f v = header_list q.node.kind c.role c.node.kind [] heads seen_child.familiar.ecmascript f (sym header ∙ v)
+
+      list_outside : is kind.FormalParameters c.node ≡ true → is_outside_body c.node ≡ true
+      list_outside v = subst (λ k. holds_kind (kind.BindingIdentifier ∷ kind.FormalParameters ∷ []) k ≡ true) (sym (kind_is c.node.kind kind.FormalParameters v)) refl
+
+      -- a function, seen from its header
+      module _ (k : EnvironmentKind) (ds : List Environment) (n : (same_environment_kind k environment.Object ≡ false) × (same_environment_kind k environment.Class ≡ false)) (parameters : is_parameters (record { kind = k; maker = q.node.node_id }) ≡ true)
+          (two : (j : EnvironmentKind) (m : ℕ) → may_make q.node.kind j ≡ true → IsUsual (record { kind = j; maker = m }) → (j ≡ environment.Body) ⊎ (j ≡ k)) (skips : Matches N (meaning bs E x) → Matches N (meaning bs (ds ++ E) x)) (v : s.in_header ≡ true) (fits : (b : Bound) → Among b ws → b.name ≡ x → b.environment.maker ≡ q.node.node_id → has_parameter_expressions q.node ≡ true) where
+        abbrev Parameters : Environment
+        Parameters = record { kind = k; maker = q.node.node_id }
+
+        from_header : Matches N (meaning bs E x) → Matches (or_else H N) (meaning bs (Parameters ∷ (ds ++ E)) x)
+        unfolding there there_of
+        from_header m = go (identifiers_in bs Parameters x) refl
+          where
+            elsewhere : identifiers_in bs Parameters x ≡ [] → (b : Bound) → is_made_for environment.Body b.environment ≡ false → (w : IsBoundThere s s_opened s_entry q.node opener seen.familiar.node) → w.bind ≡ b → ⊥
+            elsewhere i b body w same = elim (two w.bind.environment.kind w.bind.environment.maker w.makes w.known.placed.usual) [
+              | inl j ↦ never (sym (ap (λ z. same_environment_kind z environment.Body) (sym (ap (λ z. z.environment.kind) same) ∙ j)) ∙ body)
+              | inr j ↦ none_there s s_opened s_entry q.node opener seen.familiar.node Parameters i w (environment_is s s_opened s_entry q.node opener seen.familiar.node w k j)
+            ]
+
+            go : (is : List ℕ) → identifiers_in bs Parameters x ≡ is → Matches (or_else H N) (meaning bs (Parameters ∷ (ds ++ E)) x)
+            go [] i =
+                unseen (meaning bs (Parameters ∷ (ds ++ E)) x) (silent p h e numbered x none clear plain s s_opened (awaited v) (λ b a n m body. elsewhere i b body (there b a n m) refl))
+                (subst (Matches N) (sym (meaning_further bs x not_arguments Parameters (ds ++ E) n.0 i)) (skips m))
+            go (i ∷ is) j =
+                let w : IsHere Parameters i = is_here Parameters i (subst (Among i) (sym j) (inl refl)) in
+                let env : w.bind.environment ≡ Parameters = directly Parameters i n.1 w in
+                let same : H ≡ get final.bindings s.number x = answers_too p h e numbered x none clear plain s s_opened (awaited v) w.bind w.known w.named (opener ∙ sym (ap (λ z. z.maker) env)) (subst (λ d. is_parameters d ≡ true) (sym env) parameters)
+                    (λ f found. subst (λ g. has_parameter_expressions g ≡ true) (some_is q.node f (sym seen.familiar.node ∙ ap (λ d. node_at p d.maker) (sym env) ∙ found)) (fits w.bind w.among w.named (ap (λ d. d.maker) env))) in
+                subst (λ t. Matches (or_else t N) (meaning bs (Parameters ∷ (ds ++ E)) x)) (sym same) (here s s_opened s_entry q.node opener seen.familiar.node Parameters (ds ++ E) refl n i is j N)
+
+      function_shows : (k : EnvironmentKind) (ds : List Environment) → is_function_kind q.node.kind ≡ true → (same_environment_kind k environment.Object ≡ false) × (same_environment_kind k environment.Class ≡ false) → is_parameters (record { kind = k; maker = q.node.node_id }) ≡ true
+          → ((j : EnvironmentKind) (m : ℕ) → may_make q.node.kind j ≡ true → IsUsual (record { kind = j; maker = m }) → (j ≡ environment.Body) ⊎ (j ≡ k)) → (Matches N (meaning bs E x) → Matches N (meaning bs (ds ++ E) x))
           → Shows (s ∷ q.chain) (cond (not (is_outside_body c.node) && has_parameter_expressions q.node) (record { kind = environment.Body; maker = q.node.node_id } ∷ []) [] ++ (record { kind = k; maker = q.node.node_id } ∷ ds))
-      function_shows k ds f n two skips all =
+      function_shows k ds f n parameters two skips =
           seen_by (cond (not (is_outside_body c.node) && has_parameter_expressions q.node) (record { kind = environment.Body; maker = q.node.node_id } ∷ []) [] ++ (record { kind = k; maker = q.node.node_id } ∷ ds)) (λ last m.
           subst (λ es. Matches (or_else (get final.bindings s.number x) N) (meaning bs es x)) (reassociated (not (is_outside_body c.node) && has_parameter_expressions q.node))
           (function s s_opened s_entry q.node opener seen.familiar.node k n (λ w. two w.bind.environment.kind w.bind.environment.maker w.makes w.known.placed.usual) N
           (not (is_outside_body c.node) && has_parameter_expressions q.node) (ds ++ E) (absent (is_outside_body c.node) refl last) (skips m)))
-          (λ v. all_made (not (is_outside_body c.node) && has_parameter_expressions q.node))
+          (λ v fits m. subst (λ t. Matches (or_else H N) (meaning bs ((cond (not t && has_parameter_expressions q.node) (record { kind = environment.Body; maker = q.node.node_id } ∷ []) [] ++ (record { kind = k; maker = q.node.node_id } ∷ ds)) ++ E) x)) (sym (list_outside (list f v)))
+          (from_header k ds n parameters two skips v (fits (list f v)) m))
         where
-          all_made : (t : Bool) → AllOfOpener (cond t (record { kind = environment.Body; maker = q.node.node_id } ∷ []) [] ++ (record { kind = k; maker = q.node.node_id } ∷ ds))
-          all_made true = ((refl, refl, refl), ((refl, n.0, n.1), all))
-          all_made false = ((refl, n.0, n.1), all)
-
           reassociated : (t : Bool) → cond t (record { kind = environment.Body; maker = q.node.node_id } ∷ []) [] ++ (record { kind = k; maker = q.node.node_id } ∷ (ds ++ E)) ≡ (cond t (record { kind = environment.Body; maker = q.node.node_id } ∷ []) [] ++ (record { kind = k; maker = q.node.node_id } ∷ ds)) ++ E
           reassociated true = refl
           reassociated false = refl
@@ -472,16 +493,16 @@ module _ (p : Tree) (h : first_fault p ≡ None) (e : is_ecmascript p ≡ true) 
         go _ v (inner_chain s i o j) = absurd (no_maker s v none_made)
 
     -- or one with a scope
-    one_case : (k : AstType) (n : EnvironmentKind) → q.node.kind ≡ k → made_by k q.node c.node ≡ record { kind = n; maker = q.node.node_id } ∷ [] → ((m : ℕ) → has_scope (record { kind = n; maker = m }) ≡ true) → ((j : EnvironmentKind) → may_make k j ≡ true → j ≡ n) → (same_environment_kind n environment.Object ≡ false) × (same_environment_kind n environment.Class ≡ false)
+    one_case : (k : AstType) (n : EnvironmentKind) → q.node.kind ≡ k → made_by k q.node c.node ≡ record { kind = n; maker = q.node.node_id } ∷ [] → ((m : ℕ) → has_scope (record { kind = n; maker = m }) ≡ true) → ((j : EnvironmentKind) → may_make k j ≡ true → j ≡ n) → (same_environment_kind n environment.Object ≡ false) × (same_environment_kind n environment.Class ≡ false) → (is_in_header k c.role ≡ true → n ≡ environment.Catch)
         → ChainOf q.node.kind c.role q.node q.chain c.chain → Shows c.chain (record { kind = n; maker = q.node.node_id } ∷ [])
-    one_case k n w m scoped only object t = go c.chain refl t
+    one_case k n w m scoped only object clause t = go c.chain refl t
       where
         one_made : makers (made_by q.node.kind q.node c.node ++ E) ≡ maker_of_environment (record { kind = n; maker = q.node.node_id }) ∷ M
         one_made = ap (λ j. makers (made_by j q.node c.node ++ E)) w ∙ ap (λ ds. makers (ds ++ E)) m ∙ ap (λ b. cond b (maker_of_environment (record { kind = n; maker = q.node.node_id }) ∷ M) M) (scoped q.node.node_id)
 
         go : (chain : List OpenScope) → c.chain ≡ chain → ChainOf q.node.kind c.role q.node q.chain chain → Shows chain (record { kind = n; maker = q.node.node_id } ∷ [])
         go _ v (outer_chain i) = absurd (a_maker (record { kind = n; maker = q.node.node_id }) v one_made)
-        go _ v (inner_chain s i o j) = one_shows s o j v n (λ z y. only z (subst (λ a. may_make a z ≡ true) w y)) object
+        go _ v (inner_chain s i o j) = one_shows s o j v n (λ z y. only z (subst (λ a. may_make a z ≡ true) w y)) object (λ u. clause (sym (ap (λ a. is_in_header a c.role) w) ∙ sym j ∙ u))
 
     -- a function, whose own name no plain name is
     skips_own : Matches N (meaning bs E x) → Matches N (meaning bs ((record { kind = environment.OwnName; maker = q.node.node_id } ∷ []) ++ E) x)
@@ -495,8 +516,8 @@ module _ (p : Tree) (h : first_fault p ≡ None) (e : is_ecmascript p ≡ true) 
         go : (chain : List OpenScope) → c.chain ≡ chain → ChainOf q.node.kind c.role q.node q.chain chain → Shows chain (made_by kind.Function q.node c.node)
         go _ v (outer_chain i) = absurd (never (subst (λ a. is_inside a c.role ≡ false) w i))
         go _ v (inner_chain s i o j) =
-            function_shows s o j v environment.Parameters (record { kind = environment.OwnName; maker = q.node.node_id } ∷ []) (subst (λ a. is_function_kind a ≡ true) (sym w) refl) (refl, refl)
-            (λ z m y u. function_kinds z m (subst (λ a. may_make a z ≡ true) w y) u) skips_own ((refl, refl, refl), tt)
+            function_shows s o j v environment.Parameters (record { kind = environment.OwnName; maker = q.node.node_id } ∷ []) (subst (λ a. is_function_kind a ≡ true) (sym w) refl) (refl, refl) refl
+            (λ z m y u. function_kinds z m (subst (λ a. may_make a z ≡ true) w y) u) skips_own
 
     arrow_case : q.node.kind ≡ kind.ArrowFunctionExpression → ChainOf q.node.kind c.role q.node q.chain c.chain → Shows c.chain (made_by kind.ArrowFunctionExpression q.node c.node)
     arrow_case w t = go c.chain refl t
@@ -504,15 +525,15 @@ module _ (p : Tree) (h : first_fault p ≡ None) (e : is_ecmascript p ≡ true) 
         go : (chain : List OpenScope) → c.chain ≡ chain → ChainOf q.node.kind c.role q.node q.chain chain → Shows chain (made_by kind.ArrowFunctionExpression q.node c.node)
         go _ v (outer_chain i) = absurd (never (subst (λ a. is_inside a c.role ≡ false) w i))
         go _ v (inner_chain s i o j) =
-            function_shows s o j v environment.ArrowParameters [] (subst (λ a. is_function_kind a ≡ true) (sym w) refl) (refl, refl)
-            (λ z m y u. arrow_kinds z (subst (λ a. may_make a z ≡ true) w y)) (λ m. m) tt
+            function_shows s o j v environment.ArrowParameters [] (subst (λ a. is_function_kind a ≡ true) (sym w) refl) (refl, refl) refl
+            (λ z m y u. arrow_kinds z (subst (λ a. may_make a z ≡ true) w y)) (λ m. m)
 
     -- the body of an `if` opens no scope, and no plain name is of its environment
     if_case : q.node.kind ≡ kind.IfStatement → ChainOf q.node.kind c.role q.node q.chain c.chain → Shows c.chain (made_by kind.IfStatement q.node c.node)
     if_case w t = by (is kind.Function c.node && is_statement c.node) refl
       where
         outer : (chain : List OpenScope) → ChainOf q.node.kind c.role q.node q.chain chain → Shows chain (record { kind = environment.IfBody; maker = c.node.node_id } ∷ [])
-        outer _ (outer_chain i) = λ j. subst (Matches N) (sym (meaning_further bs x not_arguments (record { kind = environment.IfBody; maker = c.node.node_id }) E refl (unusual (record { kind = environment.IfBody; maker = c.node.node_id }) refl (λ u. never u.1)))) (agree j)
+        outer _ (outer_chain i) = λ j. subst (Matches N) (sym (meaning_further bs x not_arguments (record { kind = environment.IfBody; maker = c.node.node_id }) E refl (unusual (record { kind = environment.IfBody; maker = c.node.node_id }) refl (λ u. never u.1)))) (agree j.1)
         outer _ (inner_chain s i o j) = absurd (never (sym (subst (λ a. is_inside a c.role ≡ true) w i)))
 
         by : (b : Bool) → (is kind.Function c.node && is_statement c.node) ≡ b → Shows c.chain (cond b (record { kind = environment.IfBody; maker = c.node.node_id } ∷ []) [])
@@ -523,7 +544,7 @@ module _ (p : Tree) (h : first_fault p ≡ None) (e : is_ecmascript p ≡ true) 
     switch_case w t = by (is kind.SwitchCase c.node) refl
       where
         by : (b : Bool) → is kind.SwitchCase c.node ≡ b → Shows c.chain (cond b (record { kind = environment.Block; maker = q.node.node_id } ∷ []) [])
-        by true v = one_case kind.SwitchStatement environment.Block w (ap (λ b. cond b (record { kind = environment.Block; maker = q.node.node_id } ∷ []) []) v) (λ m. refl) (λ j y. environment_kind_is j environment.Block y) (refl, refl) t
+        by true v = one_case kind.SwitchStatement environment.Block w (ap (λ b. cond b (record { kind = environment.Block; maker = q.node.node_id } ∷ []) []) v) (λ m. refl) (λ j y. environment_kind_is j environment.Block y) (refl, refl) (λ u. absurd (never (sym u))) t
         by false v = none_case kind.SwitchStatement w (ap (λ b. cond b (record { kind = environment.Block; maker = q.node.node_id } ∷ []) []) v) t
 
     -- inside a class its name means what it means around, and its scope binds nothing else
@@ -593,12 +614,12 @@ module _ (p : Tree) (h : first_fault p ≡ None) (e : is_ecmascript p ≡ true) 
               subst (Matches N) (sym (meaning_here bs x not_arguments Inside E i is refl v)) (y, there, all_inside m y there (i ∷ is) (λ j a. subst (Among j) (sym v) a))
 
       class_round : (chain : List OpenScope) → c.chain ≡ chain → ChainOf q.node.kind c.role q.node q.chain chain → Shows chain (Inside ∷ [])
-      class_round _ v (outer_chain i) = λ j. inside_shows (agree j)
+      class_round _ v (outer_chain i) = λ j. inside_shows (agree j.1)
       class_round _ v (inner_chain s i o j) = seen_by s o j v (Inside ∷ []) (λ last m.
           further s (s_opened s o j v) (s_entry s o j v) q.node o seen.familiar.node N (meaning bs (Inside ∷ E) x)
           (unanswered s (s_opened s o j v) (s_entry s o j v) q.node o seen.familiar.node (λ b. never (sym (ap (λ z. same_environment_kind z environment.Class) (environment_kind_is b.bind.environment.kind environment.Class (subst (λ a. may_make a b.bind.environment.kind ≡ true) w b.makes))) ∙ no_class b.bind b.known.plainly)))
           (inside_shows m))
-          (λ header. absurd (never (sym header ∙ j ∙ ap (λ a. is_in_header a c.role) w)))
+          (λ header fits m. absurd (never (sym header ∙ j ∙ ap (λ a. is_in_header a c.role) w)))
 
     class_case : q.node.kind ≡ kind.Class → ChainOf q.node.kind c.role q.node q.chain c.chain → Shows c.chain (made_by kind.Class q.node c.node)
     class_case w t = by (is kind.Decorator c.node) refl
@@ -613,40 +634,42 @@ module _ (p : Tree) (h : first_fault p ≡ None) (e : is_ecmascript p ≡ true) 
         never (sym (ap (λ b. b || in_with_under q.path) there) ∙ apart_here)
 
     by_kind : (k : AstType) → q.node.kind ≡ k → ChainOf q.node.kind c.role q.node q.chain c.chain → Shows c.chain (made_by k q.node c.node)
-    by_kind kind.Program w t = one_case kind.Program environment.Global w refl (λ m. refl) (λ j y. environment_kind_is j environment.Global y) (refl, refl) t
+    by_kind kind.Program w t = one_case kind.Program environment.Global w refl (λ m. refl) (λ j y. environment_kind_is j environment.Global y) (refl, refl) (λ u. absurd (never (sym u))) t
     by_kind kind.Function w t = function_case w t
     by_kind kind.ArrowFunctionExpression w t = arrow_case w t
-    by_kind kind.StaticBlock w t = one_case kind.StaticBlock environment.StaticBlock w refl (λ m. refl) (λ j y. environment_kind_is j environment.StaticBlock y) (refl, refl) t
-    by_kind kind.BlockStatement w t = one_case kind.BlockStatement environment.Block w refl (λ m. refl) (λ j y. environment_kind_is j environment.Block y) (refl, refl) t
+    by_kind kind.StaticBlock w t = one_case kind.StaticBlock environment.StaticBlock w refl (λ m. refl) (λ j y. environment_kind_is j environment.StaticBlock y) (refl, refl) (λ u. absurd (never (sym u))) t
+    by_kind kind.BlockStatement w t = one_case kind.BlockStatement environment.Block w refl (λ m. refl) (λ j y. environment_kind_is j environment.Block y) (refl, refl) (λ u. absurd (never (sym u))) t
     by_kind kind.SwitchStatement w t = switch_case w t
     by_kind kind.IfStatement w t = if_case w t
-    by_kind kind.ForStatement w t = one_case kind.ForStatement environment.Loop w refl (λ m. refl) (λ j y. environment_kind_is j environment.Loop y) (refl, refl) t
-    by_kind kind.ForInStatement w t = one_case kind.ForInStatement environment.Loop w refl (λ m. refl) (λ j y. environment_kind_is j environment.Loop y) (refl, refl) t
-    by_kind kind.ForOfStatement w t = one_case kind.ForOfStatement environment.Loop w refl (λ m. refl) (λ j y. environment_kind_is j environment.Loop y) (refl, refl) t
-    by_kind kind.CatchClause w t = one_case kind.CatchClause environment.Catch w refl (λ m. refl) (λ j y. environment_kind_is j environment.Catch y) (refl, refl) t
+    by_kind kind.ForStatement w t = one_case kind.ForStatement environment.Loop w refl (λ m. refl) (λ j y. environment_kind_is j environment.Loop y) (refl, refl) (λ u. absurd (never (sym u))) t
+    by_kind kind.ForInStatement w t = one_case kind.ForInStatement environment.Loop w refl (λ m. refl) (λ j y. environment_kind_is j environment.Loop y) (refl, refl) (λ u. absurd (never (sym u))) t
+    by_kind kind.ForOfStatement w t = one_case kind.ForOfStatement environment.Loop w refl (λ m. refl) (λ j y. environment_kind_is j environment.Loop y) (refl, refl) (λ u. absurd (never (sym u))) t
+    by_kind kind.CatchClause w t = one_case kind.CatchClause environment.Catch w refl (λ m. refl) (λ j y. environment_kind_is j environment.Catch y) (refl, refl) (λ u. refl) t
     by_kind kind.Class w t = class_case w t
     by_kind kind.WithStatement w t = absurd (never_with w)
     by_kind _ w t = none_case _ w refl t
 
   -- ---- all places
 
-  agree_steps : (q : Place) (own : Option OpenScope) (n cursor : ℕ) (f : Forest) → (is kind.BindingIdentifier q.node ≡ false → in_with_under q.path ≡ false → Agrees q) → IsSeen q → OwnOf q own → EachStep SeenAt (steps_below q own n cursor f) → EachStep AgreesAt (steps_below q own n cursor f)
-  agree_steps q own n cursor nothing agree seen o k = last_case (EachStep AgreesAt) q own n tt (tt, (tt, tt))
-  agree_steps q own n cursor (tree r k2 span text marks below id after) agree seen o k =
+  agree_steps : (q : Place) (own : Option OpenScope) (n cursor : ℕ) (f : Forest) → (is kind.BindingIdentifier q.node ≡ false → in_with_under q.path ≡ false → Agrees q) → IsSeen q → OwnOf q own → holds_below heads_parameters q.node.kind f ≡ true → EachStep SeenAt (steps_below q own n cursor f) → EachStep AgreesAt (steps_below q own n cursor f)
+  agree_steps q own n cursor nothing agree seen o heads k = last_case (EachStep AgreesAt) q own n tt (tt, (tt, tt))
+  agree_steps q own n cursor (tree r k2 span text marks below id after) agree seen o heads k =
       let node : Node = record { kind = k2; span = span; text = text; marks = marks; children = below; node_id = id } in
       let turn : Turn = turn_at q own n cursor r node after in
       let sees : EachOfTurn SeenAt turn = turn_of_each SeenAt turn k in
       let child_seen : IsSeen turn.child = sees.whole.0 in
       let well : stands_well q.node.kind r k2 [] ≡ true = child_seen.familiar.stands in
+      let head : heads_parameters q.node.kind r k2 text ≡ true = and_first (heads_parameters q.node.kind r k2 text) (holds_below heads_parameters k2 below && holds_below heads_parameters q.node.kind after) heads in
+      let more : (holds_below heads_parameters k2 below && holds_below heads_parameters q.node.kind after) ≡ true = and_second (heads_parameters q.node.kind r k2 text) (holds_below heads_parameters k2 below && holds_below heads_parameters q.node.kind after) heads in
       let no_identifier : is kind.BindingIdentifier q.node ≡ false = not-true (same_kind q.node.kind kind.BindingIdentifier) (and_first (not (same_kind q.node.kind kind.BindingIdentifier)) _ well) in
       let o_scope : OwnOf q turn.scope = own_of q r own n o in
       let chain : ChainOf q.node.kind r q.node q.chain turn.child.chain = chain_of q r turn.scope cursor node child_seen.familiar.undecorated (is_open_inside q r own n) o_scope in
-      let child : is kind.BindingIdentifier node ≡ false → in_with_under (q.node ∷ q.path) ≡ false → Agrees turn.child = λ i w. by_kind q turn.child (agree no_identifier (with_outer q w)) seen child_seen refl well i w q.node.kind refl chain in
+      let child : is kind.BindingIdentifier node ≡ false → in_with_under (q.node ∷ q.path) ≡ false → Agrees turn.child = λ i w. by_kind q turn.child (agree no_identifier (with_outer q w)) seen child_seen refl well head i w q.node.kind refl chain in
       each_of_turn AgreesAt turn (record {
         before = opening_case (EachStep AgreesAt) q r own n tt (tt, tt);
-        whole = each_of_node AgreesAt turn.child turn.below child (agree_steps turn.child None turn.next turn.inner below child child_seen tt (each_left SeenAt turn.below (leaving turn.child ∷ []) sees.whole.1)) tt;
+        whole = each_of_node AgreesAt turn.child turn.below child (agree_steps turn.child None turn.next turn.inner below child child_seen tt (and_first (holds_below heads_parameters k2 below) (holds_below heads_parameters q.node.kind after) more) (each_left SeenAt turn.below (leaving turn.child ∷ []) sees.whole.1)) tt;
         behind = ending_case (EachStep AgreesAt) q r turn.scope after tt (λ s. (tt, tt)) (λ s. (tt, tt)) (λ s. (tt, (tt, tt)));
-        others = agree_steps q turn.scope turn.rest turn.past after agree seen o_scope sees.others;
+        others = agree_steps q turn.scope turn.rest turn.past after agree seen o_scope (and_second (holds_below heads_parameters k2 below) (holds_below heads_parameters q.node.kind after) more) sees.others;
       })
 
   seen_each : (ss : List Step) → ((q : Place) → Among (entering q) ss → Among (entering q) (steps p)) → EachStep KnownAt ss → EachStep (FamiliarAt (node_at p)) ss → EachStep (IsPlaceOpened (openers (steps p))) ss → EachStep (IsStepIn (table_of p)) ss → EachStep SeenAt ss
@@ -663,4 +686,4 @@ module _ (p : Tree) (h : first_fault p ≡ None) (e : is_ecmascript p ≡ true) 
       let n : ℕ = on_entering p.root.kind 0 in
       let below : List Step = steps_below root None 0 n p.root.children in
       let all : EachStep SeenAt (steps p) = seen_each (steps p) (λ q i. i) (known_program p h e) (familiar_program p h e numbered) (places_opened p) (steps_in p (has_form p h)) in
-      each_of_node AgreesAt root below (λ i w j. refl) (agree_steps root None 0 n p.root.children (λ i w j. refl) all.0 tt (each_left SeenAt below (leaving root ∷ []) all.1)) tt
+      each_of_node AgreesAt root below (λ i w j. refl) (agree_steps root None 0 n p.root.children (λ i w j. refl) all.0 tt (tree_heads p h) (each_left SeenAt below (leaving root ∷ []) all.1)) tt
