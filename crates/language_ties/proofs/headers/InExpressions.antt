@@ -34,7 +34,7 @@ use Rattle.language_ties.specs.Bound.{Bound, written}
 use Rattle.language_ties.specs.EcmaScript.{is_ecmascript_forest, is_ecmascript}
 use Rattle.language_ties.specs.Environments.{contains_expression, has_parameter_expressions}
 use Rattle.language_ties.specs.MarkedKeys.{refers, key_refers, keys_are_marked}
-use Rattle.language_ties.proofs.headers.ListsOnce.{is_params, some_params, once_below, tree_once}
+use Rattle.language_ties.proofs.headers.ListsOnce.{is_listing, is_list_role, some_list, once_below, tree_once}
 use Rattle.language_ties.proofs.headers.PatternShape.{is_binding, is_pattern_child, tree_patterns, is_list_child, tree_lists, unread}
 use Rattle.language_ties.proofs.shared.PlainNodes.{forests_plain}
 use Rattle.language_ties.proofs.symbols.OneSymbol.{each_at}
@@ -49,41 +49,47 @@ params_in f = nodes_in role.Params (trees f)
 
 -- no list of the node stands before the children, or none among them
 abbrev AreLeft : Node → Forest → Type 0
-AreLeft x f = (params_in x.children ≡ params_in f) ⊎ (params_in f ≡ [])
-
-module _ (x : Node) (r : Role) (node : Node) (after : Forest) where
-  -- the children behind one of them
-  left_after : (behind : is_params r ≡ true → params_in after ≡ []) → (params_in x.children ≡ (if is_params r then node ∷ params_in after else params_in after)) ⊎ ((if is_params r then node ∷ params_in after else params_in after) ≡ []) → AreLeft x after
-  left_after behind h = by (is_params r) refl h
-    where
-      by : (b : Bool) → is_params r ≡ b → (params_in x.children ≡ (if b then node ∷ params_in after else params_in after)) ⊎ ((if b then node ∷ params_in after else params_in after) ≡ []) → AreLeft x after
-      by true e k = inr (behind e)
-      by false e k = k
-
-  -- a list that stands there is the node's first
-  first_list : is_params r ≡ true → (params_in x.children ≡ (if is_params r then node ∷ params_in after else params_in after)) ⊎ ((if is_params r then node ∷ params_in after else params_in after) ≡ []) → child_of role.Params x ≡ Some node
-  first_list e h = by (rw e at h)
-    where
-      by : (params_in x.children ≡ node ∷ params_in after) ⊎ ((node ∷ params_in after) ≡ []) → child_of role.Params x ≡ Some node
-      by (inl q) = ap first_of q
-      by (inr q) = absurd cc
+AreLeft x f = is_listing x.kind ≡ true → (params_in x.children ≡ params_in f) ⊎ (params_in f ≡ [])
 
 -- where none of the children has the role, there is no list among them
-none_of_role : (f : Forest) → some_params (trees f) ≡ false → params_in f ≡ []
-none_of_role nothing h = refl
-none_of_role (tree r k span text marks below id after) h = by (is_params r) h (none_of_role after)
+none_of_role : (k : AstType) (f : Forest) → is_listing k ≡ true → some_list k (trees f) ≡ false → params_in f ≡ []
+none_of_role k nothing l h = refl
+none_of_role k (tree r k2 span text marks below id after) l h = by (same_role r role.Params) (rw l at h) (none_of_role k after l)
   where
-    by : (b : Bool) → (b || some_params (trees after)) ≡ false → (some_params (trees after) ≡ false → params_in after ≡ []) → (if b then record { kind = k; span = span; text = text; marks = marks; children = below; node_id = id } ∷ params_in after else params_in after) ≡ []
+    by : (b : Bool) → (b || some_list k (trees after)) ≡ false → (some_list k (trees after) ≡ false → params_in after ≡ []) → (if b then record { kind = k2; span = span; text = text; marks = marks; children = below; node_id = id } ∷ params_in after else params_in after) ≡ []
     by true w later = absurd cc
     by false w later = later w
 
-no_other : (r : Role) (after : Forest) → (not (is_params r) || not (some_params (trees after))) ≡ true → is_params r ≡ true → params_in after ≡ []
-no_other r after h e = none_of_role after (by (is_params r) (some_params (trees after)) h e)
-  where
-    by : (a b : Bool) → (not a || not b) ≡ true → a ≡ true → b ≡ false
-    by true false w v = refl
-    by true true w v = absurd cc
-    by false b w v = absurd (never (sym v))
+module _ (x : Node) (r : Role) (node : Node) (after : Forest) where
+  -- the lists among a child and those behind it
+  abbrev with_child : List Node
+  with_child = if same_role r role.Params then node ∷ params_in after else params_in after
+
+  no_other : is_listing x.kind ≡ true → (not (is_list_role x.kind r) || not (some_list x.kind (trees after))) ≡ true → same_role r role.Params ≡ true → params_in after ≡ []
+  no_other l h e = none_of_role x.kind after l (by (is_listing x.kind) (same_role r role.Params) (some_list x.kind (trees after)) l e h)
+    where
+      by : (a b c : Bool) → a ≡ true → b ≡ true → (not (a && b) || not c) ≡ true → c ≡ false
+      by true true false u v w = refl
+      by true true true u v w = absurd cc
+      by true false c u v w = absurd (never (sym v))
+      by false b c u v w = absurd (never (sym u))
+
+  -- the children behind one of them
+  left_after : (not (is_list_role x.kind r) || not (some_list x.kind (trees after))) ≡ true → (is_listing x.kind ≡ true → (params_in x.children ≡ with_child) ⊎ (with_child ≡ [])) → AreLeft x after
+  left_after once h l = by (same_role r role.Params) refl (h l)
+    where
+      by : (b : Bool) → same_role r role.Params ≡ b → (params_in x.children ≡ (if b then node ∷ params_in after else params_in after)) ⊎ ((if b then node ∷ params_in after else params_in after) ≡ []) → (params_in x.children ≡ params_in after) ⊎ (params_in after ≡ [])
+      by true e k = inr (no_other l once e)
+      by false e k = k
+
+  -- a list that stands there is the node's first
+  first_list : is_list_role x.kind r ≡ true → (is_listing x.kind ≡ true → (params_in x.children ≡ with_child) ⊎ (with_child ≡ [])) → child_of role.Params x ≡ Some node
+  first_list e h = by (same_role r role.Params) (and_second (is_listing x.kind) (same_role r role.Params) e) (h (and_first (is_listing x.kind) (same_role r role.Params) e))
+    where
+      by : (b : Bool) → b ≡ true → (params_in x.children ≡ (if b then node ∷ params_in after else params_in after)) ⊎ ((if b then node ∷ params_in after else params_in after) ≡ []) → child_of role.Params x ≡ Some node
+      by true e (inl q) = ap first_of q
+      by true e (inr q) = absurd cc
+      by false e q = absurd (never (sym e))
 
 module _ (p : Tree) where
   -- of the functions among whose parameters the place stands, each has an expression there
@@ -118,11 +124,11 @@ module _ (p : Tree) where
 
   -- a child of a node all of whose functions have one
   module _ (x : Node) (path : List Node) (r : Role) (node : Node) (after : Forest) (expressed : AllExpressed x path) (listed : is_list_child x.kind r node.kind [] ≡ true) (e : is_ecmascript_forest node.children ≡ true) (m : keys_are_marked node.children ≡ true) (h : holds_below is_pattern_child node.kind node.children ≡ true)
-      (left : (params_in x.children ≡ (if is_params r then node ∷ params_in after else params_in after)) ⊎ ((if is_params r then node ∷ params_in after else params_in after) ≡ [])) where
+      (left : is_listing x.kind ≡ true → (params_in x.children ≡ with_child x r node after) ⊎ (with_child x r node after ≡ [])) where
     a_list : is kind.FormalParameters node ≡ true → Fits node (x ∷ path)
     a_list k = by (contains_expression node.children) refl
       where
-        role_of : is_params r ≡ true
+        role_of : is_list_role x.kind r ≡ true
         role_of = rw k at listed
 
         by : (b : Bool) → contains_expression node.children ≡ b → Fits node (x ∷ path)
@@ -142,14 +148,14 @@ module _ (p : Tree) where
   below_of x path (inl h) = inl h
   below_of x path (inr h) = inr h.1
 
-  fits_steps : (q : Place) (own : Option OpenScope) (n cursor : ℕ) (f : Forest) → FitsBelow q.node q.path f → AreLeft q.node f → is_ecmascript_forest f ≡ true → keys_are_marked f ≡ true → once_below f ≡ true → holds_below is_pattern_child q.node.kind f ≡ true → holds_below is_list_child q.node.kind f ≡ true → EachStep FitsAt (steps_below q own n cursor f)
+  fits_steps : (q : Place) (own : Option OpenScope) (n cursor : ℕ) (f : Forest) → FitsBelow q.node q.path f → AreLeft q.node f → is_ecmascript_forest f ≡ true → keys_are_marked f ≡ true → once_below q.node.kind f ≡ true → holds_below is_pattern_child q.node.kind f ≡ true → holds_below is_list_child q.node.kind f ≡ true → EachStep FitsAt (steps_below q own n cursor f)
   fits_steps q own n cursor nothing fits left e m o h l = last_case (EachStep FitsAt) q own n tt (tt, (tt, tt))
   fits_steps q own n cursor (tree r k2 span text marks below id after) fits left e m o h l =
       let node : Node = record { kind = k2; span = span; text = text; marks = marks; children = below; node_id = id } in
       let turn : Turn = turn_at q own n cursor r node after in
       let forests : (is_ecmascript_forest below ≡ true) × (is_ecmascript_forest after ≡ true) = forests_plain _ below after e in
       let marked : (keys_are_marked below && keys_are_marked after) ≡ true = and_second (not (same_kind k2 kind.BindingProperty) || has_mark marks mark.Computed || not (key_refers below)) (keys_are_marked below && keys_are_marked after) m in
-      let onces : (once_below below && once_below after) ≡ true = and_second (not (is_params r) || not (some_params (trees after))) (once_below below && once_below after) o in
+      let onces : (once_below k2 below && once_below q.node.kind after) ≡ true = and_second (not (is_list_role q.node.kind r) || not (some_list q.node.kind (trees after))) (once_below k2 below && once_below q.node.kind after) o in
       let patterns : (holds_below is_pattern_child k2 below && holds_below is_pattern_child q.node.kind after) ≡ true = and_second (is_pattern_child q.node.kind r k2 text) (holds_below is_pattern_child k2 below && holds_below is_pattern_child q.node.kind after) h in
       let lists : (holds_below is_list_child k2 below && holds_below is_list_child q.node.kind after) ≡ true = and_second (is_list_child q.node.kind r k2 text) (holds_below is_list_child k2 below && holds_below is_list_child q.node.kind after) l in
       let child : Fits node (q.node ∷ q.path) = elim fits [
@@ -163,9 +169,9 @@ module _ (p : Tree) where
       each_of_turn FitsAt turn (record {
         before = opening_case (EachStep FitsAt) q r own n tt (tt, tt);
         whole = each_of_node FitsAt turn.child turn.below child
-            (fits_steps turn.child None turn.next turn.inner below (below_of node (q.node ∷ q.path) child) (inl refl) forests.0 (and_first (keys_are_marked below) (keys_are_marked after) marked) (and_first (once_below below) (once_below after) onces) (and_first (holds_below is_pattern_child k2 below) (holds_below is_pattern_child q.node.kind after) patterns) (and_first (holds_below is_list_child k2 below) (holds_below is_list_child q.node.kind after) lists)) tt;
+            (fits_steps turn.child None turn.next turn.inner below (below_of node (q.node ∷ q.path) child) (λ i. inl refl) forests.0 (and_first (keys_are_marked below) (keys_are_marked after) marked) (and_first (once_below k2 below) (once_below q.node.kind after) onces) (and_first (holds_below is_pattern_child k2 below) (holds_below is_pattern_child q.node.kind after) patterns) (and_first (holds_below is_list_child k2 below) (holds_below is_list_child q.node.kind after) lists)) tt;
         behind = ending_case (EachStep FitsAt) q r turn.scope after tt (λ s. (tt, tt)) (λ s. (tt, tt)) (λ s. (tt, (tt, tt)));
-        others = fits_steps q turn.scope turn.rest turn.past after others (left_after q.node r node after (no_other r after (and_first (not (is_params r) || not (some_params (trees after))) (once_below below && once_below after) o)) left) forests.1 (and_second (keys_are_marked below) (keys_are_marked after) marked) (and_second (once_below below) (once_below after) onces) (and_second (holds_below is_pattern_child k2 below) (holds_below is_pattern_child q.node.kind after) patterns) (and_second (holds_below is_list_child k2 below) (holds_below is_list_child q.node.kind after) lists);
+        others = fits_steps q turn.scope turn.rest turn.past after others (left_after q.node r node after (and_first (not (is_list_role q.node.kind r) || not (some_list q.node.kind (trees after))) (once_below k2 below && once_below q.node.kind after) o) left) forests.1 (and_second (keys_are_marked below) (keys_are_marked after) marked) (and_second (once_below k2 below) (once_below q.node.kind after) onces) (and_second (holds_below is_pattern_child k2 below) (holds_below is_pattern_child q.node.kind after) patterns) (and_second (holds_below is_list_child k2 below) (holds_below is_list_child q.node.kind after) lists);
       })
 
   fits_program : first_fault p ≡ None → is_ecmascript p ≡ true → keys_are_marked p.root.children ≡ true → EachStep FitsAt (steps p)
@@ -173,7 +179,7 @@ module _ (p : Tree) where
       let root : Place = root_place p in
       let n : ℕ = on_entering p.root.kind 0 in
       each_of_node FitsAt root (steps_below root None 0 n p.root.children) (inl tt)
-      (fits_steps root None 0 n p.root.children (inl tt) (inl refl) (and_second (not (is_typescript p.source_type)) (is_ecmascript_forest p.root.children) e) m (tree_once p h) (tree_patterns p h) (tree_lists p h)) tt
+      (fits_steps root None 0 n p.root.children (inl tt) (λ i. inl refl) (and_second (not (is_typescript p.source_type)) (is_ecmascript_forest p.root.children) e) m (tree_once p h) (tree_patterns p h) (tree_lists p h)) tt
 
   -- so each reference stands in expressions
   of_expressed : (bs : List Bound) (name : Name) (x : Node) (path : List Node) → AllExpressed x path → StandsInExpressions bs name x path

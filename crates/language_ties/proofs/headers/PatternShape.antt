@@ -25,6 +25,7 @@ use Rattle.walk_model.proofs.places.Shapes.{only_is, holds_below, tree_holds}
 use Rattle.language_ties.specs.EcmaScript.{is_ecmascript_kind, has_foreign_mark, is_foreign_text, is_ecmascript_forest}
 use Rattle.language_ties.specs.Environments.{contains_expression}
 use Rattle.language_ties.specs.MarkedKeys.{refers, key_refers, keys_are_marked}
+use Rattle.language_ties.proofs.headers.ListsOnce.{is_list_role}
 use Rattle.language_ties.proofs.shared.PlainNodes.{forests_plain}
 
 never : true ≡ false → ⊥
@@ -90,10 +91,10 @@ tree_patterns p h = tree_holds is_pattern_child (λ k. passed_hold is_pattern_ch
 
 -- a list of parameters stands in its role
 abbrev pub is_list_child : AstType → Role → AstType → List ℕ → Bool
-is_list_child k r k2 text = not (same_kind k2 kind.FormalParameters) || same_role r role.Params
+is_list_child k r k2 text = not (same_kind k2 kind.FormalParameters) || is_list_role k r
 
 part_lists : AstType → List ℕ → Part → Bool
-part_lists k text part = not (is_of part.class kind.FormalParameters text) || same_role part.role role.Params
+part_lists k text part = not (is_of part.class kind.FormalParameters text) || is_list_role k part.role
 
 all_list : (k : AstType) (text : List ℕ) → list_all (part_lists k text) (parts k) ≡ true
 unfolding part_lists
@@ -108,9 +109,9 @@ list_holds k part k2 text h i = by (same_kind k2 kind.FormalParameters) refl
     other true b w v = w
     other false b w v = absurd cc
 
-    by : (b : Bool) → same_kind k2 kind.FormalParameters ≡ b → (not b || same_role part.role role.Params) ≡ true
+    by : (b : Bool) → same_kind k2 kind.FormalParameters ≡ b → (not b || is_list_role k part.role) ≡ true
     by false e = refl
-    by true e = other (is_of part.class kind.FormalParameters text) (same_role part.role role.Params) h (subst (λ z. is_of part.class z text ≡ true) (kind_is k2 kind.FormalParameters e) i)
+    by true e = other (is_of part.class kind.FormalParameters text) (is_list_role k part.role) h (subst (λ z. is_of part.class z text ≡ true) (kind_is k2 kind.FormalParameters e) i)
 
 pub tree_lists : (p : Tree) → first_fault p ≡ None → holds_below is_list_child p.root.kind p.root.children ≡ true
 tree_lists p h = tree_holds is_list_child (λ k. passed_hold is_list_child (part_lists k) k (list_holds k) (parts k) (all_list k)) p h
