@@ -447,7 +447,7 @@ module _ (p : Tree) (h : first_fault p ≡ None) (e : is_ecmascript p ≡ true) 
                 let w : IsHere Parameters i = is_here Parameters i (subst (Among i) (sym j) (inl refl)) in
                 let env : w.bind.environment ≡ Parameters = directly Parameters i n.1 w in
                 let same : H ≡ get final.bindings s.number x = answers_too p h e numbered x none clear plain s s_opened (awaited v) w.bind w.known w.named (opener ∙ sym (ap (λ z. z.maker) env)) (subst (λ d. is_parameters d ≡ true) (sym env) parameters)
-                    (λ f found. subst (λ g. has_parameter_expressions g ≡ true) (some_is q.node f (sym seen.familiar.node ∙ ap (λ d. node_at p d.maker) (sym env) ∙ found)) (fits w.bind w.among w.named (ap (λ d. d.maker) env))) in
+                (λ f found. subst (λ g. has_parameter_expressions g ≡ true) (some_is q.node f (sym seen.familiar.node ∙ ap (λ d. node_at p d.maker) (sym env) ∙ found)) (fits w.bind w.among w.named (ap (λ d. d.maker) env))) in
                 subst (λ t. Matches (or_else t N) (meaning bs (Parameters ∷ (ds ++ E)) x)) (sym same) (here s s_opened s_entry q.node opener seen.familiar.node Parameters (ds ++ E) refl n i is j N)
 
       function_shows : (k : EnvironmentKind) (ds : List Environment) → is_function_kind q.node.kind ≡ true → (same_environment_kind k environment.Object ≡ false) × (same_environment_kind k environment.Class ≡ false) → is_parameters (record { kind = k; maker = q.node.node_id }) ≡ true

@@ -87,26 +87,26 @@ function_behind_header =
 abbrev pub header_in_header : Tree
 header_in_header =
     sloppy (function (codes "f") (defaulted (codes "a") (reads role.Initializer (codes "a"))
-        ∷ defaulted (codes "b") (expression role.Initializer (defaulted (codes "c") (reads role.Initializer (codes "b")) ∷ []) (declared (codes "var") (codes "b") ∷ read (codes "a") ∷ [])) ∷ [])
-        (declared (codes "var") (codes "b") ∷ []) ∷ [])
+    ∷ defaulted (codes "b") (expression role.Initializer (defaulted (codes "c") (reads role.Initializer (codes "b")) ∷ []) (declared (codes "var") (codes "b") ∷ read (codes "a") ∷ [])) ∷ [])
+    (declared (codes "var") (codes "b") ∷ []) ∷ [])
 
 -- `((a = b, b) => { var b; b; let c; c })`
 abbrev pub header_of_arrow : Tree
 header_of_arrow =
     sloppy (node role.Body kind.ExpressionStatement []
-        (node role.Expression kind.ArrowFunctionExpression []
-        (params (codes "arrow") (defaulted (codes "a") (reads role.Initializer (codes "b")) ∷ parameter (codes "b") ∷ [])
-        ∷ body (declared (codes "var") (codes "b") ∷ read (codes "b") ∷ declared (codes "let") (codes "c") ∷ read (codes "c") ∷ []) ∷ []) ∷ []) ∷ [])
+    (node role.Expression kind.ArrowFunctionExpression []
+    (params (codes "arrow") (defaulted (codes "a") (reads role.Initializer (codes "b")) ∷ parameter (codes "b") ∷ [])
+    ∷ body (declared (codes "var") (codes "b") ∷ read (codes "b") ∷ declared (codes "let") (codes "c") ∷ read (codes "c") ∷ []) ∷ []) ∷ []) ∷ [])
 
 -- `class A { m(a = A, A) { var A; A } } A`
 abbrev pub class_and_header : Tree
 class_and_header =
     sloppy (node role.Body kind.Class (codes "declaration")
-        (binds role.Id (codes "A")
-        ∷ node role.Body kind.ClassBody []
-            (node role.Body kind.MethodDefinition (codes "method")
-            (node role.Key kind.IdentifierName (codes "m") []
-            ∷ expression role.Value (defaulted (codes "a") (reads role.Initializer (codes "A")) ∷ parameter (codes "A") ∷ []) (declared (codes "var") (codes "A") ∷ read (codes "A") ∷ []) ∷ []) ∷ []) ∷ []) ∷ read (codes "A") ∷ [])
+    (binds role.Id (codes "A")
+    ∷ node role.Body kind.ClassBody []
+    (node role.Body kind.MethodDefinition (codes "method")
+    (node role.Key kind.IdentifierName (codes "m") []
+    ∷ expression role.Value (defaulted (codes "a") (reads role.Initializer (codes "A")) ∷ parameter (codes "A") ∷ []) (declared (codes "var") (codes "A") ∷ read (codes "A") ∷ []) ∷ []) ∷ []) ∷ []) ∷ read (codes "A") ∷ [])
 
 -- `function f({ [a]: b }) { var a }`, where the key isn't marked as computed
 abbrev pub unmarked_key : Tree

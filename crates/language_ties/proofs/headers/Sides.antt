@@ -286,7 +286,7 @@ module _ (g : ℕ → Option Node) where
       let o_scope : OwnOf q turn.scope = own_of q r own n o in
       let chain : ChainOf q.node.kind r q.node q.chain turn.child.chain = chain_of q r turn.scope cursor node child_familiar.undecorated (is_open_inside q r own n) o_scope in
       let child : is kind.BindingIdentifier node ≡ false → in_with_under (q.node ∷ q.path) ≡ false → HasSides turn.child =
-          λ i w. child_sides q turn.child w refl known child_known familiar well (and_first (heads_parameters q.node.kind r k2 text) (holds_below heads_parameters k2 below && holds_below heads_parameters q.node.kind after) heads) i (before no_identifier (with_outer (is kind.WithStatement q.node) (in_with_under q.path) w)) chain in
+      λ i w. child_sides q turn.child w refl known child_known familiar well (and_first (heads_parameters q.node.kind r k2 text) (holds_below heads_parameters k2 below && holds_below heads_parameters q.node.kind after) heads) i (before no_identifier (with_outer (is kind.WithStatement q.node) (in_with_under q.path) w)) chain in
       each_of_turn SidesAt turn (record {
         before = opening_case (EachStep SidesAt) q r own n tt (tt, tt);
         whole = each_of_node SidesAt turn.child turn.below child
