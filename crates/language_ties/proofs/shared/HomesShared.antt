@@ -48,7 +48,7 @@ made_stays y st (declares d ∷ es) a =
 made_stays y st (takes_over c b ∷ es) a = made_stays y (act st (takes_over c b)) es a
 made_stays y st (ends_header c ∷ es) a = made_stays y st es a
 
-is_made : (d : Declaration) (st : State) (es : List Event) → Among d (declarations es) → (s : ℕ) × Among (record { declaration = d; symbol = s }) (run st es).made
+pub is_made : (d : Declaration) (st : State) (es : List Event) → Among d (declarations es) → (s : ℕ) × Among (record { declaration = d; symbol = s }) (run st es).made
 is_made d st [] a = absurd a
 is_made d st (declares e ∷ es) (inl q) =
     let w : Adds st.made e (act st (declares e)).made = adds st e in
