@@ -5,6 +5,7 @@ pub mod FamiliarPlaces
 pub mod PlainBounds
 pub mod ClassBounds
 pub mod EnteredOnce
+pub mod FunctionKinds
 pub mod Identifiers
 pub mod KnownBounds
 pub mod Answers

@@ -22,14 +22,18 @@ abbrev pub has_none : List Environment → Bool
 has_none [] = true
 has_none (e ∷ es) = false
 
--- bound by one environment alone, or as the declaration of a class, which is bound inside it, too; by no function in a block, by no catch clause, and not as an own name
-abbrev pub is_plain : Bound → Bool
-is_plain b =
+-- bound by one environment alone, or as the declaration of a class, which is bound inside it, too; by no function in a block and by no catch clause
+abbrev pub is_declared_plainly : Bound → Bool
+is_declared_plainly b =
     (has_none b.also || is_bound_as bound.Lexical b)
     && (not (is_made_for environment.Catch b.environment || (is_made_for environment.Class b.environment || is_bound_as bound.CatchName b))
-    && (not (is_bound_as bound.OwnName b) && (not (is_bound_as bound.Function b) || takes_variables b.environment)))
+    && (not (is_bound_as bound.Function b) || takes_variables b.environment))
 
--- the name is bound only so: by `var`, `let`, `const`, imports, classes, functions outside of blocks, and as a parameter
+-- so, or as the own name of a function or class expression
+abbrev pub is_plain : Bound → Bool
+is_plain b = is_bound_as bound.OwnName b || is_declared_plainly b
+
+-- the name is bound only so: by `var`, `let`, `const`, imports, classes, functions outside of blocks, as a parameter, and as the own name of an expression
 abbrev pub IsPlainName : Tree → Name → Type 0
 IsPlainName p name = (b : Bound) → Among b (written p.source_type (steps p)) → b.name ≡ name → is_plain b ≡ true
 

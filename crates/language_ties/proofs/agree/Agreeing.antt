@@ -1,7 +1,7 @@
 -- Place by place, the nearest scope that binds a plain name has the symbol of the identifiers by which the nearest environment binds it.
-use Rattle.std.proofs.Common.{◌≡◌, ℕ, suc, ◌+◌, List, [], ◌∷◌, ◌++◌, Option, Some, None, Bool, true, false, ◌&&◌, ◌||◌, not, cond, map, length, inl, inr, ◌⊎◌, refl, sym, ap, subst, ◌∙◌, bytes_eq, codes, arith}
+use Rattle.std.proofs.Common.{◌≡◌, ℕ, suc, List, [], ◌∷◌, ◌++◌, Option, Some, None, Bool, true, false, ◌&&◌, ◌||◌, not, cond, map, length, inl, inr, ◌⊎◌, refl, sym, ap, subst, ◌∙◌, bytes_eq, codes, arith}
 use Rattle.std.specs.Prelude.{slice_get}
-use Rattle.std.proofs.lemmas.Bool.{not-true}
+use Rattle.std.proofs.lemmas.Bool.{cases_Bool, not-true}
 use Rattle.semantic_syntax.proofs.Truth.{and_first, and_second}
 use Rattle.semantic_kinds.specs.Classes.{holds_kind}
 use Rattle.semantic_kinds.specs.Kinds.{same_kind}
@@ -38,7 +38,7 @@ use Rattle.walk_model.proofs.places.Shapes.{holds_below}
 use Rattle.binding_laws.proofs.CutSteps.{WillAwait}
 use Rattle.tangle_model.specs.Surroundings.{in_with_under}
 use Rattle.language_ties.specs.AgreeingNames.{IsPlainName, IsBoundOutsideWith, StandsInExpressions}
-use Rattle.language_ties.specs.Bound.{Bound, written}
+use Rattle.language_ties.specs.Bound.{Bound, is_bound_as, written}
 use Rattle.language_ties.specs.EcmaScript.{is_ecmascript}
 use Rattle.language_ties.specs.Environments.{Environment, same_environment_kind, is_made_for, is_outside_body, has_parameter_expressions, made_by, environments, innermost}
 use Rattle.language_ties.specs.Meaning.{Meaning, unbound, of_object, bound, identifiers_in, meaning}
@@ -46,6 +46,7 @@ use Rattle.language_ties.specs.Moved.{bound_of}
 use Rattle.language_ties.specs.NearestScopes.{nearest_symbol}
 use Rattle.language_ties.specs.Scopes.{Maker, maker_of_scope, maker_of_environment, has_scope, makers}
 use Rattle.language_ties.specs.SharedSymbols.{AllKeepClear}
+use Rattle.language_ties.specs.declared.bound_as.BoundAs.TheVariants as way
 use Rattle.language_ties.specs.declared.environment_kind.EnvironmentKind.{EnvironmentKind}
 use Rattle.language_ties.specs.declared.environment_kind.EnvironmentKind.TheVariants as environment
 use Rattle.language_ties.proofs.EnvironmentsRound.{IsKnown, KnownAt, known_program}
@@ -53,15 +54,20 @@ use Rattle.language_ties.proofs.agree.Answers.{symbol_of, has_symbol, answers, I
 use Rattle.language_ties.proofs.agree.ClassBounds.{IsClassBound, class_bound}
 use Rattle.language_ties.proofs.agree.EnteredOnce.{entered_once}
 use Rattle.language_ties.proofs.agree.FamiliarPlaces.{stands_well, is_function_kind, IsFamiliar, FamiliarAt, familiar_program}
+use Rattle.language_ties.proofs.agree.FunctionKinds.{function_kinds, arrow_kinds, IsOrdinary}
 use Rattle.language_ties.proofs.agree.Identifiers.{IsBoundHere, bound_here, identifier_here, meaning_further, meaning_object, meaning_here}
-use Rattle.language_ties.proofs.agree.KnownBounds.{some_is, KnownBound, known_bound}
+use Rattle.language_ties.proofs.agree.KnownBounds.{some_is, KnownBound}
 use Rattle.language_ties.proofs.agree.KnownNodes.{node_at}
-use Rattle.language_ties.proofs.agree.MadeEnvironments.{may_make, environment_kind_is, EndsAtProgram, IsUsual, innermost_among}
+use Rattle.language_ties.proofs.agree.MadeEnvironments.{may_make, environment_kind_is, EndsAtProgram, innermost_among}
 use Rattle.language_ties.proofs.agree.PlainBounds.{no_class, no_catch}
 use Rattle.language_ties.proofs.headers.ChildChains.{ChainOf, outer_chain, inner_chain, OwnOf, own_of, chain_of}
-use Rattle.language_ties.proofs.headers.HeaderAnswers.{silent, answers_too, awaits}
+use Rattle.language_ties.proofs.headers.HeaderAnswers.{silent, answers_too, own_answers, awaits}
 use Rattle.language_ties.proofs.headers.HeaderShape.{heads_parameters, tree_heads, header_list}
 use Rattle.language_ties.proofs.headers.Sides.{is_parameters}
+use Rattle.language_ties.proofs.own_names.AnyBounds.{AnyBound, any_bound, IsMade, is_made, own_kind}
+use Rattle.language_ties.proofs.own_names.OwnBounds.{IsOfExpression, OwnBound, own_maker}
+use Rattle.language_ties.proofs.own_names.OwnSymbols.{HasSymbol, class_symbol, function_symbol}
+use Rattle.language_ties.proofs.symbols.OneSymbol.{each_at}
 use Rattle.language_ties.proofs.symbols.ScopeOpeners.{openers, IsOpened, AllOpened, IsPlaceOpened, places_opened}
 
 -- a list is not longer than itself
@@ -70,36 +76,6 @@ cons_self x xs h = let w : suc (length xs) ≡ length xs = ap length h in omega 
 
 never : true ≡ false → ⊥
 never h = absurd cc
-
--- ---- functions make environments of four kinds, of which an own name's and an `if` body's are not usual
-
-function_kinds : (e : EnvironmentKind) (m : ℕ) → may_make kind.Function e ≡ true → IsUsual (record { kind = e; maker = m }) → (e ≡ environment.Body) ⊎ (e ≡ environment.Parameters)
-function_kinds environment.Body m h u = inl refl
-function_kinds environment.Parameters m h u = inr refl
-function_kinds environment.OwnName m h u = absurd (never u.0)
-function_kinds environment.IfBody m h u = absurd (never u.1)
-function_kinds environment.Global m h u = absurd cc
-function_kinds environment.ArrowParameters m h u = absurd cc
-function_kinds environment.StaticBlock m h u = absurd cc
-function_kinds environment.Block m h u = absurd cc
-function_kinds environment.Loop m h u = absurd cc
-function_kinds environment.Catch m h u = absurd cc
-function_kinds environment.Class m h u = absurd cc
-function_kinds environment.Object m h u = absurd cc
-
-arrow_kinds : (e : EnvironmentKind) → may_make kind.ArrowFunctionExpression e ≡ true → (e ≡ environment.Body) ⊎ (e ≡ environment.ArrowParameters)
-arrow_kinds environment.Body h = inl refl
-arrow_kinds environment.ArrowParameters h = inr refl
-arrow_kinds environment.Parameters h = absurd cc
-arrow_kinds environment.OwnName h = absurd cc
-arrow_kinds environment.IfBody h = absurd cc
-arrow_kinds environment.Global h = absurd cc
-arrow_kinds environment.StaticBlock h = absurd cc
-arrow_kinds environment.Block h = absurd cc
-arrow_kinds environment.Loop h = absurd cc
-arrow_kinds environment.Catch h = absurd cc
-arrow_kinds environment.Class h = absurd cc
-arrow_kinds environment.Object h = absurd cc
 
 abbrev outside_innermost : List Environment → List Environment
 outside_innermost [] = []
@@ -120,6 +96,9 @@ module _ (p : Tree) (h : first_fault p ≡ None) (e : is_ecmascript p ≡ true) 
 
   abbrev Known : Bound → Type 0
   Known b = KnownBound p h e numbered x none plain b
+
+  abbrev Any : Bound → Type 0
+  Any b = AnyBound p h e numbered x none plain b
 
   -- ---- agreement
 
@@ -150,7 +129,7 @@ module _ (p : Tree) (h : first_fault p ≡ None) (e : is_ecmascript p ≡ true) 
   -- an identifier of the environment is of a bound that is known
   record IsHere (d : Environment) (i : ℕ) : Type 0 where
     bind : Bound
-    known : Known bind
+    known : Any bind
     among : Among bind ws
     named : bind.name ≡ x
     there : (bind.environment ≡ d) ⊎ Among d bind.also
@@ -159,27 +138,49 @@ module _ (p : Tree) (h : first_fault p ≡ None) (e : is_ecmascript p ≡ true) 
   is_here : (d : Environment) (i : ℕ) → Among i (identifiers_in bs d x) → IsHere d i
   is_here d i a =
       let w : IsBoundHere ws x d ws i = bound_here ws x d ws i a in
-      record { bind = w.bind; known = known_bound p h e numbered x none plain w.bind w.among w.named; among = w.among; named = w.named; there = w.there; identifier = w.identifier }
+      record { bind = w.bind; known = any_bound p h e numbered x none plain w.bind w.among w.named; among = w.among; named = w.named; there = w.there; identifier = w.identifier }
 
   -- what is bound in another environment, too, is a class
-  class_here : (d : Environment) (i : ℕ) (w : IsHere d i) → Among d w.bind.also → IsClassBound w.known.placed.by_node.place w.bind d
-  class_here d i w a = class_bound p.source_type w.known.placed.by_node.place w.bind w.known.plainly d a w.known.placed.by_node.place.node.kind w.known.placed.by_node.binds
+  record IsClassHere (d : Environment) (b : Bound) : Type 0 where
+    place : Place
+    entered : Among (entering place) (steps p)
+    class : IsClassBound place b d
+
+  class_here : (d : Environment) (b : Bound) → Any b → Among d b.also → IsClassHere d b
+  class_here d b (inl k) a = record { place = k.placed.by_node.place; entered = k.placed.by_node.entered; class = class_bound p.source_type k.placed.by_node.place b k.plainly d a k.placed.by_node.place.node.kind k.placed.by_node.binds }
+  class_here d b (inr o) a = absurd (subst (Among d) o.named_by.alone a)
 
   directly : (d : Environment) (i : ℕ) → is_made_for environment.Class d ≡ false → (w : IsHere d i) → w.bind.environment ≡ d
   directly d i n w = elim w.there [
     | inl q ↦ q
-    | inr a ↦ absurd (never (sym (ap (is_made_for environment.Class) (class_here d i w a).inside) ∙ n))
+    | inr a ↦ absurd (never (sym (ap (is_made_for environment.Class) (class_here d w.bind w.known a).class.inside) ∙ n))
   ]
 
-  -- nothing is bound by the own name's environment or that of an `if` body
-  unusual : (d : Environment) → is_made_for environment.Class d ≡ false → (IsUsual d → ⊥) → identifiers_in bs d x ≡ []
-  unusual d no_class n = go (identifiers_in bs d x) refl
+  -- what binds it elsewhere than in the environment of an own name or of a class is no own name
+  visible : (d : Environment) (b : Bound) → Any b → b.environment ≡ d → is_made_for environment.Class d ≡ false → is_made_for environment.OwnName d ≡ false → Known b
+  visible d b (inl k) q n u = k
+  visible d b (inr o) q n u = absurd (own_kind p h e numbered x none plain b o (ap (is_made_for environment.OwnName) q ∙ u) (ap (is_made_for environment.Class) q ∙ n))
+
+  -- nothing is bound by the environment of an `if` body
+  no_if_body : (b : Bound) → Any b → is_made_for environment.IfBody b.environment ≡ false
+  no_if_body b (inl k) = k.placed.usual.1
+  no_if_body b (inr o) = elim (cases_Bool (is_made_for environment.IfBody b.environment)) [
+    | inr q ↦ q
+    | inl q ↦ (let k : b.environment.kind ≡ environment.IfBody = environment_kind_is b.environment.kind environment.IfBody q in
+        absurd (own_kind p h e numbered x none plain b o (ap (λ z. same_environment_kind z environment.OwnName) k) (ap (λ z. same_environment_kind z environment.Class) k)))
+  ]
+
+  unusual : (m : ℕ) → identifiers_in bs (record { kind = environment.IfBody; maker = m }) x ≡ []
+  unusual m = go (identifiers_in bs d x) refl
     where
+      d : Environment
+      d = record { kind = environment.IfBody; maker = m }
+
       go : (is : List ℕ) → identifiers_in bs d x ≡ is → identifiers_in bs d x ≡ []
       go [] q = q
       go (i ∷ is) q =
           let w : IsHere d i = is_here d i (subst (Among i) (sym q) (inl refl)) in
-          absurd (n (subst IsUsual (directly d i no_class w) w.known.placed.usual))
+          absurd (never (sym (ap (is_made_for environment.IfBody) (directly d i refl w)) ∙ no_if_body w.bind w.known))
 
   -- ---- a scope with the environments of its opener
 
@@ -188,13 +189,15 @@ module _ (p : Tree) (h : first_fault p ≡ None) (e : is_ecmascript p ≡ true) 
     Y = get final.bindings s.number x
 
     -- all identifiers of an environment of the opener have the symbol that the scope binds
-    answer_of : (d : Environment) → d.maker ≡ q.node_id → is_made_for environment.Class d ≡ false → (i : ℕ) → Among i (identifiers_in bs d x) → (y : ℕ) × (Y ≡ Some y) × (symbol_at (analysis_of p) i ≡ Some y)
+    answer_of : (d : Environment) → d.maker ≡ q.node_id → IsOrdinary d.kind → (i : ℕ) → Among i (identifiers_in bs d x) → (y : ℕ) × (Y ≡ Some y) × (symbol_at (analysis_of p) i ≡ Some y)
     answer_of d m v i a =
         let w : IsHere d i = is_here d i a in
-        let y : ℕ = symbol_of p h e numbered x none clear plain w.bind w.known in
-        (y, answers p h e numbered x none clear plain w.bind w.known s o (opener ∙ sym m ∙ sym (ap (λ z. z.maker) (directly d i v w))), subst (λ j. symbol_at (analysis_of p) j ≡ Some y) w.identifier (has_symbol p h e numbered x none clear plain w.bind w.known))
+        let there : w.bind.environment ≡ d = directly d i v.1 w in
+        let k : Known w.bind = visible d w.bind w.known there v.1 v.2 in
+        let y : ℕ = symbol_of p h e numbered x none clear plain w.bind k in
+        (y, answers p h e numbered x none clear plain w.bind k s o (opener ∙ sym m ∙ sym (ap (λ z. z.maker) there)), subst (λ j. symbol_at (analysis_of p) j ≡ Some y) w.identifier (has_symbol p h e numbered x none clear plain w.bind k))
 
-    all_answer : (d : Environment) → d.maker ≡ q.node_id → is_made_for environment.Class d ≡ false → (y : ℕ) → Y ≡ Some y → (is : List ℕ) → ((i : ℕ) → Among i is → Among i (identifiers_in bs d x)) → AllAre is y
+    all_answer : (d : Environment) → d.maker ≡ q.node_id → IsOrdinary d.kind → (y : ℕ) → Y ≡ Some y → (is : List ℕ) → ((i : ℕ) → Among i is → Among i (identifiers_in bs d x)) → AllAre is y
     all_answer d m v y g [] f = tt
     all_answer d m v y g (i ∷ is) f =
         let (z, there, symbol) = answer_of d m v i (f i (inl refl)) in
@@ -202,40 +205,41 @@ module _ (p : Tree) (h : first_fault p ≡ None) (e : is_ecmascript p ≡ true) 
         (symbol ∙ ap Some same, all_answer d m v y g is (λ j a. f j (inr a)))
 
     -- where the environment binds the name, that is what it means
-    here : (d : Environment) (ds : List Environment) → d.maker ≡ q.node_id → (is_made_for environment.Object d ≡ false) × (is_made_for environment.Class d ≡ false) → (i : ℕ) (is : List ℕ) → identifiers_in bs d x ≡ i ∷ is → (later : Option ℕ) → Matches (or_else Y later) (meaning bs (d ∷ ds) x)
+    here : (d : Environment) (ds : List Environment) → d.maker ≡ q.node_id → IsOrdinary d.kind → (i : ℕ) (is : List ℕ) → identifiers_in bs d x ≡ i ∷ is → (later : Option ℕ) → Matches (or_else Y later) (meaning bs (d ∷ ds) x)
     here d ds m n i is w later =
-        let (y, there, symbol) = answer_of d m n.1 i (subst (Among i) (sym w) (inl refl)) in
+        let (y, there, symbol) = answer_of d m n i (subst (Among i) (sym w) (inl refl)) in
         subst (Matches (or_else Y later)) (sym (meaning_here bs x not_arguments d ds i is n.0 w))
-        (y, ap (λ z. or_else z later) there, all_answer d m n.1 y there (i ∷ is) (λ j a. subst (Among j) (sym w) a))
+        (y, ap (λ z. or_else z later) there, all_answer d m n y there (i ∷ is) (λ j a. subst (Among j) (sym w) a))
 
     -- what the scope binds is bound by an environment of the opener
     record IsBoundThere : Type 0 where
       bind : Bound
-      known : Known bind
+      known : Any bind
       among : Among bind ws
       named : bind.name ≡ x
       maker : bind.environment.maker ≡ q.node_id
       makes : may_make q.kind bind.environment.kind ≡ true
       body : is_made_for environment.Body bind.environment ≡ true → has_parameter_expressions q ≡ true
 
-    there_of : (b : Bound) → Among b ws → b.name ≡ x → b.environment.maker ≡ q.node_id → IsBoundThere
-    there_of b a n m =
-        let k : Known b = known_bound p h e numbered x none plain b a n in
-        let same : k.placed.maker ≡ q = some_is k.placed.maker q (sym k.placed.found ∙ ap (node_at p) m ∙ found) in
+    made_there : (b : Bound) → Among b ws → b.name ≡ x → b.environment.maker ≡ q.node_id → IsBoundThere
+    made_there b a n maker =
+        let k : Any b = any_bound p h e numbered x none plain b a n in
+        let m : IsMade p h e numbered x none plain b = is_made p h e numbered x none plain b k in
+        let same : m.maker ≡ q = some_is m.maker q (sym m.found ∙ ap (node_at p) maker ∙ found) in
         record {
           bind = b;
           known = k;
           among = a;
           named = n;
-          maker = m;
-          makes = subst (λ z. may_make z.kind b.environment.kind ≡ true) same k.placed.makes;
-          body = λ v. subst (λ z. has_parameter_expressions z ≡ true) same (k.placed.body v);
+          maker = maker;
+          makes = subst (λ z. may_make z.kind b.environment.kind ≡ true) same m.makes;
+          body = λ v. subst (λ z. has_parameter_expressions z ≡ true) same (m.body v);
         }
 
     bound_there : (y : ℕ) → Y ≡ Some y → IsBoundThere
     bound_there y g =
         let w : IsAsked p h e numbered x none clear plain s = asked p h e numbered x none clear plain s y o entry g in
-        there_of w.bind w.among w.named (w.maker ∙ opener)
+        made_there w.bind w.among w.named (w.maker ∙ opener)
 
     -- an environment that binds nothing is none of those
     none_there : (d : Environment) → identifiers_in bs d x ≡ [] → (w : IsBoundThere) → w.bind.environment ≡ d → ⊥
@@ -256,7 +260,7 @@ module _ (p : Tree) (h : first_fault p ≡ None) (e : is_ecmascript p ≡ true) 
     further later m g k = subst (λ t. Matches (or_else t later) m) (sym g) k
 
     -- one environment
-    one : (k : EnvironmentKind) (ds : List Environment) → ((j : EnvironmentKind) → may_make q.kind j ≡ true → j ≡ k) → (same_environment_kind k environment.Object ≡ false) × (same_environment_kind k environment.Class ≡ false) → (later : Option ℕ) → Matches later (meaning bs ds x) → Matches (or_else Y later) (meaning bs (record { kind = k; maker = q.node_id } ∷ ds) x)
+    one : (k : EnvironmentKind) (ds : List Environment) → ((j : EnvironmentKind) → may_make q.kind j ≡ true → j ≡ k) → IsOrdinary k → (later : Option ℕ) → Matches later (meaning bs ds x) → Matches (or_else Y later) (meaning bs (record { kind = k; maker = q.node_id } ∷ ds) x)
     one k ds only n later m = go (identifiers_in bs (record { kind = k; maker = q.node_id }) x) refl
       where
         go : (is : List ℕ) → identifiers_in bs (record { kind = k; maker = q.node_id }) x ≡ is → Matches (or_else Y later) (meaning bs (record { kind = k; maker = q.node_id } ∷ ds) x)
@@ -266,32 +270,97 @@ module _ (p : Tree) (h : first_fault p ≡ None) (e : is_ecmascript p ≡ true) 
             (further later (meaning bs ds x) (unanswered (λ v. none_there (record { kind = k; maker = q.node_id }) w v (environment_is v k (only v.bind.environment.kind v.makes)))) m)
 
     -- a function's, with that of its body where the child stands in it
-    module _ (k : EnvironmentKind) (n : (same_environment_kind k environment.Object ≡ false) × (same_environment_kind k environment.Class ≡ false)) (two : (w : IsBoundThere) → (w.bind.environment.kind ≡ environment.Body) ⊎ (w.bind.environment.kind ≡ k)) (later : Option ℕ) where
+    module _ (k : EnvironmentKind) (n : IsOrdinary k) (later : Option ℕ) where
       abbrev Body : Environment
       Body = record { kind = environment.Body; maker = q.node_id }
 
       abbrev Own : Environment
       Own = record { kind = k; maker = q.node_id }
 
+      -- where neither the body's binds it nor the parameters'
+      abbrev Rest : List Environment → Type 0
+      Rest ds = ((w : IsBoundThere) → w.bind.environment ≡ Body → ⊥) → ((w : IsBoundThere) → w.bind.environment ≡ Own → ⊥) → Matches (or_else Y later) (meaning bs ds x)
+
       -- where the body's binds nothing, or is not there because it is not the function's
-      parameters : (ds : List Environment) → ((w : IsBoundThere) → w.bind.environment ≡ Body → ⊥) → Matches later (meaning bs ds x) → Matches (or_else Y later) (meaning bs (Own ∷ ds) x)
-      parameters ds no_body m = go (identifiers_in bs Own x) refl
+      parameters : (ds : List Environment) → ((w : IsBoundThere) → w.bind.environment ≡ Body → ⊥) → Rest ds → Matches (or_else Y later) (meaning bs (Own ∷ ds) x)
+      parameters ds no_body rest = go (identifiers_in bs Own x) refl
         where
           go : (is : List ℕ) → identifiers_in bs Own x ≡ is → Matches (or_else Y later) (meaning bs (Own ∷ ds) x)
           go (i ∷ is) w = here Own ds refl n i is w later
-          go [] w =
-              subst (Matches (or_else Y later)) (sym (meaning_further bs x not_arguments Own ds n.0 w))
-              (further later (meaning bs ds x) (unanswered (λ v. elim (two v) [ inl b ↦ no_body v (environment_is v environment.Body b) | inr b ↦ none_there Own w v (environment_is v k b) ])) m)
+          go [] w = subst (Matches (or_else Y later)) (sym (meaning_further bs x not_arguments Own ds n.0 w)) (rest no_body (λ v b. none_there Own w v b))
 
-      function : (t : Bool) (ds : List Environment) → (t ≡ false → has_parameter_expressions q ≡ true → ⊥) → Matches later (meaning bs ds x) → Matches (or_else Y later) (meaning bs (cond t (Body ∷ []) [] ++ (Own ∷ ds)) x)
-      function false ds absent m = parameters ds (λ w b. absent refl (w.body (ap (is_made_for environment.Body) b))) m
-      function true ds absent m = go (identifiers_in bs Body x) refl
+      function : (t : Bool) (ds : List Environment) → (t ≡ false → has_parameter_expressions q ≡ true → ⊥) → Rest ds → Matches (or_else Y later) (meaning bs (cond t (Body ∷ []) [] ++ (Own ∷ ds)) x)
+      function false ds absent rest = parameters ds (λ w b. absent refl (w.body (ap (is_made_for environment.Body) b))) rest
+      function true ds absent rest = go (identifiers_in bs Body x) refl
         where
           go : (is : List ℕ) → identifiers_in bs Body x ≡ is → Matches (or_else Y later) (meaning bs (Body ∷ Own ∷ ds) x)
-          go (i ∷ is) w = here Body (Own ∷ ds) refl (refl, refl) i is w later
+          go (i ∷ is) w = here Body (Own ∷ ds) refl (refl, refl, refl) i is w later
           go [] w =
               subst (Matches (or_else Y later)) (sym (meaning_further bs x not_arguments Body (Own ∷ ds) refl w))
-              (parameters ds (λ v b. none_there Body w v b) m)
+              (parameters ds (λ v b. none_there Body w v b) rest)
+
+    -- an arrow has no other
+    arrow_rest : q.kind ≡ kind.ArrowFunctionExpression → (later : Option ℕ) (ds : List Environment) → Matches later (meaning bs ds x) → Rest environment.ArrowParameters (refl, refl, refl) later ds
+    arrow_rest w later ds m no_body no_parameters = further later (meaning bs ds x) (unanswered (λ v. elim (arrow_kinds v.bind.environment.kind (subst (λ a. may_make a v.bind.environment.kind ≡ true) w v.makes)) [
+      | inl b ↦ no_body v (environment_is v environment.Body b)
+      | inr b ↦ no_parameters v (environment_is v environment.ArrowParameters b)
+    ])) m
+
+    -- a function has that of its name, which has the symbol of the scope where nothing else does
+    module _ (w : q.kind ≡ kind.Function) (later : Option ℕ) (ds : List Environment) (m : Matches later (meaning bs ds x)) (no_body : (v : IsBoundThere) → v.bind.environment ≡ record { kind = environment.Body; maker = q.node_id } → ⊥) (no_parameters : (v : IsBoundThere) → v.bind.environment ≡ record { kind = environment.Parameters; maker = q.node_id } → ⊥) where
+      abbrev OwnName : Environment
+      OwnName = record { kind = environment.OwnName; maker = q.node_id }
+
+      -- all that is bound there is
+      only_own : (v : IsBoundThere) → v.bind.environment ≡ OwnName
+      only_own v = elim (function_kinds v.bind.environment.kind (subst (λ a. may_make a v.bind.environment.kind ≡ true) w v.makes) (no_if_body v.bind v.known)) [
+        | inl b ↦ absurd (no_body v (environment_is v environment.Body b))
+        | inr b ↦ elim b [
+          | inl c ↦ absurd (no_parameters v (environment_is v environment.Parameters c))
+          | inr c ↦ environment_is v environment.OwnName c
+        ]
+      ]
+
+      apart : (c : Bound) → Among c ws → c.name ≡ x → is_bound_as way.OwnName c ≡ false → c.environment.maker ≡ s.opener → ⊥
+      unfolding made_there
+      apart c a n u k = absurd (by (made_there c a n (k ∙ opener)) refl)
+        where
+          by : (v : IsBoundThere) → v.bind ≡ c → ⊥
+          by v same = elim v.known [
+            | inl known ↦ never (sym (ap (is_made_for environment.OwnName) (only_own v)) ∙ known.placed.usual.0)
+            | inr own ↦ never (sym own.own ∙ ap (is_bound_as way.OwnName) same ∙ u)
+          ]
+
+      own_symbol : (i : ℕ) → Among i (identifiers_in bs OwnName x) → HasSymbol p h e numbered x none clear plain s i
+      own_symbol i a =
+          let v : IsHere OwnName i = is_here OwnName i a in
+          let there : v.bind.environment ≡ OwnName = directly OwnName i refl v in
+          elim v.known [
+            | inl known ↦ absurd (never (sym (ap (is_made_for environment.OwnName) there) ∙ known.placed.usual.0))
+            | inr own ↦ (let maker : own.place.node.node_id ≡ q.node_id = sym (own_maker p h x v.bind own) ∙ ap (λ z. z.maker) there in
+                let familiar : IsFamiliar (node_at p) own.place = each_at (FamiliarAt (node_at p)) (steps p) (entering own.place) (familiar_program p h e numbered) own.entered in
+                let same : own.place.node ≡ q = some_is own.place.node q (sym familiar.node ∙ ap (node_at p) maker ∙ found) in
+                subst (HasSymbol p h e numbered x none clear plain s) v.identifier
+                (function_symbol p h e numbered x none clear plain s o entry v.bind own (opener ∙ sym maker) (ap (λ z. z.kind) same ∙ w) apart))
+          ]
+
+      all_own : (y : ℕ) → Y ≡ Some y → (is : List ℕ) → ((i : ℕ) → Among i is → Among i (identifiers_in bs OwnName x)) → AllAre is y
+      all_own y g [] f = tt
+      all_own y g (i ∷ is) f =
+          let k : HasSymbol p h e numbered x none clear plain s i = own_symbol i (f i (inl refl)) in
+          (k.is ∙ ap Some (some_is k.symbol y (sym k.bound ∙ g)), all_own y g is (λ j a. f j (inr a)))
+
+      own_rest : Matches (or_else Y later) (meaning bs (OwnName ∷ ds) x)
+      own_rest = go (identifiers_in bs OwnName x) refl
+        where
+          go : (is : List ℕ) → identifiers_in bs OwnName x ≡ is → Matches (or_else Y later) (meaning bs (OwnName ∷ ds) x)
+          go [] v =
+              subst (Matches (or_else Y later)) (sym (meaning_further bs x not_arguments OwnName ds refl v))
+              (further later (meaning bs ds x) (unanswered (λ z. none_there OwnName v z (only_own z))) m)
+          go (i ∷ is) v =
+              let k : HasSymbol p h e numbered x none clear plain s i = own_symbol i (subst (Among i) (sym v) (inl refl)) in
+              subst (Matches (or_else Y later)) (sym (meaning_here bs x not_arguments OwnName ds i is refl v))
+              (k.symbol, ap (λ z. or_else z later) k.bound, all_own k.symbol k.bound (i ∷ is) (λ j a. subst (Among j) (sym v) a))
 
   -- ---- a child of a place
 
@@ -375,28 +444,42 @@ module _ (p : Tree) (h : first_fault p ≡ None) (e : is_ecmascript p ≡ true) 
       unseen : (m : Meaning) → H ≡ None → Matches N m → Matches (or_else H N) m
       unseen m g k = subst (λ t. Matches (or_else t N) m) (sym g) k
 
-      there : (b : Bound) → Among b ws → b.name ≡ x → b.environment.maker ≡ s.opener → IsBoundThere s s_opened s_entry q.node opener seen.familiar.node
-      there b a n m = there_of s s_opened s_entry q.node opener seen.familiar.node b a n (m ∙ opener)
+      abbrev OfOpener : Type 0
+      OfOpener = IsBoundThere s s_opened s_entry q.node opener seen.familiar.node
+
+      -- what the opener binds
+      record IsThere (b : Bound) : Type 0 where
+        there : OfOpener
+        same : there.bind ≡ b
+
+      is_there : (b : Bound) → Among b ws → b.name ≡ x → b.environment.maker ≡ s.opener → IsThere b
+      unfolding made_there
+      is_there b a n m = record { there = made_there s s_opened s_entry q.node opener seen.familiar.node b a n (m ∙ opener); same = refl }
 
       -- no plain name is bound by a clause
       by_clause : ((j : EnvironmentKind) → may_make q.node.kind j ≡ true → j ≡ environment.Catch) → s.in_header ≡ true → Matches N (meaning bs E x) → Matches (or_else H N) (meaning bs (record { kind = environment.Catch; maker = q.node.node_id } ∷ E) x)
       by_clause only v m =
-          unseen (meaning bs (Clause ∷ E) x) (silent p h e numbered x none clear plain s s_opened (awaited v) (λ b a n k body. of_clause (there b a n k)))
+          unseen (meaning bs (Clause ∷ E) x) (silent p h e numbered x none clear plain s s_opened (awaited v) (λ b a n k body. of_clause (is_there b a n k).there))
           (subst (Matches N) (sym (meaning_further bs x not_arguments Clause E refl (nothing (identifiers_in bs Clause x) refl))) m)
         where
           Clause : Environment
           Clause = record { kind = environment.Catch; maker = q.node.node_id }
 
-          of_clause : IsBoundThere s s_opened s_entry q.node opener seen.familiar.node → ⊥
-          of_clause w = never (sym (ap (λ z. same_environment_kind z environment.Catch) (only w.bind.environment.kind w.makes)) ∙ no_catch w.bind w.known.plainly)
+          no_clause : (b : Bound) → Any b → b.environment ≡ Clause → ⊥
+          no_clause b k w =
+              let known : Known b = visible Clause b k w refl refl in
+              never (sym (ap (is_made_for environment.Catch) w) ∙ no_catch b known.plainly)
+
+          of_clause : OfOpener → ⊥
+          of_clause w = no_clause w.bind w.known (environment_is s s_opened s_entry q.node opener seen.familiar.node w environment.Catch (only w.bind.environment.kind w.makes))
 
           nothing : (is : List ℕ) → identifiers_in bs Clause x ≡ is → identifiers_in bs Clause x ≡ []
           nothing [] k = k
           nothing (i ∷ is) k =
               let w : IsHere Clause i = is_here Clause i (subst (Among i) (sym k) (inl refl)) in
-              absurd (never (sym (ap (is_made_for environment.Catch) (directly Clause i refl w)) ∙ no_catch w.bind w.known.plainly))
+              absurd (no_clause w.bind w.known (directly Clause i refl w))
 
-      one_shows : (k : EnvironmentKind) → ((j : EnvironmentKind) → may_make q.node.kind j ≡ true → j ≡ k) → (same_environment_kind k environment.Object ≡ false) × (same_environment_kind k environment.Class ≡ false) → (s.in_header ≡ true → k ≡ environment.Catch) → Shows (s ∷ q.chain) (record { kind = k; maker = q.node.node_id } ∷ [])
+      one_shows : (k : EnvironmentKind) → ((j : EnvironmentKind) → may_make q.node.kind j ≡ true → j ≡ k) → IsOrdinary k → (s.in_header ≡ true → k ≡ environment.Catch) → Shows (s ∷ q.chain) (record { kind = k; maker = q.node.node_id } ∷ [])
       one_shows k only n clause = seen_by (record { kind = k; maker = q.node.node_id } ∷ []) (λ v. one s s_opened s_entry q.node opener seen.familiar.node k E only n N)
           (λ v fits m. subst (λ z. Matches (or_else H N) (meaning bs (record { kind = z; maker = q.node.node_id } ∷ E) x)) (sym (clause v)) (by_clause (λ j y. only j y ∙ clause v) v m))
 
@@ -423,43 +506,105 @@ module _ (p : Tree) (h : first_fault p ≡ None) (e : is_ecmascript p ≡ true) 
       list_outside : is kind.FormalParameters c.node ≡ true → is_outside_body c.node ≡ true
       list_outside v = subst (λ k. holds_kind (kind.BindingIdentifier ∷ kind.FormalParameters ∷ []) k ≡ true) (sym (kind_is c.node.kind kind.FormalParameters v)) refl
 
-      -- a function, seen from its header
-      module _ (k : EnvironmentKind) (ds : List Environment) (n : (same_environment_kind k environment.Object ≡ false) × (same_environment_kind k environment.Class ≡ false)) (parameters : is_parameters (record { kind = k; maker = q.node.node_id }) ≡ true)
-          (two : (j : EnvironmentKind) (m : ℕ) → may_make q.node.kind j ≡ true → IsUsual (record { kind = j; maker = m }) → (j ≡ environment.Body) ⊎ (j ≡ k)) (skips : Matches N (meaning bs E x) → Matches N (meaning bs (ds ++ E) x)) (v : s.in_header ≡ true) (fits : (b : Bound) → Among b ws → b.name ≡ x → b.environment.maker ≡ q.node.node_id → has_parameter_expressions q.node ≡ true) where
-        abbrev Parameters : Environment
-        Parameters = record { kind = k; maker = q.node.node_id }
+      -- in a function's header, where the parameters don't bind the name
+      abbrev HeaderRest : EnvironmentKind → List Environment → Type 0
+      HeaderRest k ds = ((w : OfOpener) → w.bind.environment ≡ record { kind = k; maker = q.node.node_id } → ⊥) → Matches N (meaning bs E x) → Matches (or_else H N) (meaning bs (ds ++ E) x)
 
-        from_header : Matches N (meaning bs E x) → Matches (or_else H N) (meaning bs (Parameters ∷ (ds ++ E)) x)
-        unfolding there there_of
-        from_header m = go (identifiers_in bs Parameters x) refl
-          where
-            elsewhere : identifiers_in bs Parameters x ≡ [] → (b : Bound) → is_made_for environment.Body b.environment ≡ false → (w : IsBoundThere s s_opened s_entry q.node opener seen.familiar.node) → w.bind ≡ b → ⊥
-            elsewhere i b body w same = elim (two w.bind.environment.kind w.bind.environment.maker w.makes w.known.placed.usual) [
-              | inl j ↦ never (sym (ap (λ z. same_environment_kind z environment.Body) (sym (ap (λ z. z.environment.kind) same) ∙ j)) ∙ body)
-              | inr j ↦ none_there s s_opened s_entry q.node opener seen.familiar.node Parameters i w (environment_is s s_opened s_entry q.node opener seen.familiar.node w k j)
+      -- a function, seen from its header
+      from_header : (k : EnvironmentKind) (n : IsOrdinary k) (ds : List Environment) → is_parameters (record { kind = k; maker = q.node.node_id }) ≡ true → s.in_header ≡ true → ((b : Bound) → Among b ws → b.name ≡ x → b.environment.maker ≡ q.node.node_id → has_parameter_expressions q.node ≡ true) → HeaderRest k ds
+          → Matches N (meaning bs E x) → Matches (or_else H N) (meaning bs (record { kind = k; maker = q.node.node_id } ∷ (ds ++ E)) x)
+      from_header k n ds parameters v fits rest m = go (identifiers_in bs Parameters x) refl
+        where
+          Parameters : Environment
+          Parameters = record { kind = k; maker = q.node.node_id }
+
+          go : (is : List ℕ) → identifiers_in bs Parameters x ≡ is → Matches (or_else H N) (meaning bs (Parameters ∷ (ds ++ E)) x)
+          go [] i = subst (Matches (or_else H N)) (sym (meaning_further bs x not_arguments Parameters (ds ++ E) n.0 i)) (rest (λ w z. none_there s s_opened s_entry q.node opener seen.familiar.node Parameters i w z) m)
+          go (i ∷ is) j =
+              let w : IsHere Parameters i = is_here Parameters i (subst (Among i) (sym j) (inl refl)) in
+              let env : w.bind.environment ≡ Parameters = directly Parameters i n.1 w in
+              let known : Known w.bind = visible Parameters w.bind w.known env n.1 n.2 in
+              let same : H ≡ get final.bindings s.number x = answers_too p h e numbered x none clear plain s s_opened (awaited v) w.bind known w.named (opener ∙ sym (ap (λ z. z.maker) env)) (subst (λ d. is_parameters d ≡ true) (sym env) parameters)
+                  (λ f found. subst (λ g. has_parameter_expressions g ≡ true) (some_is q.node f (sym seen.familiar.node ∙ ap (λ d. node_at p d.maker) (sym env) ∙ found)) (fits w.bind w.among w.named (ap (λ d. d.maker) env))) in
+              subst (λ t. Matches (or_else t N) (meaning bs (Parameters ∷ (ds ++ E)) x)) (sym same) (here s s_opened s_entry q.node opener seen.familiar.node Parameters (ds ++ E) refl n i is j N)
+
+      -- an arrow has no other environment, a function that of its name
+      arrow_header : q.node.kind ≡ kind.ArrowFunctionExpression → s.in_header ≡ true → HeaderRest environment.ArrowParameters []
+      arrow_header w v no_parameters m = unseen (meaning bs E x) (silent p h e numbered x none clear plain s s_opened (awaited v) (λ b a n k body. by b body (is_there b a n k))) m
+        where
+          by : (b : Bound) → is_made_for environment.Body b.environment ≡ false → IsThere b → ⊥
+          by b body t = elim (arrow_kinds t.there.bind.environment.kind (subst (λ a. may_make a t.there.bind.environment.kind ≡ true) w t.there.makes)) [
+            | inl z ↦ never (sym (ap (λ y. same_environment_kind y environment.Body) (sym (ap (λ y. y.environment.kind) t.same) ∙ z)) ∙ body)
+            | inr z ↦ no_parameters t.there (environment_is s s_opened s_entry q.node opener seen.familiar.node t.there environment.ArrowParameters z)
+          ]
+
+      module _ (w : q.node.kind ≡ kind.Function) (v : s.in_header ≡ true) (no_parameters : (t : OfOpener) → t.bind.environment ≡ record { kind = environment.Parameters; maker = q.node.node_id } → ⊥) where
+        abbrev HeaderName : Environment
+        HeaderName = record { kind = environment.OwnName; maker = q.node.node_id }
+
+        -- but for the body's environment, that of the name alone binds it
+        named_alone : (b : Bound) → is_made_for environment.Body b.environment ≡ false → (t : IsThere b) → t.there.bind.environment ≡ HeaderName
+        named_alone b body t = elim (function_kinds t.there.bind.environment.kind (subst (λ a. may_make a t.there.bind.environment.kind ≡ true) w t.there.makes) (no_if_body t.there.bind t.there.known)) [
+          | inl z ↦ absurd (never (sym (ap (λ y. same_environment_kind y environment.Body) (sym (ap (λ y. y.environment.kind) t.same) ∙ z)) ∙ body))
+          | inr z ↦ elim z [
+            | inl y ↦ absurd (no_parameters t.there (environment_is s s_opened s_entry q.node opener seen.familiar.node t.there environment.Parameters y))
+            | inr y ↦ environment_is s s_opened s_entry q.node opener seen.familiar.node t.there environment.OwnName y
+          ]
+        ]
+
+        not_declared_there : (b : Bound) → Known b → b.environment ≡ HeaderName → ⊥
+        not_declared_there b k z = never (sym (ap (is_made_for environment.OwnName) z) ∙ k.placed.usual.0)
+
+        own_apart : (b : Bound) → Among b ws → b.name ≡ x → is_bound_as way.OwnName b ≡ false → b.environment.maker ≡ s.opener → is_made_for environment.Body b.environment ≡ false → ⊥
+        own_apart b a n u k body =
+            let t : IsThere b = is_there b a n k in
+            let env : b.environment ≡ HeaderName = ap (λ z. z.environment) (sym t.same) ∙ named_alone b body t in
+            elim (any_bound p h e numbered x none plain b a n) [
+              | inl known ↦ not_declared_there b known env
+              | inr own ↦ never (sym own.own ∙ u)
             ]
 
-            go : (is : List ℕ) → identifiers_in bs Parameters x ≡ is → Matches (or_else H N) (meaning bs (Parameters ∷ (ds ++ E)) x)
-            go [] i =
-                unseen (meaning bs (Parameters ∷ (ds ++ E)) x) (silent p h e numbered x none clear plain s s_opened (awaited v) (λ b a n m body. elsewhere i b body (there b a n m) refl))
-                (subst (Matches N) (sym (meaning_further bs x not_arguments Parameters (ds ++ E) n.0 i)) (skips m))
-            go (i ∷ is) j =
-                let w : IsHere Parameters i = is_here Parameters i (subst (Among i) (sym j) (inl refl)) in
-                let env : w.bind.environment ≡ Parameters = directly Parameters i n.1 w in
-                let same : H ≡ get final.bindings s.number x = answers_too p h e numbered x none clear plain s s_opened (awaited v) w.bind w.known w.named (opener ∙ sym (ap (λ z. z.maker) env)) (subst (λ d. is_parameters d ≡ true) (sym env) parameters)
-                (λ f found. subst (λ g. has_parameter_expressions g ≡ true) (some_is q.node f (sym seen.familiar.node ∙ ap (λ d. node_at p d.maker) (sym env) ∙ found)) (fits w.bind w.among w.named (ap (λ d. d.maker) env))) in
-                subst (λ t. Matches (or_else t N) (meaning bs (Parameters ∷ (ds ++ E)) x)) (sym same) (here s s_opened s_entry q.node opener seen.familiar.node Parameters (ds ++ E) refl n i is j N)
+        own_seen : (i : ℕ) → Among i (identifiers_in bs HeaderName x) → (y : ℕ) × (H ≡ Some y) × (symbol_at (analysis_of p) i ≡ Some y)
+        own_seen i a =
+            let k : IsHere HeaderName i = is_here HeaderName i a in
+            let there : k.bind.environment ≡ HeaderName = directly HeaderName i refl k in
+            elim k.known [
+              | inl known ↦ absurd (not_declared_there k.bind known there)
+              | inr own ↦ (let maker : own.place.node.node_id ≡ q.node.node_id = sym (own_maker p h x k.bind own) ∙ ap (λ z. z.maker) there in
+                  let familiar : IsFamiliar (node_at p) own.place = each_at (FamiliarAt (node_at p)) (steps p) (entering own.place) (familiar_program p h e numbered) own.entered in
+                  let same : own.place.node ≡ q.node = some_is own.place.node q.node (sym familiar.node ∙ ap (node_at p) maker ∙ seen.familiar.node) in
+                  let (y, is_there_too, symbol) = own_answers p h e numbered x none clear plain s s_opened (awaited v) k.bind own (opener ∙ sym maker) (ap (λ z. z.kind) same ∙ w) own_apart in
+                  (y, is_there_too, subst (λ j. symbol_at (analysis_of p) j ≡ Some y) k.identifier symbol))
+            ]
 
-      function_shows : (k : EnvironmentKind) (ds : List Environment) → is_function_kind q.node.kind ≡ true → (same_environment_kind k environment.Object ≡ false) × (same_environment_kind k environment.Class ≡ false) → is_parameters (record { kind = k; maker = q.node.node_id }) ≡ true
-          → ((j : EnvironmentKind) (m : ℕ) → may_make q.node.kind j ≡ true → IsUsual (record { kind = j; maker = m }) → (j ≡ environment.Body) ⊎ (j ≡ k)) → (Matches N (meaning bs E x) → Matches N (meaning bs (ds ++ E) x))
+        all_seen : (y : ℕ) → H ≡ Some y → (is : List ℕ) → ((i : ℕ) → Among i is → Among i (identifiers_in bs HeaderName x)) → AllAre is y
+        all_seen y g [] f = tt
+        all_seen y g (i ∷ is) f =
+            let (z, there, symbol) = own_seen i (f i (inl refl)) in
+            (symbol ∙ ap Some (some_is z y (sym there ∙ g)), all_seen y g is (λ j a. f j (inr a)))
+
+        own_header : Matches N (meaning bs E x) → Matches (or_else H N) (meaning bs (HeaderName ∷ E) x)
+        own_header m = go (identifiers_in bs HeaderName x) refl
+          where
+            go : (is : List ℕ) → identifiers_in bs HeaderName x ≡ is → Matches (or_else H N) (meaning bs (HeaderName ∷ E) x)
+            go [] i =
+                subst (Matches (or_else H N)) (sym (meaning_further bs x not_arguments HeaderName E refl i))
+                (unseen (meaning bs E x) (silent p h e numbered x none clear plain s s_opened (awaited v) (λ b a n k body. (let t : IsThere b = is_there b a n k in none_there s s_opened s_entry q.node opener seen.familiar.node HeaderName i t.there (named_alone b body t)))) m)
+            go (i ∷ is) j =
+                let (y, there, symbol) = own_seen i (subst (Among i) (sym j) (inl refl)) in
+                subst (Matches (or_else H N)) (sym (meaning_here bs x not_arguments HeaderName E i is refl j))
+                (y, ap (λ z. or_else z N) there, all_seen y there (i ∷ is) (λ k a. subst (Among k) (sym j) a))
+
+      function_shows : (k : EnvironmentKind) (n : IsOrdinary k) (ds : List Environment) → is_function_kind q.node.kind ≡ true → is_parameters (record { kind = k; maker = q.node.node_id }) ≡ true
+          → (Matches N (meaning bs E x) → Rest s s_opened s_entry q.node opener seen.familiar.node k n N (ds ++ E)) → (s.in_header ≡ true → HeaderRest k ds)
           → Shows (s ∷ q.chain) (cond (not (is_outside_body c.node) && has_parameter_expressions q.node) (record { kind = environment.Body; maker = q.node.node_id } ∷ []) [] ++ (record { kind = k; maker = q.node.node_id } ∷ ds))
-      function_shows k ds f n parameters two skips =
+      function_shows k n ds f parameters rest header_rest =
           seen_by (cond (not (is_outside_body c.node) && has_parameter_expressions q.node) (record { kind = environment.Body; maker = q.node.node_id } ∷ []) [] ++ (record { kind = k; maker = q.node.node_id } ∷ ds)) (λ last m.
           subst (λ es. Matches (or_else (get final.bindings s.number x) N) (meaning bs es x)) (reassociated (not (is_outside_body c.node) && has_parameter_expressions q.node))
-          (function s s_opened s_entry q.node opener seen.familiar.node k n (λ w. two w.bind.environment.kind w.bind.environment.maker w.makes w.known.placed.usual) N
-          (not (is_outside_body c.node) && has_parameter_expressions q.node) (ds ++ E) (absent (is_outside_body c.node) refl last) (skips m)))
+          (function s s_opened s_entry q.node opener seen.familiar.node k n N
+          (not (is_outside_body c.node) && has_parameter_expressions q.node) (ds ++ E) (absent (is_outside_body c.node) refl last) (rest m)))
           (λ v fits m. subst (λ t. Matches (or_else H N) (meaning bs ((cond (not t && has_parameter_expressions q.node) (record { kind = environment.Body; maker = q.node.node_id } ∷ []) [] ++ (record { kind = k; maker = q.node.node_id } ∷ ds)) ++ E) x)) (sym (list_outside (list f v)))
-          (from_header k ds n parameters two skips v (fits (list f v)) m))
+          (from_header k n ds parameters v (fits (list f v)) (header_rest v) m))
         where
           reassociated : (t : Bool) → cond t (record { kind = environment.Body; maker = q.node.node_id } ∷ []) [] ++ (record { kind = k; maker = q.node.node_id } ∷ (ds ++ E)) ≡ (cond t (record { kind = environment.Body; maker = q.node.node_id } ∷ []) [] ++ (record { kind = k; maker = q.node.node_id } ∷ ds)) ++ E
           reassociated true = refl
@@ -493,7 +638,7 @@ module _ (p : Tree) (h : first_fault p ≡ None) (e : is_ecmascript p ≡ true) 
         go _ v (inner_chain s i o j) = absurd (no_maker s v none_made)
 
     -- or one with a scope
-    one_case : (k : AstType) (n : EnvironmentKind) → q.node.kind ≡ k → made_by k q.node c.node ≡ record { kind = n; maker = q.node.node_id } ∷ [] → ((m : ℕ) → has_scope (record { kind = n; maker = m }) ≡ true) → ((j : EnvironmentKind) → may_make k j ≡ true → j ≡ n) → (same_environment_kind n environment.Object ≡ false) × (same_environment_kind n environment.Class ≡ false) → (is_in_header k c.role ≡ true → n ≡ environment.Catch)
+    one_case : (k : AstType) (n : EnvironmentKind) → q.node.kind ≡ k → made_by k q.node c.node ≡ record { kind = n; maker = q.node.node_id } ∷ [] → ((m : ℕ) → has_scope (record { kind = n; maker = m }) ≡ true) → ((j : EnvironmentKind) → may_make k j ≡ true → j ≡ n) → IsOrdinary n → (is_in_header k c.role ≡ true → n ≡ environment.Catch)
         → ChainOf q.node.kind c.role q.node q.chain c.chain → Shows c.chain (record { kind = n; maker = q.node.node_id } ∷ [])
     one_case k n w m scoped only object clause t = go c.chain refl t
       where
@@ -504,20 +649,14 @@ module _ (p : Tree) (h : first_fault p ≡ None) (e : is_ecmascript p ≡ true) 
         go _ v (outer_chain i) = absurd (a_maker (record { kind = n; maker = q.node.node_id }) v one_made)
         go _ v (inner_chain s i o j) = one_shows s o j v n (λ z y. only z (subst (λ a. may_make a z ≡ true) w y)) object (λ u. clause (sym (ap (λ a. is_in_header a c.role) w) ∙ sym j ∙ u))
 
-    -- a function, whose own name no plain name is
-    skips_own : Matches N (meaning bs E x) → Matches N (meaning bs ((record { kind = environment.OwnName; maker = q.node.node_id } ∷ []) ++ E) x)
-    skips_own m =
-        let d : Environment = record { kind = environment.OwnName; maker = q.node.node_id } in
-        subst (Matches N) (sym (meaning_further bs x not_arguments d E refl (unusual d refl (λ u. never u.0)))) m
-
     function_case : q.node.kind ≡ kind.Function → ChainOf q.node.kind c.role q.node q.chain c.chain → Shows c.chain (made_by kind.Function q.node c.node)
     function_case w t = go c.chain refl t
       where
         go : (chain : List OpenScope) → c.chain ≡ chain → ChainOf q.node.kind c.role q.node q.chain chain → Shows chain (made_by kind.Function q.node c.node)
         go _ v (outer_chain i) = absurd (never (subst (λ a. is_inside a c.role ≡ false) w i))
         go _ v (inner_chain s i o j) =
-            function_shows s o j v environment.Parameters (record { kind = environment.OwnName; maker = q.node.node_id } ∷ []) (subst (λ a. is_function_kind a ≡ true) (sym w) refl) (refl, refl) refl
-            (λ z m y u. function_kinds z m (subst (λ a. may_make a z ≡ true) w y) u) skips_own
+            function_shows s o j v environment.Parameters (refl, refl, refl) (record { kind = environment.OwnName; maker = q.node.node_id } ∷ []) (subst (λ a. is_function_kind a ≡ true) (sym w) refl) refl
+            (own_rest s (s_opened s o j v) (s_entry s o j v) q.node o seen.familiar.node w N E) (λ u none m. own_header s o j v w u none m)
 
     arrow_case : q.node.kind ≡ kind.ArrowFunctionExpression → ChainOf q.node.kind c.role q.node q.chain c.chain → Shows c.chain (made_by kind.ArrowFunctionExpression q.node c.node)
     arrow_case w t = go c.chain refl t
@@ -525,15 +664,15 @@ module _ (p : Tree) (h : first_fault p ≡ None) (e : is_ecmascript p ≡ true) 
         go : (chain : List OpenScope) → c.chain ≡ chain → ChainOf q.node.kind c.role q.node q.chain chain → Shows chain (made_by kind.ArrowFunctionExpression q.node c.node)
         go _ v (outer_chain i) = absurd (never (subst (λ a. is_inside a c.role ≡ false) w i))
         go _ v (inner_chain s i o j) =
-            function_shows s o j v environment.ArrowParameters [] (subst (λ a. is_function_kind a ≡ true) (sym w) refl) (refl, refl) refl
-            (λ z m y u. arrow_kinds z (subst (λ a. may_make a z ≡ true) w y)) (λ m. m)
+            function_shows s o j v environment.ArrowParameters (refl, refl, refl) [] (subst (λ a. is_function_kind a ≡ true) (sym w) refl) refl
+            (arrow_rest s (s_opened s o j v) (s_entry s o j v) q.node o seen.familiar.node w N E) (λ u none m. arrow_header s o j v w u none m)
 
     -- the body of an `if` opens no scope, and no plain name is of its environment
     if_case : q.node.kind ≡ kind.IfStatement → ChainOf q.node.kind c.role q.node q.chain c.chain → Shows c.chain (made_by kind.IfStatement q.node c.node)
     if_case w t = by (is kind.Function c.node && is_statement c.node) refl
       where
         outer : (chain : List OpenScope) → ChainOf q.node.kind c.role q.node q.chain chain → Shows chain (record { kind = environment.IfBody; maker = c.node.node_id } ∷ [])
-        outer _ (outer_chain i) = λ j. subst (Matches N) (sym (meaning_further bs x not_arguments (record { kind = environment.IfBody; maker = c.node.node_id }) E refl (unusual (record { kind = environment.IfBody; maker = c.node.node_id }) refl (λ u. never u.1)))) (agree j.1)
+        outer _ (outer_chain i) = λ j. subst (Matches N) (sym (meaning_further bs x not_arguments (record { kind = environment.IfBody; maker = c.node.node_id }) E refl (unusual c.node.node_id))) (agree j.1)
         outer _ (inner_chain s i o j) = absurd (never (sym (subst (λ a. is_inside a c.role ≡ true) w i)))
 
         by : (b : Bool) → (is kind.Function c.node && is_statement c.node) ≡ b → Shows c.chain (cond b (record { kind = environment.IfBody; maker = c.node.node_id } ∷ []) [])
@@ -544,10 +683,10 @@ module _ (p : Tree) (h : first_fault p ≡ None) (e : is_ecmascript p ≡ true) 
     switch_case w t = by (is kind.SwitchCase c.node) refl
       where
         by : (b : Bool) → is kind.SwitchCase c.node ≡ b → Shows c.chain (cond b (record { kind = environment.Block; maker = q.node.node_id } ∷ []) [])
-        by true v = one_case kind.SwitchStatement environment.Block w (ap (λ b. cond b (record { kind = environment.Block; maker = q.node.node_id } ∷ []) []) v) (λ m. refl) (λ j y. environment_kind_is j environment.Block y) (refl, refl) (λ u. absurd (never (sym u))) t
+        by true v = one_case kind.SwitchStatement environment.Block w (ap (λ b. cond b (record { kind = environment.Block; maker = q.node.node_id } ∷ []) []) v) (λ m. refl) (λ j y. environment_kind_is j environment.Block y) (refl, refl, refl) (λ u. absurd (never (sym u))) t
         by false v = none_case kind.SwitchStatement w (ap (λ b. cond b (record { kind = environment.Block; maker = q.node.node_id } ∷ []) []) v) t
 
-    -- inside a class its name means what it means around, and its scope binds nothing else
+    -- inside the declaration of a class its name means what it means around; an expression's scope binds it, and nothing else is bound there
     module _ (w : q.node.kind ≡ kind.Class) where
       abbrev Inside : Environment
       Inside = record { kind = environment.Class; maker = q.node.node_id }
@@ -582,44 +721,119 @@ module _ (p : Tree) (h : first_fault p ≡ None) (e : is_ecmascript p ≡ true) 
                   let (y, there, all) = subst (Matches N) (meaning_here bs x not_arguments d ds i is o v) m in
                   (y, there, all_among (i ∷ is) y j all (subst (Among j) v a))
 
-      symbol_inside : Matches N (meaning bs E x) → (j : ℕ) → Among j (identifiers_in bs Inside x) → (y : ℕ) × (N ≡ Some y) × (symbol_at (analysis_of p) j ≡ Some y)
-      symbol_inside m j a =
+      -- the declaration of a class and an expression's own name are never of one node
+      not_both : (b c : Bound) → IsClassHere Inside b → (o : OwnBound p h x c) → c.environment ≡ Inside → ⊥
+      not_both b c k o v =
+          let same : o.place ≡ k.place = entered_once p numbered o.place k.place o.entered k.entered (sym (own_maker p h x c o) ∙ ap (λ z. z.maker) v ∙ ap (λ z. z.maker) k.class.inside) in
+          never (sym k.class.statement ∙ sym (ap (λ (z : Place). is_statement z.node) same) ∙ o.named_by.expression)
+
+      not_declared : (b : Bound) → Known b → b.environment ≡ Inside → ⊥
+      not_declared b k v = never (sym (ap (is_made_for environment.Class) v) ∙ no_class b k.plainly)
+
+      -- ---- a declaration
+
+      abbrev NoOwn : Type 0
+      NoOwn = (c : Bound) → OwnBound p h x c → c.environment ≡ Inside → ⊥
+
+      symbol_inside : NoOwn → Matches N (meaning bs E x) → (j : ℕ) → Among j (identifiers_in bs Inside x) → (y : ℕ) × (N ≡ Some y) × (symbol_at (analysis_of p) j ≡ Some y)
+      symbol_inside no_own m j a =
           let here_is : IsHere Inside j = is_here Inside j a in
           elim here_is.there [
-            | inl v ↦ absurd (never (ap (is_made_for environment.Class) (sym v) ∙ no_class here_is.bind here_is.known.plainly))
-            | inr also ↦ around here_is (class_here Inside j here_is also)
+            | inl v ↦ elim here_is.known [ inl k ↦ absurd (not_declared here_is.bind k v) | inr o ↦ absurd (no_own here_is.bind o v) ]
+            | inr also ↦ around here_is (class_here Inside here_is.bind here_is.known also)
           ]
         where
-          around : (k : IsHere Inside j) → IsClassBound k.known.placed.by_node.place k.bind Inside → (y : ℕ) × (N ≡ Some y) × (symbol_at (analysis_of p) j ≡ Some y)
+          around : (k : IsHere Inside j) → IsClassHere Inside k.bind → (y : ℕ) × (N ≡ Some y) × (symbol_at (analysis_of p) j ≡ Some y)
           around k u =
-              let same : k.known.placed.by_node.place ≡ q = entered_once p numbered k.known.placed.by_node.place q k.known.placed.by_node.entered seen.entered (sym (ap (λ z. z.maker) u.inside)) in
-              let env : k.bind.environment ≡ innermost E = u.around ∙ ap (λ r. innermost (environments r.node r.path)) same in
+              let same : u.place ≡ q = entered_once p numbered u.place q u.entered seen.entered (sym (ap (λ z. z.maker) u.class.inside)) in
+              let env : k.bind.environment ≡ innermost E = u.class.around ∙ ap (λ r. innermost (environments r.node r.path)) same in
               let first : (k.bind.environment ∷ outside_innermost E) ≡ E = inner_first k.bind env q.path refl in
               let identifier : Among j (identifiers_in bs k.bind.environment x) = subst (λ z. Among z (identifiers_in bs k.bind.environment x)) k.identifier (identifier_here ws x k.bind.environment ws k.bind k.among k.named refl) in
               symbol_around k.bind.environment (outside_innermost E) j identifier (subst (λ es. Matches N (meaning bs es x)) (sym first) m)
 
-      all_inside : Matches N (meaning bs E x) → (y : ℕ) → N ≡ Some y → (is : List ℕ) → ((j : ℕ) → Among j is → Among j (identifiers_in bs Inside x)) → AllAre is y
-      all_inside m y g [] f = tt
-      all_inside m y g (i ∷ is) f =
-          let (z, there, symbol) = symbol_inside m i (f i (inl refl)) in
-          (symbol ∙ ap Some (some_is z y (sym there ∙ g)), all_inside m y g is (λ j a. f j (inr a)))
+      all_inside : NoOwn → Matches N (meaning bs E x) → (y : ℕ) → N ≡ Some y → (is : List ℕ) → ((j : ℕ) → Among j is → Among j (identifiers_in bs Inside x)) → AllAre is y
+      all_inside no_own m y g [] f = tt
+      all_inside no_own m y g (i ∷ is) f =
+          let (z, there, symbol) = symbol_inside no_own m i (f i (inl refl)) in
+          (symbol ∙ ap Some (some_is z y (sym there ∙ g)), all_inside no_own m y g is (λ j a. f j (inr a)))
 
-      inside_shows : Matches N (meaning bs E x) → Matches N (meaning bs (Inside ∷ E) x)
-      inside_shows m = go (identifiers_in bs Inside x) refl
-        where
-          go : (is : List ℕ) → identifiers_in bs Inside x ≡ is → Matches N (meaning bs (Inside ∷ E) x)
-          go [] v = subst (Matches N) (sym (meaning_further bs x not_arguments Inside E refl v)) m
-          go (i ∷ is) v =
-              let (y, there, symbol) = symbol_inside m i (subst (Among i) (sym v) (inl refl)) in
-              subst (Matches N) (sym (meaning_here bs x not_arguments Inside E i is refl v)) (y, there, all_inside m y there (i ∷ is) (λ j a. subst (Among j) (sym v) a))
+      inside_shows : NoOwn → Matches N (meaning bs E x) → (i : ℕ) (is : List ℕ) → identifiers_in bs Inside x ≡ i ∷ is → Matches N (meaning bs (Inside ∷ E) x)
+      inside_shows no_own m i is v =
+          let (y, there, symbol) = symbol_inside no_own m i (subst (Among i) (sym v) (inl refl)) in
+          subst (Matches N) (sym (meaning_here bs x not_arguments Inside E i is refl v)) (y, there, all_inside no_own m y there (i ∷ is) (λ j a. subst (Among j) (sym v) a))
+
+      -- ---- the scope
+
+      module _ (s : OpenScope) (o : s.opener ≡ q.node.node_id) (chain : c.chain ≡ s ∷ q.chain) where
+        abbrev Answer : Option ℕ
+        Answer = get final.bindings s.number x
+
+        opened : IsOpened (openers (steps p)) s
+        opened = (subst (AllOpened (openers (steps p))) chain seen_child.opened).0
+
+        entry : slice_get (table_of p) s.number ≡ Some s.body
+        entry = (subst (AllInTable (table_of p)) chain seen_child.in_table).0.entry
+
+        abbrev There : Type 0
+        There = IsBoundThere s opened entry q.node o seen.familiar.node
+
+        there_inside : (v : There) → v.bind.environment ≡ Inside
+        there_inside v = environment_is s opened entry q.node o seen.familiar.node v environment.Class (environment_kind_is v.bind.environment.kind environment.Class (subst (λ a. may_make a v.bind.environment.kind ≡ true) w v.makes))
+
+        unbound_there : (There → ⊥) → Answer ≡ None
+        unbound_there n = unanswered s opened entry q.node o seen.familiar.node n
+
+        of_class : (b : Bound) (k : OwnBound p h x b) → b.environment ≡ Inside → is kind.Function k.place.node ≡ false
+        of_class b k v = go k.named_by.sort
+          where
+            go : IsOfExpression k.place.node b.environment → is kind.Function k.place.node ≡ false
+            go (inl z) = absurd (never (sym (ap (is_made_for environment.OwnName) z.1) ∙ ap (is_made_for environment.OwnName) v))
+            go (inr z) = ap (λ i. same_kind i kind.Function) z.0
+
+        own_symbol_of : (i : ℕ) (k : IsHere Inside i) → OwnBound p h x k.bind → k.bind.environment ≡ Inside → HasSymbol p h e numbered x none clear plain s i
+        own_symbol_of i k own v = subst (HasSymbol p h e numbered x none clear plain s) k.identifier
+            (class_symbol p h e numbered x none clear plain s opened entry k.bind own (o ∙ sym (ap (λ z. z.maker) v) ∙ own_maker p h x k.bind own) (of_class k.bind own v))
+
+        all_own_inside : (b : Bound) → OwnBound p h x b → b.environment ≡ Inside → (y : ℕ) → Answer ≡ Some y → (is : List ℕ) → ((j : ℕ) → Among j is → Among j (identifiers_in bs Inside x)) → AllAre is y
+        all_own_inside b own v y g [] f = tt
+        all_own_inside b own v y g (i ∷ is) f = (one (is_here Inside i (f i (inl refl))), all_own_inside b own v y g is (λ j a. f j (inr a)))
+          where
+            one : IsHere Inside i → symbol_at (analysis_of p) i ≡ Some y
+            one k = elim k.there [
+              | inr also ↦ absurd (not_both k.bind b (class_here Inside k.bind k.known also) own v)
+              | inl z ↦ elim k.known [
+                | inl known ↦ absurd (not_declared k.bind known z)
+                | inr other ↦ (let u : HasSymbol p h e numbered x none clear plain s i = own_symbol_of i k other z in u.is ∙ ap Some (some_is u.symbol y (sym u.bound ∙ g)))
+              ]
+            ]
+
+        class_shows : Matches N (meaning bs E x) → Matches (or_else Answer N) (meaning bs (Inside ∷ E) x)
+        class_shows m = go (identifiers_in bs Inside x) refl
+          where
+            around : Answer ≡ None → (n : Meaning) → Matches N n → Matches (or_else Answer N) n
+            around g n k = further s opened entry q.node o seen.familiar.node N n g k
+
+            by : (i : ℕ) (is : List ℕ) → identifiers_in bs Inside x ≡ i ∷ is → IsHere Inside i → Matches (or_else Answer N) (meaning bs (Inside ∷ E) x)
+            by i is v k = elim k.there [
+              | inr also ↦ (let declared : IsClassHere Inside k.bind = class_here Inside k.bind k.known also in
+                  around (unbound_there (λ z. elim z.known [ inl known ↦ not_declared z.bind known (there_inside z) | inr own ↦ not_both k.bind z.bind declared own (there_inside z) ]))
+                  (meaning bs (Inside ∷ E) x) (inside_shows (λ b own z. not_both k.bind b declared own z) m i is v))
+              | inl z ↦ elim k.known [
+                | inl known ↦ absurd (not_declared k.bind known z)
+                | inr own ↦ (let u : HasSymbol p h e numbered x none clear plain s i = own_symbol_of i k own z in
+                    subst (Matches (or_else Answer N)) (sym (meaning_here bs x not_arguments Inside E i is refl v))
+                    (u.symbol, ap (λ t. or_else t N) u.bound, all_own_inside k.bind own z u.symbol u.bound (i ∷ is) (λ j a. subst (Among j) (sym v) a)))
+              ]
+            ]
+
+            go : (is : List ℕ) → identifiers_in bs Inside x ≡ is → Matches (or_else Answer N) (meaning bs (Inside ∷ E) x)
+            go [] v = subst (Matches (or_else Answer N)) (sym (meaning_further bs x not_arguments Inside E refl v))
+                (around (unbound_there (λ z. none_there s opened entry q.node o seen.familiar.node Inside v z (there_inside z))) (meaning bs E x) m)
+            go (i ∷ is) v = by i is v (is_here Inside i (subst (Among i) (sym v) (inl refl)))
 
       class_round : (chain : List OpenScope) → c.chain ≡ chain → ChainOf q.node.kind c.role q.node q.chain chain → Shows chain (Inside ∷ [])
-      class_round _ v (outer_chain i) = λ j. inside_shows (agree j.1)
-      class_round _ v (inner_chain s i o j) = seen_by s o j v (Inside ∷ []) (λ last m.
-          further s (s_opened s o j v) (s_entry s o j v) q.node o seen.familiar.node N (meaning bs (Inside ∷ E) x)
-          (unanswered s (s_opened s o j v) (s_entry s o j v) q.node o seen.familiar.node (λ b. never (sym (ap (λ z. same_environment_kind z environment.Class) (environment_kind_is b.bind.environment.kind environment.Class (subst (λ a. may_make a b.bind.environment.kind ≡ true) w b.makes))) ∙ no_class b.bind b.known.plainly)))
-          (inside_shows m))
-          (λ header fits m. absurd (never (sym header ∙ j ∙ ap (λ a. is_in_header a c.role) w)))
+      class_round _ v (outer_chain i) = absurd (never (sym (ap not seen_child.familiar.undecorated) ∙ subst (λ a. is_inside a c.role ≡ false) w i))
+      class_round _ v (inner_chain s i o j) = seen_by s o j v (Inside ∷ []) (λ last m. class_shows s o v m) (λ header fits m. absurd (never (sym header ∙ j ∙ ap (λ a. is_in_header a c.role) w)))
 
     class_case : q.node.kind ≡ kind.Class → ChainOf q.node.kind c.role q.node q.chain c.chain → Shows c.chain (made_by kind.Class q.node c.node)
     class_case w t = by (is kind.Decorator c.node) refl
@@ -634,17 +848,17 @@ module _ (p : Tree) (h : first_fault p ≡ None) (e : is_ecmascript p ≡ true) 
         never (sym (ap (λ b. b || in_with_under q.path) there) ∙ apart_here)
 
     by_kind : (k : AstType) → q.node.kind ≡ k → ChainOf q.node.kind c.role q.node q.chain c.chain → Shows c.chain (made_by k q.node c.node)
-    by_kind kind.Program w t = one_case kind.Program environment.Global w refl (λ m. refl) (λ j y. environment_kind_is j environment.Global y) (refl, refl) (λ u. absurd (never (sym u))) t
+    by_kind kind.Program w t = one_case kind.Program environment.Global w refl (λ m. refl) (λ j y. environment_kind_is j environment.Global y) (refl, refl, refl) (λ u. absurd (never (sym u))) t
     by_kind kind.Function w t = function_case w t
     by_kind kind.ArrowFunctionExpression w t = arrow_case w t
-    by_kind kind.StaticBlock w t = one_case kind.StaticBlock environment.StaticBlock w refl (λ m. refl) (λ j y. environment_kind_is j environment.StaticBlock y) (refl, refl) (λ u. absurd (never (sym u))) t
-    by_kind kind.BlockStatement w t = one_case kind.BlockStatement environment.Block w refl (λ m. refl) (λ j y. environment_kind_is j environment.Block y) (refl, refl) (λ u. absurd (never (sym u))) t
+    by_kind kind.StaticBlock w t = one_case kind.StaticBlock environment.StaticBlock w refl (λ m. refl) (λ j y. environment_kind_is j environment.StaticBlock y) (refl, refl, refl) (λ u. absurd (never (sym u))) t
+    by_kind kind.BlockStatement w t = one_case kind.BlockStatement environment.Block w refl (λ m. refl) (λ j y. environment_kind_is j environment.Block y) (refl, refl, refl) (λ u. absurd (never (sym u))) t
     by_kind kind.SwitchStatement w t = switch_case w t
     by_kind kind.IfStatement w t = if_case w t
-    by_kind kind.ForStatement w t = one_case kind.ForStatement environment.Loop w refl (λ m. refl) (λ j y. environment_kind_is j environment.Loop y) (refl, refl) (λ u. absurd (never (sym u))) t
-    by_kind kind.ForInStatement w t = one_case kind.ForInStatement environment.Loop w refl (λ m. refl) (λ j y. environment_kind_is j environment.Loop y) (refl, refl) (λ u. absurd (never (sym u))) t
-    by_kind kind.ForOfStatement w t = one_case kind.ForOfStatement environment.Loop w refl (λ m. refl) (λ j y. environment_kind_is j environment.Loop y) (refl, refl) (λ u. absurd (never (sym u))) t
-    by_kind kind.CatchClause w t = one_case kind.CatchClause environment.Catch w refl (λ m. refl) (λ j y. environment_kind_is j environment.Catch y) (refl, refl) (λ u. refl) t
+    by_kind kind.ForStatement w t = one_case kind.ForStatement environment.Loop w refl (λ m. refl) (λ j y. environment_kind_is j environment.Loop y) (refl, refl, refl) (λ u. absurd (never (sym u))) t
+    by_kind kind.ForInStatement w t = one_case kind.ForInStatement environment.Loop w refl (λ m. refl) (λ j y. environment_kind_is j environment.Loop y) (refl, refl, refl) (λ u. absurd (never (sym u))) t
+    by_kind kind.ForOfStatement w t = one_case kind.ForOfStatement environment.Loop w refl (λ m. refl) (λ j y. environment_kind_is j environment.Loop y) (refl, refl, refl) (λ u. absurd (never (sym u))) t
+    by_kind kind.CatchClause w t = one_case kind.CatchClause environment.Catch w refl (λ m. refl) (λ j y. environment_kind_is j environment.Catch y) (refl, refl, refl) (λ u. refl) t
     by_kind kind.Class w t = class_case w t
     by_kind kind.WithStatement w t = absurd (never_with w)
     by_kind _ w t = none_case _ w refl t
