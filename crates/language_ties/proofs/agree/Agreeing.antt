@@ -525,7 +525,7 @@ module _ (p : Tree) (h : first_fault p ≡ None) (e : is_ecmascript p ≡ true) 
               let env : w.bind.environment ≡ Parameters = directly Parameters i n.1 w in
               let known : Known w.bind = visible Parameters w.bind w.known env n.1 n.2 in
               let same : H ≡ get final.bindings s.number x = answers_too p h e numbered x none clear plain s s_opened (awaited v) w.bind known w.named (opener ∙ sym (ap (λ z. z.maker) env)) (subst (λ d. is_parameters d ≡ true) (sym env) parameters)
-                  (λ f found. subst (λ g. has_parameter_expressions g ≡ true) (some_is q.node f (sym seen.familiar.node ∙ ap (λ d. node_at p d.maker) (sym env) ∙ found)) (fits w.bind w.among w.named (ap (λ d. d.maker) env))) in
+              (λ f found. subst (λ g. has_parameter_expressions g ≡ true) (some_is q.node f (sym seen.familiar.node ∙ ap (λ d. node_at p d.maker) (sym env) ∙ found)) (fits w.bind w.among w.named (ap (λ d. d.maker) env))) in
               subst (λ t. Matches (or_else t N) (meaning bs (Parameters ∷ (ds ++ E)) x)) (sym same) (here s s_opened s_entry q.node opener seen.familiar.node Parameters (ds ++ E) refl n i is j N)
 
       -- an arrow has no other environment, a function that of its name

@@ -1,10 +1,9 @@
 -- As the header of a function ends, its scope binds a plain name to the symbol of what the environment of its parameters binds.
-use Rattle.std.proofs.Common.{◌≡◌, ℕ, ◌==◌, List, [], ◌∷◌, Option, Some, None, Bool, true, false, ◌&&◌, ◌||◌, cond, filter, inl, inr, ◌⊎◌, refl, sym, ap, subst, ◌∙◌, bytes_eq}
+use Rattle.std.proofs.Common.{◌≡◌, ℕ, ◌==◌, List, [], ◌∷◌, Option, Some, None, Bool, true, false, ◌||◌, cond, filter, inl, inr, refl, sym, ap, subst, ◌∙◌, bytes_eq}
 use Rattle.std.specs.Prelude.{slice_get}
 use Rattle.std.proofs.lemmas.Bool.Decides.{eqb_tells}
-use Rattle.semantic_syntax.proofs.Truth.{and_first, and_second}
+use Rattle.semantic_syntax.proofs.Truth.{and_second}
 use Rattle.semantic_kinds.specs.Kinds.{same_kind}
-use Rattle.semantic_kinds.specs.declared.kind.AstType.{AstType}
 use Rattle.semantic_kinds.specs.declared.kind.AstType.TheVariants as kind
 use Rattle.semantic_syntax.specs.Tables.{Name}
 use Rattle.semantic_syntax.specs.declared.source_type.SourceType.{SourceType}
@@ -53,7 +52,7 @@ use Rattle.language_ties.proofs.agree.Answers.{symbol_of, has_symbol, answers}
 use Rattle.language_ties.proofs.agree.KnownBounds.{some_is, KnownBound, bodiless}
 use Rattle.language_ties.proofs.agree.KnownNodes.{node_at}
 use Rattle.language_ties.proofs.clear.SingleNames.{identifier_of, same_declaration, declared_once}
-use Rattle.language_ties.proofs.headers.Paired.{Paired, by_kind}
+use Rattle.language_ties.proofs.headers.Paired.{by_kind}
 use Rattle.language_ties.proofs.headers.Sides.{is_parameters, Side, TakingSide, Sides, SidesAt, sides_program}
 use Rattle.language_ties.proofs.own_names.AnyBounds.{AnyBound, any_bound, IsDeclared, is_declared, declared_known}
 use Rattle.language_ties.proofs.own_names.OwnBounds.{IsOfExpression, OwnBound, own_maker}

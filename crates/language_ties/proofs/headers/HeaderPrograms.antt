@@ -55,6 +55,14 @@ function name items inner =
 abbrev expression : Role → List Forest → List Forest → Forest
 expression r items inner = node r kind.Function (codes "expression") (params (codes "formal") items ∷ body inner ∷ [])
 
+abbrev named : List ℕ → List Forest → List Forest → Forest
+named name items inner =
+    node role.Body kind.ExpressionStatement []
+    (node role.Expression kind.ParenthesizedExpression []
+    (node role.Expression kind.Function (codes "expression") (binds role.Id name ∷ params (codes "formal") items ∷ body inner ∷ [])
+    ∷ [])
+    ∷ [])
+
 abbrev sloppy : List Forest → Tree
 sloppy items = program goal.Script lang.Js items
 
@@ -107,6 +115,16 @@ class_and_header =
     (node role.Body kind.MethodDefinition (codes "method")
     (node role.Key kind.IdentifierName (codes "m") []
     ∷ expression role.Value (defaulted (codes "a") (reads role.Initializer (codes "A")) ∷ parameter (codes "A") ∷ []) (declared (codes "var") (codes "A") ∷ read (codes "A") ∷ []) ∷ []) ∷ []) ∷ []) ∷ read (codes "A") ∷ [])
+
+-- `(function f(a = f, f) { f })`
+abbrev pub own_name_and_parameter : Tree
+own_name_and_parameter =
+    sloppy (named (codes "f") (defaulted (codes "a") (reads role.Initializer (codes "f")) ∷ parameter (codes "f") ∷ []) (read (codes "f") ∷ []) ∷ [])
+
+-- `(function f(a = f) { function f() {} f })`
+abbrev pub own_name_and_function : Tree
+own_name_and_function =
+    sloppy (named (codes "f") (defaulted (codes "a") (reads role.Initializer (codes "f")) ∷ []) (function (codes "f") [] [] ∷ read (codes "f") ∷ []) ∷ [])
 
 -- `function f({ [a]: b }) { var a }`, where the key isn't marked as computed
 abbrev pub unmarked_key : Tree

@@ -6,7 +6,7 @@ use Rattle.semantic_tree.specs.Faults.{first_fault}
 use Rattle.language_ties.specs.Agreement.{differing}
 use Rattle.language_ties.specs.EcmaScript.{is_ecmascript}
 use Rattle.language_ties.specs.MarkedKeys.{keys_are_marked}
-use Rattle.language_ties.proofs.headers.HeaderPrograms.{parameter_in_header, variable_behind_header, computed_key, closure_in_header, function_behind_header, header_in_header, header_of_arrow, class_and_header, unmarked_key}
+use Rattle.language_ties.proofs.headers.HeaderPrograms.{parameter_in_header, variable_behind_header, computed_key, closure_in_header, function_behind_header, header_in_header, header_of_arrow, class_and_header, own_name_and_parameter, own_name_and_function, unmarked_key}
 
 parameter_in_header_a : differing parameter_in_header (codes "a") ≡ []
 unfolding encode chars
@@ -55,6 +55,14 @@ header_of_arrow_c = refl
 class_and_header_A : differing class_and_header (codes "A") ≡ []
 unfolding encode chars
 class_and_header_A = refl
+
+own_name_and_parameter_f : differing own_name_and_parameter (codes "f") ≡ []
+unfolding encode chars
+own_name_and_parameter_f = refl
+
+own_name_and_function_f : differing own_name_and_function (codes "f") ≡ []
+unfolding encode chars
+own_name_and_function_f = refl
 
 -- without the mark the language has no body beside the parameters, and the key would mean the body's variable
 unmarked_key_a : differing unmarked_key (codes "a") ≡ 7 ∷ []

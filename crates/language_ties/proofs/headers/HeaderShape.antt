@@ -1,5 +1,5 @@
 -- What stands in the header of a function is its list of parameters, in ECMAScript.
-use Rattle.std.proofs.Common.{◌≡◌, ℕ, List, [], ◌∷◌, Bool, true, false, ◌&&◌, ◌||◌, not, None, refl, sym, subst, ◌∙◌}
+use Rattle.std.proofs.Common.{◌≡◌, ℕ, List, Bool, true, false, ◌&&◌, ◌||◌, not, None, refl}
 use Rattle.std.specs.List.{list_all}
 use Rattle.semantic_kinds.specs.Classes.{is_of}
 use Rattle.semantic_kinds.specs.Kinds.{same_kind}
@@ -11,7 +11,6 @@ use Rattle.semantic_kinds.specs.declared.role.Role.{Role}
 use Rattle.semantic_tree.specs.Faults.{first_fault}
 use Rattle.semantic_tree.specs.Tree.{Tree}
 use Rattle.semantic_model.specs.Inside.{is_in_header}
-use Rattle.semantic_model.proofs.form.Clauses.{kind_is}
 use Rattle.semantic_model.proofs.form.PartsHold.{passed_hold}
 use Rattle.walk_model.proofs.places.Shapes.{is_only, only_holds, holds_below, tree_holds}
 use Rattle.language_ties.specs.EcmaScript.{is_ecmascript_kind}

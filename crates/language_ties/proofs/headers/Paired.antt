@@ -1,5 +1,5 @@
 -- A declaration ends in the scope of the environment that binds its name: both in the innermost, or both where variables go.
-use Rattle.std.proofs.Common.{◌≡◌, ℕ, List, [], ◌∷◌, Bool, true, false, not, cond, map, flat_map, inl, inr, ◌⊎◌, refl, sym, ap, subst, ◌∙◌, codes, if◌then◌else◌}
+use Rattle.std.proofs.Common.{◌≡◌, ℕ, List, [], ◌∷◌, Bool, true, false, cond, map, flat_map, inl, inr, ◌⊎◌, refl, sym, ap, ◌∙◌, codes, if◌then◌else◌}
 use Rattle.semantic_kinds.specs.declared.kind.AstType.{AstType}
 use Rattle.semantic_kinds.specs.declared.kind.AstType.TheVariants as kind
 use Rattle.semantic_kinds.specs.declared.mark.Mark.TheVariants as mark
@@ -16,7 +16,7 @@ use Rattle.semantic_model.specs.Names.{bound_names, names_at}
 use Rattle.semantic_model.specs.Place.{Place}
 use Rattle.program_laws.proofs.DeclaredNodes.{among_map, among_flat}
 use Rattle.language_ties.specs.Bound as language
-use Rattle.language_ties.specs.Bound.{Bound, bound_in, bound_here, bound_outward, bound_by_declarator, bound_by_declaration, bound_by_class, bound_by_catch, bound_by, is_bound_as}
+use Rattle.language_ties.specs.Bound.{Bound, bound_in, bound_here, bound_outward, bound_by_declarator, bound_by_declaration, bound_by_class, bound_by_catch, bound_by}
 use Rattle.language_ties.specs.Environments.{Environment, environments, innermost, passed, variable_environment}
 use Rattle.language_ties.specs.declared.bound_as.BoundAs.{BoundAs}
 use Rattle.language_ties.specs.declared.bound_as.BoundAs.TheVariants as bound

@@ -1,5 +1,5 @@
 -- Among parameters without an expression stands no reference, where keys are marked.
-use Rattle.std.proofs.Common.{◌≡◌, ℕ, List, [], ◌∷◌, Bool, true, false, ◌&&◌, ◌||◌, not, None, inl, inr, ◌⊎◌, refl, sym, ap, subst, ◌∙◌}
+use Rattle.std.proofs.Common.{◌≡◌, ℕ, List, [], ◌∷◌, Bool, true, false, ◌&&◌, ◌||◌, not, None, inl, inr, ◌⊎◌, refl, sym, subst, ◌∙◌}
 use Rattle.std.specs.List.{list_all}
 use Rattle.std.proofs.lemmas.Bool.{cases_Bool}
 use Rattle.semantic_syntax.proofs.Truth.{and_first, and_second}
@@ -22,7 +22,7 @@ use Rattle.semantic_tree.specs.Tree.{Tree}
 use Rattle.semantic_model.proofs.form.Clauses.{kind_is}
 use Rattle.semantic_model.proofs.form.PartsHold.{passed_hold}
 use Rattle.walk_model.proofs.places.Shapes.{only_is, holds_below, tree_holds}
-use Rattle.language_ties.specs.EcmaScript.{is_ecmascript_kind, has_foreign_mark, is_foreign_text, is_ecmascript_forest}
+use Rattle.language_ties.specs.EcmaScript.{is_ecmascript_kind, is_ecmascript_forest}
 use Rattle.language_ties.specs.Environments.{contains_expression}
 use Rattle.language_ties.specs.MarkedKeys.{refers, key_refers, keys_are_marked}
 use Rattle.language_ties.proofs.headers.ListsOnce.{is_list_role}
