@@ -9,6 +9,7 @@ pub mod FunctionKinds
 pub mod Identifiers
 pub mod KnownBounds
 pub mod Answers
+pub mod ScopeAnswers
 pub mod Agreeing
 pub mod AgreeingUses
 pub mod Differing

@@ -1,7 +1,7 @@
 -- Place by place, the nearest scope that binds a plain name has the symbol of the identifiers by which the nearest environment binds it.
-use Rattle.std.proofs.Common.{◌≡◌, ℕ, suc, List, [], ◌∷◌, ◌++◌, Option, Some, None, Bool, true, false, ◌&&◌, ◌||◌, not, cond, map, length, inl, inr, ◌⊎◌, refl, sym, ap, subst, ◌∙◌, bytes_eq, codes, arith}
+use Rattle.std.proofs.Common.{◌≡◌, ℕ, suc, List, [], ◌∷◌, ◌++◌, Option, Some, None, Bool, true, false, ◌&&◌, ◌||◌, not, cond, map, length, inl, inr, refl, sym, ap, subst, ◌∙◌, bytes_eq, codes, arith}
 use Rattle.std.specs.Prelude.{slice_get}
-use Rattle.std.proofs.lemmas.Bool.{cases_Bool, not-true}
+use Rattle.std.proofs.lemmas.Bool.{not-true}
 use Rattle.semantic_syntax.proofs.Truth.{and_first, and_second}
 use Rattle.semantic_kinds.specs.Classes.{holds_kind}
 use Rattle.semantic_kinds.specs.Kinds.{same_kind}
@@ -41,7 +41,7 @@ use Rattle.language_ties.specs.AgreeingNames.{IsPlainName, IsBoundOutsideWith, S
 use Rattle.language_ties.specs.Bound.{Bound, is_bound_as, written}
 use Rattle.language_ties.specs.EcmaScript.{is_ecmascript}
 use Rattle.language_ties.specs.Environments.{Environment, same_environment_kind, is_made_for, is_outside_body, has_parameter_expressions, made_by, environments, innermost}
-use Rattle.language_ties.specs.Meaning.{Meaning, unbound, of_object, bound, identifiers_in, meaning}
+use Rattle.language_ties.specs.Meaning.{Meaning, bound, identifiers_in, meaning}
 use Rattle.language_ties.specs.Moved.{bound_of}
 use Rattle.language_ties.specs.NearestScopes.{nearest_symbol}
 use Rattle.language_ties.specs.Scopes.{Maker, maker_of_scope, maker_of_environment, has_scope, makers}
@@ -50,12 +50,10 @@ use Rattle.language_ties.specs.declared.bound_as.BoundAs.TheVariants as way
 use Rattle.language_ties.specs.declared.environment_kind.EnvironmentKind.{EnvironmentKind}
 use Rattle.language_ties.specs.declared.environment_kind.EnvironmentKind.TheVariants as environment
 use Rattle.language_ties.proofs.EnvironmentsRound.{IsKnown, KnownAt, known_program}
-use Rattle.language_ties.proofs.agree.Answers.{symbol_of, has_symbol, answers, IsAsked, asked}
-use Rattle.language_ties.proofs.agree.ClassBounds.{IsClassBound, class_bound}
 use Rattle.language_ties.proofs.agree.EnteredOnce.{entered_once}
 use Rattle.language_ties.proofs.agree.FamiliarPlaces.{stands_well, is_function_kind, IsFamiliar, FamiliarAt, familiar_program}
 use Rattle.language_ties.proofs.agree.FunctionKinds.{function_kinds, arrow_kinds, IsOrdinary}
-use Rattle.language_ties.proofs.agree.Identifiers.{IsBoundHere, bound_here, identifier_here, meaning_further, meaning_object, meaning_here}
+use Rattle.language_ties.proofs.agree.Identifiers.{identifier_here, meaning_further, meaning_object, meaning_here}
 use Rattle.language_ties.proofs.agree.KnownBounds.{some_is, KnownBound}
 use Rattle.language_ties.proofs.agree.KnownNodes.{node_at}
 use Rattle.language_ties.proofs.agree.MadeEnvironments.{may_make, environment_kind_is, EndsAtProgram, innermost_among}
@@ -64,11 +62,13 @@ use Rattle.language_ties.proofs.headers.ChildChains.{ChainOf, outer_chain, inner
 use Rattle.language_ties.proofs.headers.HeaderAnswers.{silent, answers_too, own_answers, awaits}
 use Rattle.language_ties.proofs.headers.HeaderShape.{heads_parameters, tree_heads, header_list}
 use Rattle.language_ties.proofs.headers.Sides.{is_parameters}
-use Rattle.language_ties.proofs.own_names.AnyBounds.{AnyBound, any_bound, IsMade, is_made, own_kind}
+use Rattle.language_ties.proofs.own_names.AnyBounds.{AnyBound, any_bound}
 use Rattle.language_ties.proofs.own_names.OwnBounds.{IsOfExpression, OwnBound, own_maker}
-use Rattle.language_ties.proofs.own_names.OwnSymbols.{HasSymbol, class_symbol, function_symbol}
+use Rattle.language_ties.proofs.own_names.OwnSymbols.{HasSymbol, class_symbol}
 use Rattle.language_ties.proofs.symbols.OneSymbol.{each_at}
 use Rattle.language_ties.proofs.symbols.ScopeOpeners.{openers, IsOpened, AllOpened, IsPlaceOpened, places_opened}
+use Rattle.language_ties.proofs.agree.ScopeAnswers as scopes
+use Rattle.language_ties.proofs.agree.ScopeAnswers.{arrow_rest, class_here, directly, environment_is, function, further, here, is_here, is_there, no_if_body, none_there, one, own_rest, unanswered, unusual, visible}
 
 -- a list is not longer than itself
 cons_self : {A : Type 0} (x : A) (xs : List A) → x ∷ xs ≡ xs → ⊥
@@ -102,16 +102,17 @@ module _ (p : Tree) (h : first_fault p ≡ None) (e : is_ecmascript p ≡ true) 
 
   -- ---- agreement
 
-  abbrev pub AllAre : List ℕ → ℕ → Type 0
-  AllAre [] s = Unit {0}
-  AllAre (i ∷ is) s = (symbol_at (analysis_of p) i ≡ Some s) × AllAre is s
+  abbrev AllAre : List ℕ → ℕ → Type 0
+  AllAre is s = scopes.AllAre p h e numbered x none not_arguments clear plain is s
 
-  -- the symbol is that of all identifiers, and none where nothing binds the name
-  abbrev pub Matches : Option ℕ → Meaning → Type 0
-  Matches o unbound = o ≡ None
-  Matches o (of_object d) = ⊥
-  Matches o (bound d []) = ⊥
-  Matches o (bound d (i ∷ is)) = (s : ℕ) × (o ≡ Some s) × AllAre (i ∷ is) s
+  abbrev Matches : Option ℕ → Meaning → Type 0
+  Matches o m = scopes.Matches p h e numbered x none not_arguments clear plain o m
+
+  abbrev IsHere : Environment → ℕ → Type 0
+  IsHere d i = scopes.IsHere p h e numbered x none not_arguments clear plain d i
+
+  abbrev IsClassHere : Environment → Bound → Type 0
+  IsClassHere d b = scopes.IsClassHere p h e numbered x none not_arguments clear plain d b
 
   -- so it is at a place that stands in expressions among the parameters that bind the name
   abbrev pub Agrees : Place → Type 0
@@ -123,244 +124,6 @@ module _ (p : Tree) (h : first_fault p ≡ None) (e : is_ecmascript p ≡ true) 
   AgreesAt (header_ending q o) = Unit {0}
   AgreesAt (closing q o) = Unit {0}
   AgreesAt (leaving q) = Unit {0}
-
-  -- ---- what an environment binds
-
-  -- an identifier of the environment is of a bound that is known
-  record IsHere (d : Environment) (i : ℕ) : Type 0 where
-    bind : Bound
-    known : Any bind
-    among : Among bind ws
-    named : bind.name ≡ x
-    there : (bind.environment ≡ d) ⊎ Among d bind.also
-    identifier : bind.identifier ≡ i
-
-  is_here : (d : Environment) (i : ℕ) → Among i (identifiers_in bs d x) → IsHere d i
-  is_here d i a =
-      let w : IsBoundHere ws x d ws i = bound_here ws x d ws i a in
-      record { bind = w.bind; known = any_bound p h e numbered x none plain w.bind w.among w.named; among = w.among; named = w.named; there = w.there; identifier = w.identifier }
-
-  -- what is bound in another environment, too, is a class
-  record IsClassHere (d : Environment) (b : Bound) : Type 0 where
-    place : Place
-    entered : Among (entering place) (steps p)
-    class : IsClassBound place b d
-
-  class_here : (d : Environment) (b : Bound) → Any b → Among d b.also → IsClassHere d b
-  class_here d b (inl k) a = record { place = k.placed.by_node.place; entered = k.placed.by_node.entered; class = class_bound p.source_type k.placed.by_node.place b k.plainly d a k.placed.by_node.place.node.kind k.placed.by_node.binds }
-  class_here d b (inr o) a = absurd (subst (Among d) o.named_by.alone a)
-
-  directly : (d : Environment) (i : ℕ) → is_made_for environment.Class d ≡ false → (w : IsHere d i) → w.bind.environment ≡ d
-  directly d i n w = elim w.there [
-    | inl q ↦ q
-    | inr a ↦ absurd (never (sym (ap (is_made_for environment.Class) (class_here d w.bind w.known a).class.inside) ∙ n))
-  ]
-
-  -- what binds it elsewhere than in the environment of an own name or of a class is no own name
-  visible : (d : Environment) (b : Bound) → Any b → b.environment ≡ d → is_made_for environment.Class d ≡ false → is_made_for environment.OwnName d ≡ false → Known b
-  visible d b (inl k) q n u = k
-  visible d b (inr o) q n u = absurd (own_kind p h e numbered x none plain b o (ap (is_made_for environment.OwnName) q ∙ u) (ap (is_made_for environment.Class) q ∙ n))
-
-  -- nothing is bound by the environment of an `if` body
-  no_if_body : (b : Bound) → Any b → is_made_for environment.IfBody b.environment ≡ false
-  no_if_body b (inl k) = k.placed.usual.1
-  no_if_body b (inr o) = elim (cases_Bool (is_made_for environment.IfBody b.environment)) [
-    | inr q ↦ q
-    | inl q ↦ (let k : b.environment.kind ≡ environment.IfBody = environment_kind_is b.environment.kind environment.IfBody q in
-        absurd (own_kind p h e numbered x none plain b o (ap (λ z. same_environment_kind z environment.OwnName) k) (ap (λ z. same_environment_kind z environment.Class) k)))
-  ]
-
-  unusual : (m : ℕ) → identifiers_in bs (record { kind = environment.IfBody; maker = m }) x ≡ []
-  unusual m = go (identifiers_in bs d x) refl
-    where
-      d : Environment
-      d = record { kind = environment.IfBody; maker = m }
-
-      go : (is : List ℕ) → identifiers_in bs d x ≡ is → identifiers_in bs d x ≡ []
-      go [] q = q
-      go (i ∷ is) q =
-          let w : IsHere d i = is_here d i (subst (Among i) (sym q) (inl refl)) in
-          absurd (never (sym (ap (is_made_for environment.IfBody) (directly d i refl w)) ∙ no_if_body w.bind w.known))
-
-  -- ---- a scope with the environments of its opener
-
-  module _ (s : OpenScope) (o : IsOpened (openers (steps p)) s) (entry : slice_get (table_of p) s.number ≡ Some s.body) (q : Node) (opener : s.opener ≡ q.node_id) (found : node_at p q.node_id ≡ Some q) where
-    abbrev Y : Option ℕ
-    Y = get final.bindings s.number x
-
-    -- all identifiers of an environment of the opener have the symbol that the scope binds
-    answer_of : (d : Environment) → d.maker ≡ q.node_id → IsOrdinary d.kind → (i : ℕ) → Among i (identifiers_in bs d x) → (y : ℕ) × (Y ≡ Some y) × (symbol_at (analysis_of p) i ≡ Some y)
-    answer_of d m v i a =
-        let w : IsHere d i = is_here d i a in
-        let there : w.bind.environment ≡ d = directly d i v.1 w in
-        let k : Known w.bind = visible d w.bind w.known there v.1 v.2 in
-        let y : ℕ = symbol_of p h e numbered x none clear plain w.bind k in
-        (y, answers p h e numbered x none clear plain w.bind k s o (opener ∙ sym m ∙ sym (ap (λ z. z.maker) there)), subst (λ j. symbol_at (analysis_of p) j ≡ Some y) w.identifier (has_symbol p h e numbered x none clear plain w.bind k))
-
-    all_answer : (d : Environment) → d.maker ≡ q.node_id → IsOrdinary d.kind → (y : ℕ) → Y ≡ Some y → (is : List ℕ) → ((i : ℕ) → Among i is → Among i (identifiers_in bs d x)) → AllAre is y
-    all_answer d m v y g [] f = tt
-    all_answer d m v y g (i ∷ is) f =
-        let (z, there, symbol) = answer_of d m v i (f i (inl refl)) in
-        let same : z ≡ y = some_is z y (sym there ∙ g) in
-        (symbol ∙ ap Some same, all_answer d m v y g is (λ j a. f j (inr a)))
-
-    -- where the environment binds the name, that is what it means
-    here : (d : Environment) (ds : List Environment) → d.maker ≡ q.node_id → IsOrdinary d.kind → (i : ℕ) (is : List ℕ) → identifiers_in bs d x ≡ i ∷ is → (later : Option ℕ) → Matches (or_else Y later) (meaning bs (d ∷ ds) x)
-    here d ds m n i is w later =
-        let (y, there, symbol) = answer_of d m n i (subst (Among i) (sym w) (inl refl)) in
-        subst (Matches (or_else Y later)) (sym (meaning_here bs x not_arguments d ds i is n.0 w))
-        (y, ap (λ z. or_else z later) there, all_answer d m n y there (i ∷ is) (λ j a. subst (Among j) (sym w) a))
-
-    -- what the scope binds is bound by an environment of the opener
-    record IsBoundThere : Type 0 where
-      bind : Bound
-      known : Any bind
-      among : Among bind ws
-      named : bind.name ≡ x
-      maker : bind.environment.maker ≡ q.node_id
-      makes : may_make q.kind bind.environment.kind ≡ true
-      body : is_made_for environment.Body bind.environment ≡ true → has_parameter_expressions q ≡ true
-
-    made_there : (b : Bound) → Among b ws → b.name ≡ x → b.environment.maker ≡ q.node_id → IsBoundThere
-    made_there b a n maker =
-        let k : Any b = any_bound p h e numbered x none plain b a n in
-        let m : IsMade p h e numbered x none plain b = is_made p h e numbered x none plain b k in
-        let same : m.maker ≡ q = some_is m.maker q (sym m.found ∙ ap (node_at p) maker ∙ found) in
-        record {
-          bind = b;
-          known = k;
-          among = a;
-          named = n;
-          maker = maker;
-          makes = subst (λ z. may_make z.kind b.environment.kind ≡ true) same m.makes;
-          body = λ v. subst (λ z. has_parameter_expressions z ≡ true) same (m.body v);
-        }
-
-    bound_there : (y : ℕ) → Y ≡ Some y → IsBoundThere
-    bound_there y g =
-        let w : IsAsked p h e numbered x none clear plain s = asked p h e numbered x none clear plain s y o entry g in
-        made_there w.bind w.among w.named (w.maker ∙ opener)
-
-    -- an environment that binds nothing is none of those
-    none_there : (d : Environment) → identifiers_in bs d x ≡ [] → (w : IsBoundThere) → w.bind.environment ≡ d → ⊥
-    none_there d n w q = subst (Among w.bind.identifier) n (identifier_here ws x d ws w.bind w.among w.named q)
-
-    environment_is : (w : IsBoundThere) (k : EnvironmentKind) → w.bind.environment.kind ≡ k → w.bind.environment ≡ record { kind = k; maker = q.node_id }
-    environment_is w k v = λ i. record { kind = v i; maker = w.maker i }
-
-    -- where no environment of the opener binds the name, nor does the scope
-    unanswered : (IsBoundThere → ⊥) → Y ≡ None
-    unanswered n = go Y refl
-      where
-        go : (t : Option ℕ) → Y ≡ t → Y ≡ None
-        go None g = g
-        go (Some y) g = absurd (n (bound_there y g))
-
-    further : (later : Option ℕ) (m : Meaning) → Y ≡ None → Matches later m → Matches (or_else Y later) m
-    further later m g k = subst (λ t. Matches (or_else t later) m) (sym g) k
-
-    -- one environment
-    one : (k : EnvironmentKind) (ds : List Environment) → ((j : EnvironmentKind) → may_make q.kind j ≡ true → j ≡ k) → IsOrdinary k → (later : Option ℕ) → Matches later (meaning bs ds x) → Matches (or_else Y later) (meaning bs (record { kind = k; maker = q.node_id } ∷ ds) x)
-    one k ds only n later m = go (identifiers_in bs (record { kind = k; maker = q.node_id }) x) refl
-      where
-        go : (is : List ℕ) → identifiers_in bs (record { kind = k; maker = q.node_id }) x ≡ is → Matches (or_else Y later) (meaning bs (record { kind = k; maker = q.node_id } ∷ ds) x)
-        go (i ∷ is) w = here (record { kind = k; maker = q.node_id }) ds refl n i is w later
-        go [] w =
-            subst (Matches (or_else Y later)) (sym (meaning_further bs x not_arguments (record { kind = k; maker = q.node_id }) ds n.0 w))
-            (further later (meaning bs ds x) (unanswered (λ v. none_there (record { kind = k; maker = q.node_id }) w v (environment_is v k (only v.bind.environment.kind v.makes)))) m)
-
-    -- a function's, with that of its body where the child stands in it
-    module _ (k : EnvironmentKind) (n : IsOrdinary k) (later : Option ℕ) where
-      abbrev Body : Environment
-      Body = record { kind = environment.Body; maker = q.node_id }
-
-      abbrev Own : Environment
-      Own = record { kind = k; maker = q.node_id }
-
-      -- where neither the body's binds it nor the parameters'
-      abbrev Rest : List Environment → Type 0
-      Rest ds = ((w : IsBoundThere) → w.bind.environment ≡ Body → ⊥) → ((w : IsBoundThere) → w.bind.environment ≡ Own → ⊥) → Matches (or_else Y later) (meaning bs ds x)
-
-      -- where the body's binds nothing, or is not there because it is not the function's
-      parameters : (ds : List Environment) → ((w : IsBoundThere) → w.bind.environment ≡ Body → ⊥) → Rest ds → Matches (or_else Y later) (meaning bs (Own ∷ ds) x)
-      parameters ds no_body rest = go (identifiers_in bs Own x) refl
-        where
-          go : (is : List ℕ) → identifiers_in bs Own x ≡ is → Matches (or_else Y later) (meaning bs (Own ∷ ds) x)
-          go (i ∷ is) w = here Own ds refl n i is w later
-          go [] w = subst (Matches (or_else Y later)) (sym (meaning_further bs x not_arguments Own ds n.0 w)) (rest no_body (λ v b. none_there Own w v b))
-
-      function : (t : Bool) (ds : List Environment) → (t ≡ false → has_parameter_expressions q ≡ true → ⊥) → Rest ds → Matches (or_else Y later) (meaning bs (cond t (Body ∷ []) [] ++ (Own ∷ ds)) x)
-      function false ds absent rest = parameters ds (λ w b. absent refl (w.body (ap (is_made_for environment.Body) b))) rest
-      function true ds absent rest = go (identifiers_in bs Body x) refl
-        where
-          go : (is : List ℕ) → identifiers_in bs Body x ≡ is → Matches (or_else Y later) (meaning bs (Body ∷ Own ∷ ds) x)
-          go (i ∷ is) w = here Body (Own ∷ ds) refl (refl, refl, refl) i is w later
-          go [] w =
-              subst (Matches (or_else Y later)) (sym (meaning_further bs x not_arguments Body (Own ∷ ds) refl w))
-              (parameters ds (λ v b. none_there Body w v b) rest)
-
-    -- an arrow has no other
-    arrow_rest : q.kind ≡ kind.ArrowFunctionExpression → (later : Option ℕ) (ds : List Environment) → Matches later (meaning bs ds x) → Rest environment.ArrowParameters (refl, refl, refl) later ds
-    arrow_rest w later ds m no_body no_parameters = further later (meaning bs ds x) (unanswered (λ v. elim (arrow_kinds v.bind.environment.kind (subst (λ a. may_make a v.bind.environment.kind ≡ true) w v.makes)) [
-      | inl b ↦ no_body v (environment_is v environment.Body b)
-      | inr b ↦ no_parameters v (environment_is v environment.ArrowParameters b)
-    ])) m
-
-    -- a function has that of its name, which has the symbol of the scope where nothing else does
-    module _ (w : q.kind ≡ kind.Function) (later : Option ℕ) (ds : List Environment) (m : Matches later (meaning bs ds x)) (no_body : (v : IsBoundThere) → v.bind.environment ≡ record { kind = environment.Body; maker = q.node_id } → ⊥) (no_parameters : (v : IsBoundThere) → v.bind.environment ≡ record { kind = environment.Parameters; maker = q.node_id } → ⊥) where
-      abbrev OwnName : Environment
-      OwnName = record { kind = environment.OwnName; maker = q.node_id }
-
-      -- all that is bound there is
-      only_own : (v : IsBoundThere) → v.bind.environment ≡ OwnName
-      only_own v = elim (function_kinds v.bind.environment.kind (subst (λ a. may_make a v.bind.environment.kind ≡ true) w v.makes) (no_if_body v.bind v.known)) [
-        | inl b ↦ absurd (no_body v (environment_is v environment.Body b))
-        | inr b ↦ elim b [
-          | inl c ↦ absurd (no_parameters v (environment_is v environment.Parameters c))
-          | inr c ↦ environment_is v environment.OwnName c
-        ]
-      ]
-
-      apart : (c : Bound) → Among c ws → c.name ≡ x → is_bound_as way.OwnName c ≡ false → c.environment.maker ≡ s.opener → ⊥
-      unfolding made_there
-      apart c a n u k = absurd (by (made_there c a n (k ∙ opener)) refl)
-        where
-          by : (v : IsBoundThere) → v.bind ≡ c → ⊥
-          by v same = elim v.known [
-            | inl known ↦ never (sym (ap (is_made_for environment.OwnName) (only_own v)) ∙ known.placed.usual.0)
-            | inr own ↦ never (sym own.own ∙ ap (is_bound_as way.OwnName) same ∙ u)
-          ]
-
-      own_symbol : (i : ℕ) → Among i (identifiers_in bs OwnName x) → HasSymbol p h e numbered x none clear plain s i
-      own_symbol i a =
-          let v : IsHere OwnName i = is_here OwnName i a in
-          let there : v.bind.environment ≡ OwnName = directly OwnName i refl v in
-          elim v.known [
-            | inl known ↦ absurd (never (sym (ap (is_made_for environment.OwnName) there) ∙ known.placed.usual.0))
-            | inr own ↦ (let maker : own.place.node.node_id ≡ q.node_id = sym (own_maker p h x v.bind own) ∙ ap (λ z. z.maker) there in
-                let familiar : IsFamiliar (node_at p) own.place = each_at (FamiliarAt (node_at p)) (steps p) (entering own.place) (familiar_program p h e numbered) own.entered in
-                let same : own.place.node ≡ q = some_is own.place.node q (sym familiar.node ∙ ap (node_at p) maker ∙ found) in
-                subst (HasSymbol p h e numbered x none clear plain s) v.identifier
-                (function_symbol p h e numbered x none clear plain s o entry v.bind own (opener ∙ sym maker) (ap (λ z. z.kind) same ∙ w) apart))
-          ]
-
-      all_own : (y : ℕ) → Y ≡ Some y → (is : List ℕ) → ((i : ℕ) → Among i is → Among i (identifiers_in bs OwnName x)) → AllAre is y
-      all_own y g [] f = tt
-      all_own y g (i ∷ is) f =
-          let k : HasSymbol p h e numbered x none clear plain s i = own_symbol i (f i (inl refl)) in
-          (k.is ∙ ap Some (some_is k.symbol y (sym k.bound ∙ g)), all_own y g is (λ j a. f j (inr a)))
-
-      own_rest : Matches (or_else Y later) (meaning bs (OwnName ∷ ds) x)
-      own_rest = go (identifiers_in bs OwnName x) refl
-        where
-          go : (is : List ℕ) → identifiers_in bs OwnName x ≡ is → Matches (or_else Y later) (meaning bs (OwnName ∷ ds) x)
-          go [] v =
-              subst (Matches (or_else Y later)) (sym (meaning_further bs x not_arguments OwnName ds refl v))
-              (further later (meaning bs ds x) (unanswered (λ z. none_there OwnName v z (only_own z))) m)
-          go (i ∷ is) v =
-              let k : HasSymbol p h e numbered x none clear plain s i = own_symbol i (subst (Among i) (sym v) (inl refl)) in
-              subst (Matches (or_else Y later)) (sym (meaning_here bs x not_arguments OwnName ds i is refl v))
-              (k.symbol, ap (λ z. or_else z later) k.bound, all_own k.symbol k.bound (i ∷ is) (λ j a. subst (Among j) (sym v) a))
 
   -- ---- a child of a place
 
@@ -445,21 +208,15 @@ module _ (p : Tree) (h : first_fault p ≡ None) (e : is_ecmascript p ≡ true) 
       unseen m g k = subst (λ t. Matches (or_else t N) m) (sym g) k
 
       abbrev OfOpener : Type 0
-      OfOpener = IsBoundThere s s_opened s_entry q.node opener seen.familiar.node
+      OfOpener = scopes.IsBoundThere p h e numbered x none not_arguments clear plain s s_opened s_entry q.node opener seen.familiar.node
 
-      -- what the opener binds
-      record IsThere (b : Bound) : Type 0 where
-        there : OfOpener
-        same : there.bind ≡ b
-
-      is_there : (b : Bound) → Among b ws → b.name ≡ x → b.environment.maker ≡ s.opener → IsThere b
-      unfolding made_there
-      is_there b a n m = record { there = made_there s s_opened s_entry q.node opener seen.familiar.node b a n (m ∙ opener); same = refl }
+      abbrev IsBoundBy : Bound → Type 0
+      IsBoundBy b = scopes.IsThere p h e numbered x none not_arguments clear plain s s_opened s_entry q.node opener seen.familiar.node b
 
       -- no plain name is bound by a clause
       by_clause : ((j : EnvironmentKind) → may_make q.node.kind j ≡ true → j ≡ environment.Catch) → s.in_header ≡ true → Matches N (meaning bs E x) → Matches (or_else H N) (meaning bs (record { kind = environment.Catch; maker = q.node.node_id } ∷ E) x)
       by_clause only v m =
-          unseen (meaning bs (Clause ∷ E) x) (silent p h e numbered x none clear plain s s_opened (awaited v) (λ b a n k body. of_clause (is_there b a n k).there))
+          unseen (meaning bs (Clause ∷ E) x) (silent p h e numbered x none clear plain s s_opened (awaited v) (λ b a n k body. of_clause (is_there p h e numbered x none not_arguments clear plain s s_opened s_entry q.node opener seen.familiar.node b a n (k ∙ opener)).there))
           (subst (Matches N) (sym (meaning_further bs x not_arguments Clause E refl (nothing (identifiers_in bs Clause x) refl))) m)
         where
           Clause : Environment
@@ -467,20 +224,20 @@ module _ (p : Tree) (h : first_fault p ≡ None) (e : is_ecmascript p ≡ true) 
 
           no_clause : (b : Bound) → Any b → b.environment ≡ Clause → ⊥
           no_clause b k w =
-              let known : Known b = visible Clause b k w refl refl in
+              let known : Known b = visible p h e numbered x none not_arguments clear plain Clause b k w refl refl in
               never (sym (ap (is_made_for environment.Catch) w) ∙ no_catch b known.plainly)
 
           of_clause : OfOpener → ⊥
-          of_clause w = no_clause w.bind w.known (environment_is s s_opened s_entry q.node opener seen.familiar.node w environment.Catch (only w.bind.environment.kind w.makes))
+          of_clause w = no_clause w.bind w.known (environment_is p h e numbered x none not_arguments clear plain s s_opened s_entry q.node opener seen.familiar.node w environment.Catch (only w.bind.environment.kind w.makes))
 
           nothing : (is : List ℕ) → identifiers_in bs Clause x ≡ is → identifiers_in bs Clause x ≡ []
           nothing [] k = k
           nothing (i ∷ is) k =
-              let w : IsHere Clause i = is_here Clause i (subst (Among i) (sym k) (inl refl)) in
-              absurd (no_clause w.bind w.known (directly Clause i refl w))
+              let w : IsHere Clause i = is_here p h e numbered x none not_arguments clear plain Clause i (subst (Among i) (sym k) (inl refl)) in
+              absurd (no_clause w.bind w.known (directly p h e numbered x none not_arguments clear plain Clause i refl w))
 
       one_shows : (k : EnvironmentKind) → ((j : EnvironmentKind) → may_make q.node.kind j ≡ true → j ≡ k) → IsOrdinary k → (s.in_header ≡ true → k ≡ environment.Catch) → Shows (s ∷ q.chain) (record { kind = k; maker = q.node.node_id } ∷ [])
-      one_shows k only n clause = seen_by (record { kind = k; maker = q.node.node_id } ∷ []) (λ v. one s s_opened s_entry q.node opener seen.familiar.node k E only n N)
+      one_shows k only n clause = seen_by (record { kind = k; maker = q.node.node_id } ∷ []) (λ v. one p h e numbered x none not_arguments clear plain s s_opened s_entry q.node opener seen.familiar.node k E only n N)
           (λ v fits m. subst (λ z. Matches (or_else H N) (meaning bs (record { kind = z; maker = q.node.node_id } ∷ E) x)) (sym (clause v)) (by_clause (λ j y. only j y ∙ clause v) v m))
 
       -- outside of its body's environment a child of a function stands in its header
@@ -519,23 +276,23 @@ module _ (p : Tree) (h : first_fault p ≡ None) (e : is_ecmascript p ≡ true) 
           Parameters = record { kind = k; maker = q.node.node_id }
 
           go : (is : List ℕ) → identifiers_in bs Parameters x ≡ is → Matches (or_else H N) (meaning bs (Parameters ∷ (ds ++ E)) x)
-          go [] i = subst (Matches (or_else H N)) (sym (meaning_further bs x not_arguments Parameters (ds ++ E) n.0 i)) (rest (λ w z. none_there s s_opened s_entry q.node opener seen.familiar.node Parameters i w z) m)
+          go [] i = subst (Matches (or_else H N)) (sym (meaning_further bs x not_arguments Parameters (ds ++ E) n.0 i)) (rest (λ w z. none_there p h e numbered x none not_arguments clear plain s s_opened s_entry q.node opener seen.familiar.node Parameters i w z) m)
           go (i ∷ is) j =
-              let w : IsHere Parameters i = is_here Parameters i (subst (Among i) (sym j) (inl refl)) in
-              let env : w.bind.environment ≡ Parameters = directly Parameters i n.1 w in
-              let known : Known w.bind = visible Parameters w.bind w.known env n.1 n.2 in
+              let w : IsHere Parameters i = is_here p h e numbered x none not_arguments clear plain Parameters i (subst (Among i) (sym j) (inl refl)) in
+              let env : w.bind.environment ≡ Parameters = directly p h e numbered x none not_arguments clear plain Parameters i n.1 w in
+              let known : Known w.bind = visible p h e numbered x none not_arguments clear plain Parameters w.bind w.known env n.1 n.2 in
               let same : H ≡ get final.bindings s.number x = answers_too p h e numbered x none clear plain s s_opened (awaited v) w.bind known w.named (opener ∙ sym (ap (λ z. z.maker) env)) (subst (λ d. is_parameters d ≡ true) (sym env) parameters)
               (λ f found. subst (λ g. has_parameter_expressions g ≡ true) (some_is q.node f (sym seen.familiar.node ∙ ap (λ d. node_at p d.maker) (sym env) ∙ found)) (fits w.bind w.among w.named (ap (λ d. d.maker) env))) in
-              subst (λ t. Matches (or_else t N) (meaning bs (Parameters ∷ (ds ++ E)) x)) (sym same) (here s s_opened s_entry q.node opener seen.familiar.node Parameters (ds ++ E) refl n i is j N)
+              subst (λ t. Matches (or_else t N) (meaning bs (Parameters ∷ (ds ++ E)) x)) (sym same) (here p h e numbered x none not_arguments clear plain s s_opened s_entry q.node opener seen.familiar.node Parameters (ds ++ E) refl n i is j N)
 
       -- an arrow has no other environment, a function that of its name
       arrow_header : q.node.kind ≡ kind.ArrowFunctionExpression → s.in_header ≡ true → HeaderRest environment.ArrowParameters []
-      arrow_header w v no_parameters m = unseen (meaning bs E x) (silent p h e numbered x none clear plain s s_opened (awaited v) (λ b a n k body. by b body (is_there b a n k))) m
+      arrow_header w v no_parameters m = unseen (meaning bs E x) (silent p h e numbered x none clear plain s s_opened (awaited v) (λ b a n k body. by b body (is_there p h e numbered x none not_arguments clear plain s s_opened s_entry q.node opener seen.familiar.node b a n (k ∙ opener)))) m
         where
-          by : (b : Bound) → is_made_for environment.Body b.environment ≡ false → IsThere b → ⊥
+          by : (b : Bound) → is_made_for environment.Body b.environment ≡ false → IsBoundBy b → ⊥
           by b body t = elim (arrow_kinds t.there.bind.environment.kind (subst (λ a. may_make a t.there.bind.environment.kind ≡ true) w t.there.makes)) [
             | inl z ↦ never (sym (ap (λ y. same_environment_kind y environment.Body) (sym (ap (λ y. y.environment.kind) t.same) ∙ z)) ∙ body)
-            | inr z ↦ no_parameters t.there (environment_is s s_opened s_entry q.node opener seen.familiar.node t.there environment.ArrowParameters z)
+            | inr z ↦ no_parameters t.there (environment_is p h e numbered x none not_arguments clear plain s s_opened s_entry q.node opener seen.familiar.node t.there environment.ArrowParameters z)
           ]
 
       module _ (w : q.node.kind ≡ kind.Function) (v : s.in_header ≡ true) (no_parameters : (t : OfOpener) → t.bind.environment ≡ record { kind = environment.Parameters; maker = q.node.node_id } → ⊥) where
@@ -543,12 +300,12 @@ module _ (p : Tree) (h : first_fault p ≡ None) (e : is_ecmascript p ≡ true) 
         HeaderName = record { kind = environment.OwnName; maker = q.node.node_id }
 
         -- but for the body's environment, that of the name alone binds it
-        named_alone : (b : Bound) → is_made_for environment.Body b.environment ≡ false → (t : IsThere b) → t.there.bind.environment ≡ HeaderName
-        named_alone b body t = elim (function_kinds t.there.bind.environment.kind (subst (λ a. may_make a t.there.bind.environment.kind ≡ true) w t.there.makes) (no_if_body t.there.bind t.there.known)) [
+        named_alone : (b : Bound) → is_made_for environment.Body b.environment ≡ false → (t : IsBoundBy b) → t.there.bind.environment ≡ HeaderName
+        named_alone b body t = elim (function_kinds t.there.bind.environment.kind (subst (λ a. may_make a t.there.bind.environment.kind ≡ true) w t.there.makes) (no_if_body p h e numbered x none not_arguments clear plain t.there.bind t.there.known)) [
           | inl z ↦ absurd (never (sym (ap (λ y. same_environment_kind y environment.Body) (sym (ap (λ y. y.environment.kind) t.same) ∙ z)) ∙ body))
           | inr z ↦ elim z [
-            | inl y ↦ absurd (no_parameters t.there (environment_is s s_opened s_entry q.node opener seen.familiar.node t.there environment.Parameters y))
-            | inr y ↦ environment_is s s_opened s_entry q.node opener seen.familiar.node t.there environment.OwnName y
+            | inl y ↦ absurd (no_parameters t.there (environment_is p h e numbered x none not_arguments clear plain s s_opened s_entry q.node opener seen.familiar.node t.there environment.Parameters y))
+            | inr y ↦ environment_is p h e numbered x none not_arguments clear plain s s_opened s_entry q.node opener seen.familiar.node t.there environment.OwnName y
           ]
         ]
 
@@ -557,7 +314,7 @@ module _ (p : Tree) (h : first_fault p ≡ None) (e : is_ecmascript p ≡ true) 
 
         own_apart : (b : Bound) → Among b ws → b.name ≡ x → is_bound_as way.OwnName b ≡ false → b.environment.maker ≡ s.opener → is_made_for environment.Body b.environment ≡ false → ⊥
         own_apart b a n u k body =
-            let t : IsThere b = is_there b a n k in
+            let t : IsBoundBy b = is_there p h e numbered x none not_arguments clear plain s s_opened s_entry q.node opener seen.familiar.node b a n (k ∙ opener) in
             let env : b.environment ≡ HeaderName = ap (λ z. z.environment) (sym t.same) ∙ named_alone b body t in
             elim (any_bound p h e numbered x none plain b a n) [
               | inl known ↦ not_declared_there b known env
@@ -566,8 +323,8 @@ module _ (p : Tree) (h : first_fault p ≡ None) (e : is_ecmascript p ≡ true) 
 
         own_seen : (i : ℕ) → Among i (identifiers_in bs HeaderName x) → (y : ℕ) × (H ≡ Some y) × (symbol_at (analysis_of p) i ≡ Some y)
         own_seen i a =
-            let k : IsHere HeaderName i = is_here HeaderName i a in
-            let there : k.bind.environment ≡ HeaderName = directly HeaderName i refl k in
+            let k : IsHere HeaderName i = is_here p h e numbered x none not_arguments clear plain HeaderName i a in
+            let there : k.bind.environment ≡ HeaderName = directly p h e numbered x none not_arguments clear plain HeaderName i refl k in
             elim k.known [
               | inl known ↦ absurd (not_declared_there k.bind known there)
               | inr own ↦ (let maker : own.place.node.node_id ≡ q.node.node_id = sym (own_maker p h x k.bind own) ∙ ap (λ z. z.maker) there in
@@ -589,19 +346,19 @@ module _ (p : Tree) (h : first_fault p ≡ None) (e : is_ecmascript p ≡ true) 
             go : (is : List ℕ) → identifiers_in bs HeaderName x ≡ is → Matches (or_else H N) (meaning bs (HeaderName ∷ E) x)
             go [] i =
                 subst (Matches (or_else H N)) (sym (meaning_further bs x not_arguments HeaderName E refl i))
-                (unseen (meaning bs E x) (silent p h e numbered x none clear plain s s_opened (awaited v) (λ b a n k body. (let t : IsThere b = is_there b a n k in none_there s s_opened s_entry q.node opener seen.familiar.node HeaderName i t.there (named_alone b body t)))) m)
+                (unseen (meaning bs E x) (silent p h e numbered x none clear plain s s_opened (awaited v) (λ b a n k body. (let t : IsBoundBy b = is_there p h e numbered x none not_arguments clear plain s s_opened s_entry q.node opener seen.familiar.node b a n (k ∙ opener) in none_there p h e numbered x none not_arguments clear plain s s_opened s_entry q.node opener seen.familiar.node HeaderName i t.there (named_alone b body t)))) m)
             go (i ∷ is) j =
                 let (y, there, symbol) = own_seen i (subst (Among i) (sym j) (inl refl)) in
                 subst (Matches (or_else H N)) (sym (meaning_here bs x not_arguments HeaderName E i is refl j))
                 (y, ap (λ z. or_else z N) there, all_seen y there (i ∷ is) (λ k a. subst (Among k) (sym j) a))
 
       function_shows : (k : EnvironmentKind) (n : IsOrdinary k) (ds : List Environment) → is_function_kind q.node.kind ≡ true → is_parameters (record { kind = k; maker = q.node.node_id }) ≡ true
-          → (Matches N (meaning bs E x) → Rest s s_opened s_entry q.node opener seen.familiar.node k n N (ds ++ E)) → (s.in_header ≡ true → HeaderRest k ds)
+          → (Matches N (meaning bs E x) → scopes.Rest p h e numbered x none not_arguments clear plain s s_opened s_entry q.node opener seen.familiar.node k n N (ds ++ E)) → (s.in_header ≡ true → HeaderRest k ds)
           → Shows (s ∷ q.chain) (cond (not (is_outside_body c.node) && has_parameter_expressions q.node) (record { kind = environment.Body; maker = q.node.node_id } ∷ []) [] ++ (record { kind = k; maker = q.node.node_id } ∷ ds))
       function_shows k n ds f parameters rest header_rest =
           seen_by (cond (not (is_outside_body c.node) && has_parameter_expressions q.node) (record { kind = environment.Body; maker = q.node.node_id } ∷ []) [] ++ (record { kind = k; maker = q.node.node_id } ∷ ds)) (λ last m.
           subst (λ es. Matches (or_else (get final.bindings s.number x) N) (meaning bs es x)) (reassociated (not (is_outside_body c.node) && has_parameter_expressions q.node))
-          (function s s_opened s_entry q.node opener seen.familiar.node k n N
+          (function p h e numbered x none not_arguments clear plain s s_opened s_entry q.node opener seen.familiar.node k n N
           (not (is_outside_body c.node) && has_parameter_expressions q.node) (ds ++ E) (absent (is_outside_body c.node) refl last) (rest m)))
           (λ v fits m. subst (λ t. Matches (or_else H N) (meaning bs ((cond (not t && has_parameter_expressions q.node) (record { kind = environment.Body; maker = q.node.node_id } ∷ []) [] ++ (record { kind = k; maker = q.node.node_id } ∷ ds)) ++ E) x)) (sym (list_outside (list f v)))
           (from_header k n ds parameters v (fits (list f v)) (header_rest v) m))
@@ -656,7 +413,7 @@ module _ (p : Tree) (h : first_fault p ≡ None) (e : is_ecmascript p ≡ true) 
         go _ v (outer_chain i) = absurd (never (subst (λ a. is_inside a c.role ≡ false) w i))
         go _ v (inner_chain s i o j) =
             function_shows s o j v environment.Parameters (refl, refl, refl) (record { kind = environment.OwnName; maker = q.node.node_id } ∷ []) (subst (λ a. is_function_kind a ≡ true) (sym w) refl) refl
-            (own_rest s (s_opened s o j v) (s_entry s o j v) q.node o seen.familiar.node w N E) (λ u none m. own_header s o j v w u none m)
+            (own_rest p h e numbered x none not_arguments clear plain s (s_opened s o j v) (s_entry s o j v) q.node o seen.familiar.node w N E) (λ u none m. own_header s o j v w u none m)
 
     arrow_case : q.node.kind ≡ kind.ArrowFunctionExpression → ChainOf q.node.kind c.role q.node q.chain c.chain → Shows c.chain (made_by kind.ArrowFunctionExpression q.node c.node)
     arrow_case w t = go c.chain refl t
@@ -665,14 +422,14 @@ module _ (p : Tree) (h : first_fault p ≡ None) (e : is_ecmascript p ≡ true) 
         go _ v (outer_chain i) = absurd (never (subst (λ a. is_inside a c.role ≡ false) w i))
         go _ v (inner_chain s i o j) =
             function_shows s o j v environment.ArrowParameters (refl, refl, refl) [] (subst (λ a. is_function_kind a ≡ true) (sym w) refl) refl
-            (arrow_rest s (s_opened s o j v) (s_entry s o j v) q.node o seen.familiar.node w N E) (λ u none m. arrow_header s o j v w u none m)
+            (arrow_rest p h e numbered x none not_arguments clear plain s (s_opened s o j v) (s_entry s o j v) q.node o seen.familiar.node w N E) (λ u none m. arrow_header s o j v w u none m)
 
     -- the body of an `if` opens no scope, and no plain name is of its environment
     if_case : q.node.kind ≡ kind.IfStatement → ChainOf q.node.kind c.role q.node q.chain c.chain → Shows c.chain (made_by kind.IfStatement q.node c.node)
     if_case w t = by (is kind.Function c.node && is_statement c.node) refl
       where
         outer : (chain : List OpenScope) → ChainOf q.node.kind c.role q.node q.chain chain → Shows chain (record { kind = environment.IfBody; maker = c.node.node_id } ∷ [])
-        outer _ (outer_chain i) = λ j. subst (Matches N) (sym (meaning_further bs x not_arguments (record { kind = environment.IfBody; maker = c.node.node_id }) E refl (unusual c.node.node_id))) (agree j.1)
+        outer _ (outer_chain i) = λ j. subst (Matches N) (sym (meaning_further bs x not_arguments (record { kind = environment.IfBody; maker = c.node.node_id }) E refl (unusual p h e numbered x none not_arguments clear plain c.node.node_id))) (agree j.1)
         outer _ (inner_chain s i o j) = absurd (never (sym (subst (λ a. is_inside a c.role ≡ true) w i)))
 
         by : (b : Bool) → (is kind.Function c.node && is_statement c.node) ≡ b → Shows c.chain (cond b (record { kind = environment.IfBody; maker = c.node.node_id } ∷ []) [])
@@ -737,10 +494,10 @@ module _ (p : Tree) (h : first_fault p ≡ None) (e : is_ecmascript p ≡ true) 
 
       symbol_inside : NoOwn → Matches N (meaning bs E x) → (j : ℕ) → Among j (identifiers_in bs Inside x) → (y : ℕ) × (N ≡ Some y) × (symbol_at (analysis_of p) j ≡ Some y)
       symbol_inside no_own m j a =
-          let here_is : IsHere Inside j = is_here Inside j a in
+          let here_is : IsHere Inside j = is_here p h e numbered x none not_arguments clear plain Inside j a in
           elim here_is.there [
             | inl v ↦ elim here_is.known [ inl k ↦ absurd (not_declared here_is.bind k v) | inr o ↦ absurd (no_own here_is.bind o v) ]
-            | inr also ↦ around here_is (class_here Inside here_is.bind here_is.known also)
+            | inr also ↦ around here_is (class_here p h e numbered x none not_arguments clear plain Inside here_is.bind here_is.known also)
           ]
         where
           around : (k : IsHere Inside j) → IsClassHere Inside k.bind → (y : ℕ) × (N ≡ Some y) × (symbol_at (analysis_of p) j ≡ Some y)
@@ -775,13 +532,13 @@ module _ (p : Tree) (h : first_fault p ≡ None) (e : is_ecmascript p ≡ true) 
         entry = (subst (AllInTable (table_of p)) chain seen_child.in_table).0.entry
 
         abbrev There : Type 0
-        There = IsBoundThere s opened entry q.node o seen.familiar.node
+        There = scopes.IsBoundThere p h e numbered x none not_arguments clear plain s opened entry q.node o seen.familiar.node
 
         there_inside : (v : There) → v.bind.environment ≡ Inside
-        there_inside v = environment_is s opened entry q.node o seen.familiar.node v environment.Class (environment_kind_is v.bind.environment.kind environment.Class (subst (λ a. may_make a v.bind.environment.kind ≡ true) w v.makes))
+        there_inside v = environment_is p h e numbered x none not_arguments clear plain s opened entry q.node o seen.familiar.node v environment.Class (environment_kind_is v.bind.environment.kind environment.Class (subst (λ a. may_make a v.bind.environment.kind ≡ true) w v.makes))
 
         unbound_there : (There → ⊥) → Answer ≡ None
-        unbound_there n = unanswered s opened entry q.node o seen.familiar.node n
+        unbound_there n = unanswered p h e numbered x none not_arguments clear plain s opened entry q.node o seen.familiar.node n
 
         of_class : (b : Bound) (k : OwnBound p h x b) → b.environment ≡ Inside → is kind.Function k.place.node ≡ false
         of_class b k v = go k.named_by.sort
@@ -796,11 +553,11 @@ module _ (p : Tree) (h : first_fault p ≡ None) (e : is_ecmascript p ≡ true) 
 
         all_own_inside : (b : Bound) → OwnBound p h x b → b.environment ≡ Inside → (y : ℕ) → Answer ≡ Some y → (is : List ℕ) → ((j : ℕ) → Among j is → Among j (identifiers_in bs Inside x)) → AllAre is y
         all_own_inside b own v y g [] f = tt
-        all_own_inside b own v y g (i ∷ is) f = (one (is_here Inside i (f i (inl refl))), all_own_inside b own v y g is (λ j a. f j (inr a)))
+        all_own_inside b own v y g (i ∷ is) f = (one (is_here p h e numbered x none not_arguments clear plain Inside i (f i (inl refl))), all_own_inside b own v y g is (λ j a. f j (inr a)))
           where
             one : IsHere Inside i → symbol_at (analysis_of p) i ≡ Some y
             one k = elim k.there [
-              | inr also ↦ absurd (not_both k.bind b (class_here Inside k.bind k.known also) own v)
+              | inr also ↦ absurd (not_both k.bind b (class_here p h e numbered x none not_arguments clear plain Inside k.bind k.known also) own v)
               | inl z ↦ elim k.known [
                 | inl known ↦ absurd (not_declared k.bind known z)
                 | inr other ↦ (let u : HasSymbol p h e numbered x none clear plain s i = own_symbol_of i k other z in u.is ∙ ap Some (some_is u.symbol y (sym u.bound ∙ g)))
@@ -811,11 +568,11 @@ module _ (p : Tree) (h : first_fault p ≡ None) (e : is_ecmascript p ≡ true) 
         class_shows m = go (identifiers_in bs Inside x) refl
           where
             around : Answer ≡ None → (n : Meaning) → Matches N n → Matches (or_else Answer N) n
-            around g n k = further s opened entry q.node o seen.familiar.node N n g k
+            around g n k = further p h e numbered x none not_arguments clear plain s opened entry q.node o seen.familiar.node N n g k
 
             by : (i : ℕ) (is : List ℕ) → identifiers_in bs Inside x ≡ i ∷ is → IsHere Inside i → Matches (or_else Answer N) (meaning bs (Inside ∷ E) x)
             by i is v k = elim k.there [
-              | inr also ↦ (let declared : IsClassHere Inside k.bind = class_here Inside k.bind k.known also in
+              | inr also ↦ (let declared : IsClassHere Inside k.bind = class_here p h e numbered x none not_arguments clear plain Inside k.bind k.known also in
                   around (unbound_there (λ z. elim z.known [ inl known ↦ not_declared z.bind known (there_inside z) | inr own ↦ not_both k.bind z.bind declared own (there_inside z) ]))
                   (meaning bs (Inside ∷ E) x) (inside_shows (λ b own z. not_both k.bind b declared own z) m i is v))
               | inl z ↦ elim k.known [
@@ -828,8 +585,8 @@ module _ (p : Tree) (h : first_fault p ≡ None) (e : is_ecmascript p ≡ true) 
 
             go : (is : List ℕ) → identifiers_in bs Inside x ≡ is → Matches (or_else Answer N) (meaning bs (Inside ∷ E) x)
             go [] v = subst (Matches (or_else Answer N)) (sym (meaning_further bs x not_arguments Inside E refl v))
-                (around (unbound_there (λ z. none_there s opened entry q.node o seen.familiar.node Inside v z (there_inside z))) (meaning bs E x) m)
-            go (i ∷ is) v = by i is v (is_here Inside i (subst (Among i) (sym v) (inl refl)))
+                (around (unbound_there (λ z. none_there p h e numbered x none not_arguments clear plain s opened entry q.node o seen.familiar.node Inside v z (there_inside z))) (meaning bs E x) m)
+            go (i ∷ is) v = by i is v (is_here p h e numbered x none not_arguments clear plain Inside i (subst (Among i) (sym v) (inl refl)))
 
       class_round : (chain : List OpenScope) → c.chain ≡ chain → ChainOf q.node.kind c.role q.node q.chain chain → Shows chain (Inside ∷ [])
       class_round _ v (outer_chain i) = absurd (never (sym (ap not seen_child.familiar.undecorated) ∙ subst (λ a. is_inside a c.role ≡ false) w i))
