@@ -11,5 +11,7 @@ pub mod UndeclaredNames
 pub mod shared
 pub mod nearest
 pub mod symbols
+pub mod own_names
 pub mod clear
 pub mod agree
+pub mod headers

@@ -5,9 +5,11 @@ pub mod FamiliarPlaces
 pub mod PlainBounds
 pub mod ClassBounds
 pub mod EnteredOnce
+pub mod FunctionKinds
 pub mod Identifiers
 pub mod KnownBounds
 pub mod Answers
+pub mod ScopeAnswers
 pub mod Agreeing
 pub mod AgreeingUses
 pub mod Differing

@@ -4,14 +4,15 @@ use Rattle.semantic_kinds.specs.declared.kind.AstType.TheVariants as kind
 use Rattle.semantic_syntax.specs.Tables.{Name}
 use Rattle.semantic_tree.specs.Tree.{Tree}
 use Rattle.semantic_tree.specs.Views.{is}
+use Rattle.semantic_tree.specs.declared.node.Node.{Node}
 use Rattle.semantic_model.specs.Analysis.{analysis_of}
 use Rattle.semantic_model.specs.Entries.{Among}
-use Rattle.semantic_model.specs.Place.{Place, OpenScope}
+use Rattle.semantic_model.specs.Place.{Place}
 use Rattle.semantic_model.specs.Step.{entering, steps}
 use Rattle.tangle_model.specs.Surroundings.{in_with_under}
 use Rattle.language_ties.specs.Agreement.{use_agrees}
 use Rattle.language_ties.specs.Bound.{Bound, bound_by, is_bound_as, written}
-use Rattle.language_ties.specs.Environments.{Environment, is_made_for, takes_variables}
+use Rattle.language_ties.specs.Environments.{Environment, is_made_for, has_parameter_expressions, takes_variables}
 use Rattle.language_ties.specs.Meaning.{use_at}
 use Rattle.language_ties.specs.Moved.{bound_of}
 use Rattle.language_ties.specs.declared.bound_as.BoundAs.TheVariants as bound
@@ -21,14 +22,18 @@ abbrev pub has_none : List Environment → Bool
 has_none [] = true
 has_none (e ∷ es) = false
 
--- bound by one environment alone, or as the declaration of a class, which is bound inside it, too; by no function in a block, by no catch clause, and not as an own name
-abbrev pub is_plain : Bound → Bool
-is_plain b =
+-- bound by one environment alone, or as the declaration of a class, which is bound inside it, too; by no function in a block and by no catch clause
+abbrev pub is_declared_plainly : Bound → Bool
+is_declared_plainly b =
     (has_none b.also || is_bound_as bound.Lexical b)
     && (not (is_made_for environment.Catch b.environment || (is_made_for environment.Class b.environment || is_bound_as bound.CatchName b))
-    && (not (is_bound_as bound.OwnName b) && (not (is_bound_as bound.Function b) || takes_variables b.environment)))
+    && (not (is_bound_as bound.Function b) || takes_variables b.environment))
 
--- the name is bound only so: by `var`, `let`, `const`, imports, classes, functions outside of blocks, and as a parameter
+-- so, or as the own name of a function or class expression
+abbrev pub is_plain : Bound → Bool
+is_plain b = is_bound_as bound.OwnName b || is_declared_plainly b
+
+-- the name is bound only so: by `var`, `let`, `const`, imports, classes, functions outside of blocks, as a parameter, and as the own name of an expression
 abbrev pub IsPlainName : Tree → Name → Type 0
 IsPlainName p name = (b : Bound) → Among b (written p.source_type (steps p)) → b.name ≡ name → is_plain b ≡ true
 
@@ -37,15 +42,18 @@ abbrev pub IsBoundOutsideWith : Tree → Name → Type 0
 IsBoundOutsideWith p name =
     (q : Place) → Among (entering q) (steps p) → (b : Bound) → Among b (bound_by q.node.kind p.source_type q.node q.path) → b.name ≡ name → in_with_under q.path ≡ false
 
--- of the scopes whose headers hold the place, none binds the name by what binds it
-abbrev pub NoHeaderBinds : List Bound → Name → List OpenScope → Type 0
-NoHeaderBinds bs name [] = Unit {0}
-NoHeaderBinds bs name (s ∷ ss) =
-    (s.in_header ≡ true → (b : Bound) → Among b bs → b.name ≡ name → b.environment.maker ≡ s.opener → ⊥) × NoHeaderBinds bs name ss
+-- of the functions among whose parameters the place stands, each that binds the name has an expression there
+abbrev pub StandsInExpressions : List Bound → Name → Node → List Node → Type 0
+StandsInExpressions bs name child [] = Unit {0}
+StandsInExpressions bs name child (f ∷ path) =
+    (is kind.FormalParameters child ≡ true → (b : Bound) → Among b bs → b.name ≡ name → b.environment.maker ≡ f.node_id
+    → has_parameter_expressions f ≡ true)
+    × StandsInExpressions bs name f path
 
--- a reference of the name stands in no `with`, and in no header of a function that binds the name
+-- a reference of the name stands in no `with`, and where it stands among parameters, in an expression
 abbrev pub StandsApart : Tree → Name → Place → Type 0
-StandsApart p name q = (in_with_under q.path ≡ false) × NoHeaderBinds (written p.source_type (steps p)) name q.chain
+StandsApart p name q =
+    (in_with_under q.path ≡ false) × StandsInExpressions (written p.source_type (steps p)) name q.node q.path
 
 -- each does
 abbrev pub AllStandApart : Tree → Name → Type 0
@@ -56,3 +64,14 @@ AllStandApart p name =
 abbrev pub AgreesApart : Tree → Name → Type 0
 AgreesApart p name =
     (q : Place) → Among (entering q) (steps p) → is kind.IdentifierReference q.node ≡ true → q.node.text ≡ name → StandsApart p name q → use_agrees (analysis_of p) (bound_of p) (use_at q) ≡ true
+
+-- no `with` holds a reference of the name
+abbrev pub IsReadOutsideWith : Tree → Name → Type 0
+IsReadOutsideWith p name =
+    (q : Place) → Among (entering q) (steps p) → is kind.IdentifierReference q.node ≡ true → q.node.text ≡ name → in_with_under q.path ≡ false
+
+-- tables and language agree on each that no `with` holds
+abbrev pub AgreesOutsideWith : Tree → Name → Type 0
+AgreesOutsideWith p name =
+    (q : Place) → Among (entering q) (steps p) → is kind.IdentifierReference q.node ≡ true → q.node.text ≡ name → in_with_under q.path ≡ false
+    → use_agrees (analysis_of p) (bound_of p) (use_at q) ≡ true

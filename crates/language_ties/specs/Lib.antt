@@ -13,3 +13,4 @@ pub mod NearestScopes
 pub mod OneSymbol
 pub mod ClearNames
 pub mod AgreeingNames
+pub mod MarkedKeys

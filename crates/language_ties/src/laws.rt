@@ -5,7 +5,7 @@ ghost use Rattle.semantic_tree.specs.Faults.{first_fault};
 ghost use Rattle.semantic_tree.specs.Tree.{Tree, IsNumbered};
 ghost use Rattle.semantic_model.specs.Event.{declarations, events};
 ghost use Rattle.semantic_model.specs.Step.{steps};
-ghost use Rattle.language_ties.specs.AgreeingNames.{AgreesApart, AllStandApart, IsBoundOutsideWith, IsPlainName};
+ghost use Rattle.language_ties.specs.AgreeingNames.{AgreesApart, AgreesOutsideWith, AllStandApart, IsBoundOutsideWith, IsPlainName, IsReadOutsideWith};
 ghost use Rattle.language_ties.specs.Agreement.{differing};
 ghost use Rattle.language_ties.specs.ClearNames.{IsBoundOnce, StaysInside};
 ghost use Rattle.language_ties.specs.EarlyErrors.{has_clash};
@@ -13,6 +13,7 @@ ghost use Rattle.language_ties.specs.ToldNames.{DeclarationsAreBound, NamesAreBo
 ghost use Rattle.language_ties.specs.EcmaScript.{is_ecmascript};
 ghost use Rattle.language_ties.specs.Environments.{Environment};
 ghost use Rattle.language_ties.specs.Meaning.{identifiers_in};
+ghost use Rattle.language_ties.specs.MarkedKeys.{keys_are_marked};
 ghost use Rattle.language_ties.specs.Moved.{bound_of};
 ghost use Rattle.language_ties.specs.NearestScopes.{AreTiedNearest};
 ghost use Rattle.language_ties.specs.OneSymbol.{EnvironmentsHaveOneSymbol};
@@ -86,9 +87,11 @@ pub fn names_keep_clear()
 {}
 
 /// Tables and language agree on a name of which no `var` clashes, and which the program binds by `var`, `let`, `const`, imports,
-/// classes, functions outside of blocks and parameters alone, all outside of `with`: each reference is tied to the one symbol of all
-/// by which the innermost environment binds the name that binds it at all, and free where none does. Left out are references in a
-/// `with` and in the header of a function that binds the name itself.
+/// classes, functions outside of blocks, parameters and own names of expressions alone, all outside of `with`: each reference is
+/// tied to the one symbol of all by which the innermost environment binds the name that binds it at all, and free where none does,
+/// in headers of functions, too. Left out are references in a `with`, and those among parameters without an expression of a
+/// function that binds the name, which no source has: where computed keys are marked, none stands so
+/// (`references_stand_in_expressions`).
 pub fn plain_names_agree()
     ensures each { (p : Tree) (name : Name) → first_fault p ≡ None → is_ecmascript p ≡ true
         → IsNumbered p.root → IsBoundOutsideWith p name → bytes_eq name (codes "arguments") ≡ false
@@ -97,4 +100,15 @@ pub fn plain_names_agree()
         → IsNumbered p.root → IsBoundOutsideWith p name → bytes_eq name (codes "arguments") ≡ false
         → IsPlainName p name → has_clash p name ≡ false → AllStandApart p name
         → differing p name ≡ [] }
+    ensures marked { (p : Tree) (name : Name) → first_fault p ≡ None → is_ecmascript p ≡ true
+        → IsNumbered p.root → IsBoundOutsideWith p name → bytes_eq name (codes "arguments") ≡ false
+        → IsPlainName p name → has_clash p name ≡ false → keys_are_marked p.root.children ≡ true
+        → AgreesOutsideWith p name }
+{}
+
+/// Where computed keys of patterns are marked, a reference that stands among the parameters of a function stands in an
+/// expression: the parameters have an initializer, a default or a computed key. So a reference outside of `with` stands apart.
+pub fn references_stand_in_expressions()
+    ensures { (p : Tree) (name : Name) → first_fault p ≡ None → is_ecmascript p ≡ true
+        → keys_are_marked p.root.children ≡ true → IsReadOutsideWith p name → AllStandApart p name }
 {}

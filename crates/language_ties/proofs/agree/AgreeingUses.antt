@@ -34,8 +34,9 @@ use Rattle.language_ties.specs.Meaning.{Meaning, unbound, of_object, bound, mean
 use Rattle.language_ties.specs.Moved.{bound_of}
 use Rattle.language_ties.specs.NearestScopes.{nearest_symbol}
 use Rattle.language_ties.specs.SharedSymbols.{AllKeepClear}
-use Rattle.language_ties.proofs.agree.Agreeing.{AllAre, Matches, AgreesAt, agree_program}
+use Rattle.language_ties.proofs.agree.Agreeing.{AgreesAt, agree_program}
 use Rattle.language_ties.proofs.agree.EnteredOnce.{entered_once}
+use Rattle.language_ties.proofs.agree.ScopeAnswers.{AllAre, Matches}
 use Rattle.language_ties.proofs.nearest.NearestTies.{ReadAt, read_at, tied_nearest}
 use Rattle.language_ties.proofs.symbols.OneSymbol.{of_map, each_at}
 

@@ -1,5 +1,5 @@
 -- Of a plain name whose declarations keep clear, a scope binds exactly what the environments of its opener bind.
-use Rattle.std.proofs.Common.{◌≡◌, ℕ, ◌<◌, List, Option, Some, None, true, inl, inr, length, refl, sym, ap, subst, ◌∙◌, arith}
+use Rattle.std.proofs.Common.{◌≡◌, ℕ, ◌<◌, List, Option, Some, None, true, length, refl, sym, ap, subst, ◌∙◌, arith}
 use Rattle.std.specs.Prelude.{slice_get}
 use Rattle.std.proofs.lemmas.Option.{slice_get_within}
 use Rattle.semantic_syntax.specs.Reading as reading
@@ -11,7 +11,6 @@ use Rattle.semantic_model.specs.Binding.{get}
 use Rattle.semantic_model.specs.Declaration.{Declaration, home, body_or}
 use Rattle.semantic_model.specs.Entries.{Among}
 use Rattle.semantic_model.specs.Event.{declarations, events}
-use Rattle.semantic_model.specs.Tie.{until_end_of}
 use Rattle.semantic_model.specs.Fold.{State, start}
 use Rattle.semantic_model.specs.Hoist.{run}
 use Rattle.semantic_model.specs.Place.{OpenScope}
@@ -22,11 +21,12 @@ use Rattle.semantic_model.proofs.fold.Orders.{table_of}
 use Rattle.language_ties.specs.AgreeingNames.{IsPlainName, IsBoundOutsideWith}
 use Rattle.language_ties.specs.Bound.{Bound, written}
 use Rattle.language_ties.specs.EcmaScript.{is_ecmascript}
-use Rattle.language_ties.specs.SharedSymbols.{AllKeepClear, ShareSymbols, HasHomesSymbol, IsDeclaredAt, IsBoundIn}
+use Rattle.language_ties.specs.SharedSymbols.{AllKeepClear, ShareSymbols, HasHomesSymbol, IsDeclaredAt}
 use Rattle.language_ties.proofs.UndeclaredNames.{each_identifier}
-use Rattle.language_ties.proofs.agree.KnownBounds.{some_is, KnownBound, known_bound, bodiless}
+use Rattle.language_ties.proofs.agree.KnownBounds.{some_is, KnownBound, bodiless}
 use Rattle.language_ties.proofs.clear.SingleNames.{identifier_of, same_declaration, declared_once}
-use Rattle.language_ties.proofs.shared.HomesShared.{share_symbols, WasDeclared, was_declared}
+use Rattle.language_ties.proofs.own_names.AnyBounds.{any_bound, IsDeclared, is_declared}
+use Rattle.language_ties.proofs.shared.HomesShared.{share_symbols}
 use Rattle.language_ties.proofs.symbols.ScopeOpeners.{openers, IsOpened, one_scope}
 use Rattle.language_ties.proofs.symbols.SymbolNumbers.{symbol_is}
 
@@ -80,37 +80,12 @@ module _ (p : Tree) (h : first_fault p ≡ None) (e : is_ecmascript p ≡ true) 
       let there : reading.bound_in (tables_of p) s.number x ≡ Some y = bound_as p s.number x (within s.number s.body entry) ∙ g in
       let w : IsDeclaredAt p x s.number y = shared.bound s.number y there in
       let (b, a, n, i) = each_identifier p.source_type x (λ j. (b : Bound) × Among b ws × (b.name ≡ x) × (b.identifier ≡ j)) p h e (λ b a n. (b, a, n, refl)) w.declaration w.among w.named in
-      let k : KnownBound p h e numbered x none plain b = known_bound p h e numbered x none plain b a n in
-      let d : Declaration = k.declares.declaration in
-      let one : identifier_of w.declaration ≡ identifier_of d = sym i ∙ sym k.declares.identifier in
-      let same : w.declaration ≡ d = same_declaration w.declaration d (declarations (events (steps p))) w.among k.declares.among one (declared_once p (identifier_of w.declaration) h numbered) in
-      let home_is : home d ≡ d.route.target.number = ap (body_or d.route.target.number) (bodiless p h e numbered x none plain b k) in
+      let k : IsDeclared p h e numbered x none plain b = is_declared p h e numbered x none plain b (any_bound p h e numbered x none plain b a n) in
+      let d : Declaration = k.declaration in
+      let one : identifier_of w.declaration ≡ identifier_of d = sym i ∙ sym k.identifier in
+      let same : w.declaration ≡ d = same_declaration w.declaration d (declarations (events (steps p))) w.among k.among one (declared_once p (identifier_of w.declaration) h numbered) in
+      let home_is : home d ≡ d.route.target.number = ap (body_or d.route.target.number) k.bodiless in
       let homes : home d ≡ s.number = ap home (sym same) ∙ w.stands in
       let number : d.route.target.number ≡ s.number = sym home_is ∙ homes in
-      let opener : Some d.route.target.opener ≡ Some s.opener = sym k.declares.opened ∙ ap (slice_get (openers (steps p))) number ∙ o in
-      record { bind = b; among = a; named = n; maker = sym k.declares.maker ∙ some_is d.route.target.opener s.opener opener }
-
-  -- what binds nothing in the end bound nothing where a header ended
-  pub nothing_before : (c : ℕ) (s : OpenScope) → IsOpened (openers (steps p)) s → ((b : Bound) → Among b ws → b.name ≡ x → b.environment.maker ≡ s.opener → ⊥) → get (run start (until_end_of c (events (steps p)))).bindings s.number x ≡ None
-  nothing_before c s o apart = go (get (run start (until_end_of c (events (steps p)))).bindings s.number x) refl
-    where
-      in_scope : (y : ℕ) → get (run start (until_end_of c (events (steps p)))).bindings s.number x ≡ Some y → ⊥
-      in_scope y g =
-          let w : WasDeclared p h e x clear s.number = was_declared p h e x clear c s.number y g in
-          let (b, a, n, i) = each_identifier p.source_type x (λ j. (b : Bound) × Among b ws × (b.name ≡ x) × (b.identifier ≡ j)) p h e (λ b a n. (b, a, n, refl)) w.declaration w.among w.named in
-          let k : KnownBound p h e numbered x none plain b = known_bound p h e numbered x none plain b a n in
-          let d : Declaration = k.declares.declaration in
-          let one : identifier_of w.declaration ≡ identifier_of d = sym i ∙ sym k.declares.identifier in
-          let same : w.declaration ≡ d = same_declaration w.declaration d (declarations (events (steps p))) w.among k.declares.among one (declared_once p (identifier_of w.declaration) h numbered) in
-          at_target b a n k (subst (λ z. IsBoundIn z s.number) same w.bound)
-        where
-          no_number : None ≡ Some s.number → ⊥
-          no_number q = absurd cc
-
-          at_target : (b : Bound) → Among b ws → b.name ≡ x → (k : KnownBound p h e numbered x none plain b) → IsBoundIn k.declares.declaration s.number → ⊥
-          at_target b a n k (inl number) = apart b a n (sym k.declares.maker ∙ some_is k.declares.declaration.route.target.opener s.opener (sym k.declares.opened ∙ ap (slice_get (openers (steps p))) number ∙ o))
-          at_target b a n k (inr body) = no_number (sym (bodiless p h e numbered x none plain b k) ∙ body)
-
-      go : (t : Option ℕ) → get (run start (until_end_of c (events (steps p)))).bindings s.number x ≡ t → get (run start (until_end_of c (events (steps p)))).bindings s.number x ≡ None
-      go None q = q
-      go (Some y) q = absurd (in_scope y q)
+      let opener : Some d.route.target.opener ≡ Some s.opener = sym k.opened ∙ ap (slice_get (openers (steps p))) number ∙ o in
+      record { bind = b; among = a; named = n; maker = sym k.maker ∙ some_is d.route.target.opener s.opener opener }

@@ -11,7 +11,7 @@ use Rattle.semantic_model.specs.Entries.{Among}
 use Rattle.semantic_model.specs.Names.{bound_names, names_at}
 use Rattle.semantic_model.specs.Place.{Place}
 use Rattle.program_laws.proofs.DeclaredNodes.{among_map, among_flat}
-use Rattle.language_ties.specs.AgreeingNames.{is_plain}
+use Rattle.language_ties.specs.AgreeingNames.{is_declared_plainly}
 use Rattle.language_ties.specs.Bound as language
 use Rattle.language_ties.specs.Bound.{Bound, bound_in, bound_here, bound_outward, bound_by_declarator, bound_by_declaration, bound_by_function, bound_by_class, bound_by_catch, bound_by, is_bound_as}
 use Rattle.language_ties.specs.Environments.{Environment, environments, innermost, passed, variable_environment}
@@ -24,8 +24,9 @@ use Rattle.language_ties.proofs.agree.PlainBounds.{by_one}
 pub record IsClassBound (r : Place) (b : Bound) (d : Environment) : Type 0 where
   pub inside : d ≡ record { kind = environment.Class; maker = r.node.node_id }
   pub around : b.environment ≡ innermost (environments r.node r.path)
+  pub statement : is_statement r.node ≡ true
 
-module _ (s : SourceType) (r : Place) (b : Bound) (plain : is_plain b ≡ true) (d : Environment) (also : Among d b.also) where
+module _ (s : SourceType) (r : Place) (b : Bound) (plain : is_declared_plainly b ≡ true) (d : Environment) (also : Among d b.also) where
   none_also : b.also ≡ [] → IsClassBound r b d
   none_also e = absurd (subst (Among d) e also)
 
@@ -61,17 +62,17 @@ module _ (s : SourceType) (r : Place) (b : Bound) (plain : is_plain b ≡ true) 
           none_also (sym (ap (λ z. z.also) q))
 
   class : Among b (bound_by_class r.node r.path) → IsClassBound r b d
-  class a = go (is_statement r.node) a
+  class a = go (is_statement r.node) refl a
     where
-      by : b.environment ≡ innermost (environments r.node r.path) → Among d (record { kind = environment.Class; maker = r.node.node_id } ∷ []) → IsClassBound r b d
-      by e (inl w) = record { inside = sym w; around = e }
-      by e (inr w) = absurd w
+      by : is_statement r.node ≡ true → b.environment ≡ innermost (environments r.node r.path) → Among d (record { kind = environment.Class; maker = r.node.node_id } ∷ []) → IsClassBound r b d
+      by t e (inl w) = record { inside = sym w; around = e; statement = t }
+      by t e (inr w) = absurd w
 
-      go : (t : Bool) → Among b (map (cond t (bound_in bound.Lexical (innermost (environments r.node r.path)) (record { kind = environment.Class; maker = r.node.node_id } ∷ []) []) (bound_in bound.OwnName (record { kind = environment.Class; maker = r.node.node_id }) [] [])) (names_at role.Id r.node)) → IsClassBound r b d
-      go true c =
+      go : (t : Bool) → is_statement r.node ≡ t → Among b (map (cond t (bound_in bound.Lexical (innermost (environments r.node r.path)) (record { kind = environment.Class; maker = r.node.node_id } ∷ []) []) (bound_in bound.OwnName (record { kind = environment.Class; maker = r.node.node_id }) [] [])) (names_at role.Id r.node)) → IsClassBound r b d
+      go true t c =
           let (n, i, q) = among_map (bound_in bound.Lexical (innermost (environments r.node r.path)) (record { kind = environment.Class; maker = r.node.node_id } ∷ []) []) (names_at role.Id r.node) b c in
-          by (sym (ap (λ z. z.environment) q)) (subst (Among d) (sym (ap (λ z. z.also) q)) also)
-      go false c =
+          by t (sym (ap (λ z. z.environment) q)) (subst (Among d) (sym (ap (λ z. z.also) q)) also)
+      go false t c =
           let (n, i, q) = among_map (bound_in bound.OwnName (record { kind = environment.Class; maker = r.node.node_id }) [] []) (names_at role.Id r.node) b c in
           none_also (sym (ap (λ z. z.also) q))
 

@@ -1,5 +1,5 @@
 -- What is known of all that binds a plain name: where it is declared, and that no clause holds it.
-use Rattle.std.proofs.Common.{◌≡◌, ℕ, List, Option, Some, None, true, false, refl, sym, ap, subst, ◌∙◌}
+use Rattle.std.proofs.Common.{◌≡◌, ℕ, List, Option, Some, None, true, false, ◌||◌, refl, sym, ap, subst, ◌∙◌}
 use Rattle.semantic_kinds.specs.declared.kind.AstType.TheVariants as kind
 use Rattle.semantic_syntax.specs.Tables.{Name}
 use Rattle.semantic_tree.specs.Faults.{first_fault}
@@ -8,9 +8,10 @@ use Rattle.semantic_tree.specs.declared.node.Node.{Node}
 use Rattle.semantic_model.specs.Entries.{Among}
 use Rattle.semantic_model.specs.Place as place
 use Rattle.semantic_model.specs.Step.{entering, steps}
-use Rattle.language_ties.specs.AgreeingNames.{is_plain, IsPlainName, IsBoundOutsideWith}
-use Rattle.language_ties.specs.Bound.{Bound, written}
+use Rattle.language_ties.specs.AgreeingNames.{is_declared_plainly, IsPlainName, IsBoundOutsideWith}
+use Rattle.language_ties.specs.Bound.{Bound, is_bound_as, written}
 use Rattle.language_ties.specs.EcmaScript.{is_ecmascript}
+use Rattle.language_ties.specs.declared.bound_as.BoundAs.TheVariants as bound
 use Rattle.language_ties.proofs.agree.FamiliarPlaces.{IsFamiliar, FamiliarAt, IsClauseScope, familiar_program, innermost_clause}
 use Rattle.language_ties.proofs.agree.KnownNodes.{node_at}
 use Rattle.language_ties.proofs.agree.MadeEnvironments.{may_make}
@@ -30,17 +31,18 @@ module _ (p : Tree) (h : first_fault p ≡ None) (e : is_ecmascript p ≡ true) 
   abbrev ws : List Bound
   ws = written p.source_type (steps p)
 
-  -- what is known of what binds the name
+  -- what is known of what binds the name, but for own names of expressions
   pub record KnownBound (b : Bound) : Type 0 where
-    pub plainly : is_plain b ≡ true
+    pub plainly : is_declared_plainly b ≡ true
+    pub no_own : is_bound_as bound.OwnName b ≡ false
     pub placed : IsPlacedBound p b
     pub declares : DeclarationOf p h e numbered x b
 
-  pub known_bound : (b : Bound) → Among b ws → b.name ≡ x → KnownBound b
-  known_bound b a n =
-      let one : is_plain b ≡ true = plain b a n in
-      let placed : IsPlacedBound p b = placed_bound p h e numbered x none b a n one in
-      record { plainly = one; placed = placed; declares = declaration_of p h e numbered x b placed.by_node n }
+  pub known_bound : (b : Bound) → Among b ws → b.name ≡ x → is_bound_as bound.OwnName b ≡ false → KnownBound b
+  known_bound b a n o =
+      let one : is_declared_plainly b ≡ true = subst (λ t. (t || is_declared_plainly b) ≡ true) o (plain b a n) in
+      let placed : IsPlacedBound p b = placed_bound p h e numbered x none b a n one o in
+      record { plainly = one; no_own = o; placed = placed; declares = declaration_of p h e numbered x b placed.by_node n }
 
   -- its scope is no clause's
   no_clause : (b : Bound) → KnownBound b → (y : Node) → node_at p b.environment.maker ≡ Some y → y.kind ≡ kind.CatchClause → ⊥

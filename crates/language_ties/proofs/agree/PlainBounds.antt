@@ -1,6 +1,5 @@
 -- Where a plain name is bound: in an environment of its place, and by which node that is made.
 use Rattle.std.proofs.Common.{◌≡◌, List, [], ◌∷◌, Option, Some, None, Bool, true, false, ◌&&◌, ◌||◌, not, cond, map, flat_map, inl, inr, refl, sym, ap, subst, ◌∙◌, codes}
-use Rattle.std.proofs.lemmas.Bool.{not-true}
 use Rattle.semantic_syntax.proofs.Truth.{and_first, and_second}
 use Rattle.semantic_kinds.specs.Kinds.{same_kind}
 use Rattle.semantic_kinds.specs.declared.kind.AstType.{AstType}
@@ -20,7 +19,7 @@ use Rattle.semantic_model.specs.Step.{Step, entering, opening, header_ending, cl
 use Rattle.semantic_model.proofs.lists.Members.{among_cases}
 use Rattle.program_laws.proofs.DeclaredNodes.{among_map, among_flat}
 use Rattle.tangle_model.specs.Surroundings.{in_with_under}
-use Rattle.language_ties.specs.AgreeingNames.{has_none, is_plain, IsBoundOutsideWith}
+use Rattle.language_ties.specs.AgreeingNames.{has_none, is_declared_plainly, IsBoundOutsideWith}
 use Rattle.language_ties.specs.Bound as language
 use Rattle.language_ties.specs.Bound.{Bound, bound_in, bound_here, bound_outward, bound_by_declarator, bound_by_declaration, bound_by_function, bound_by_class, bound_by_catch, bound_by, is_bound_as, written}
 use Rattle.language_ties.specs.EcmaScript.{is_ecmascript}
@@ -62,11 +61,11 @@ nor false true c h = absurd cc
 nor false false true h = absurd cc
 nor false false false h = (refl, refl, refl)
 
-module _ (b : Bound) (h : is_plain b ≡ true) where
-  rest : (not (is_made_for environment.Catch b.environment || (is_made_for environment.Class b.environment || is_bound_as bound.CatchName b)) && (not (is_bound_as bound.OwnName b) && (not (is_bound_as bound.Function b) || takes_variables b.environment))) ≡ true
+module _ (b : Bound) (h : is_declared_plainly b ≡ true) where
+  rest : (not (is_made_for environment.Catch b.environment || (is_made_for environment.Class b.environment || is_bound_as bound.CatchName b)) && (not (is_bound_as bound.Function b) || takes_variables b.environment)) ≡ true
   rest = and_second (has_none b.also || is_bound_as bound.Lexical b) _ h
 
-  more : (not (is_bound_as bound.OwnName b) && (not (is_bound_as bound.Function b) || takes_variables b.environment)) ≡ true
+  more : (not (is_bound_as bound.Function b) || takes_variables b.environment) ≡ true
   more = and_second (not (is_made_for environment.Catch b.environment || (is_made_for environment.Class b.environment || is_bound_as bound.CatchName b))) _ rest
 
   pub by_one : is_bound_as bound.Lexical b ≡ false → b.also ≡ []
@@ -88,11 +87,8 @@ module _ (b : Bound) (h : is_plain b ≡ true) where
   pub no_catch_name : is_bound_as bound.CatchName b ≡ false
   no_catch_name = no_catches.2
 
-  pub no_own : is_bound_as bound.OwnName b ≡ false
-  no_own = not-true (is_bound_as bound.OwnName b) (and_first (not (is_bound_as bound.OwnName b)) _ more)
-
   pub taking : is_bound_as bound.Function b ≡ true → takes_variables b.environment ≡ true
-  taking e = go (is_bound_as bound.Function b) e (and_second (not (is_bound_as bound.OwnName b)) (not (is_bound_as bound.Function b) || takes_variables b.environment) more)
+  taking e = go (is_bound_as bound.Function b) e more
     where
       go : (t : Bool) → t ≡ true → (not t || takes_variables b.environment) ≡ true → takes_variables b.environment ≡ true
       go true q w = w
@@ -166,7 +162,7 @@ module _ (s : SourceType) (x y : Node) (path : List Node) (rooted : EndsAtProgra
       go false c = names_here kind.VariableDeclarator bound.Lexical (bound_names x) b e refl c
 
   -- a function that is a statement, and no function in a block
-  statement : (b : Bound) → is_plain b ≡ true → (t : Bool) → (n : Node) → b ≡ cond t (bound_in bound.Function (innermost es) (variable_environment es ∷ []) (passed es) n) (bound_here bound.Function es n) → Stands x (y ∷ path) b
+  statement : (b : Bound) → is_declared_plainly b ≡ true → (t : Bool) → (n : Node) → b ≡ cond t (bound_in bound.Function (innermost es) (variable_environment es ∷ []) (passed es) n) (bound_here bound.Function es n) → Stands x (y ∷ path) b
   statement b h true n q = absurd (never_empty (variable_environment es) [] (sym (by_one b h (ap (is_bound_as bound.Lexical) q)) ∙ ap (λ i. i.also) q))
   statement b h false n q =
       let env : b.environment ≡ innermost es = ap (λ i. i.environment) q in
@@ -181,8 +177,8 @@ module _ (s : SourceType) (x y : Node) (path : List Node) (rooted : EndsAtProgra
       never true = refl
       never false = refl
 
-  functions : (b : Bound) → is_plain b ≡ true → Among b (bound_by_function s x (y ∷ path)) → Stands x (y ∷ path) b
-  functions b h a = go (is_statement x) a
+  functions : (b : Bound) → is_declared_plainly b ≡ true → is_bound_as bound.OwnName b ≡ false → Among b (bound_by_function s x (y ∷ path)) → Stands x (y ∷ path) b
+  functions b h o a = go (is_statement x) a
     where
       go : (t : Bool) → Among b (map (cond t (bound_by_declaration s x (y ∷ path)) (bound_in bound.OwnName (record { kind = environment.OwnName; maker = x.node_id }) [] [])) (names_at role.Id x)) → Stands x (y ∷ path) b
       go true c =
@@ -190,10 +186,10 @@ module _ (s : SourceType) (x y : Node) (path : List Node) (rooted : EndsAtProgra
           statement b h (language.is_block_function s x (y ∷ path)) n (sym q)
       go false c =
           let (n, d, q) = among_map (bound_in bound.OwnName (record { kind = environment.OwnName; maker = x.node_id }) [] []) (names_at role.Id x) b c in
-          absurd (never_both (ap (is_bound_as bound.OwnName) q ∙ no_own b h))
+          absurd (never_both (ap (is_bound_as bound.OwnName) q ∙ o))
 
-  classes : (b : Bound) → x.kind ≡ kind.Class → is_plain b ≡ true → Among b (bound_by_class x (y ∷ path)) → Stands x (y ∷ path) b
-  classes b e h a = go (is_statement x) a
+  classes : (b : Bound) → x.kind ≡ kind.Class → is_bound_as bound.OwnName b ≡ false → Among b (bound_by_class x (y ∷ path)) → Stands x (y ∷ path) b
+  classes b e o a = go (is_statement x) a
     where
       go : (t : Bool) → Among b (map (cond t (bound_in bound.Lexical (innermost es) (record { kind = environment.Class; maker = x.node_id } ∷ []) []) (bound_in bound.OwnName (record { kind = environment.Class; maker = x.node_id }) [] [])) (names_at role.Id x)) → Stands x (y ∷ path) b
       go true c =
@@ -201,24 +197,24 @@ module _ (s : SourceType) (x y : Node) (path : List Node) (rooted : EndsAtProgra
           here kind.Class b e refl (sym (ap (λ i. i.environment) q))
       go false c =
           let (n, d, q) = among_map (bound_in bound.OwnName (record { kind = environment.Class; maker = x.node_id }) [] []) (names_at role.Id x) b c in
-          absurd (never_both (ap (is_bound_as bound.OwnName) q ∙ no_own b h))
+          absurd (never_both (ap (is_bound_as bound.OwnName) q ∙ o))
 
   catches : (patterns : List Node) (b : Bound) → x.kind ≡ kind.CatchParameter → Among b (flat_map (bound_by_catch es) patterns) → Stands x (y ∷ path) b
   catches patterns b e a =
       let (n, c, d) = among_flat (bound_by_catch es) patterns b a in
       names_here kind.CatchParameter (cond (is kind.BindingIdentifier n) bound.CatchName bound.Lexical) (bound_names n) b e refl d
 
-  by_kind : (k : AstType) (b : Bound) → x.kind ≡ k → is_plain b ≡ true → Among b (bound_by k s x (y ∷ path)) → Stands x (y ∷ path) b
-  by_kind kind.VariableDeclarator b e h a = variables b e a
-  by_kind kind.Function b e h a = functions b h a
-  by_kind kind.Class b e h a = classes b e h a
-  by_kind kind.FormalParameter b e h a = names_here kind.FormalParameter bound.Parameter (bound_names x) b e refl a
-  by_kind kind.FormalParameterRest b e h a = names_here kind.FormalParameterRest bound.Parameter (bound_names x) b e refl a
-  by_kind kind.CatchParameter b e h a = catches (children_of role.Pattern x.children) b e a
-  by_kind kind.ImportSpecifier b e h a = names_here kind.ImportSpecifier bound.Lexical (names_at role.Local x) b e refl a
-  by_kind kind.ImportDefaultSpecifier b e h a = names_here kind.ImportDefaultSpecifier bound.Lexical (names_at role.Local x) b e refl a
-  by_kind kind.ImportNamespaceSpecifier b e h a = names_here kind.ImportNamespaceSpecifier bound.Lexical (names_at role.Local x) b e refl a
-  by_kind _ b e h a = absurd a
+  by_kind : (k : AstType) (b : Bound) → x.kind ≡ k → is_declared_plainly b ≡ true → is_bound_as bound.OwnName b ≡ false → Among b (bound_by k s x (y ∷ path)) → Stands x (y ∷ path) b
+  by_kind kind.VariableDeclarator b e h o a = variables b e a
+  by_kind kind.Function b e h o a = functions b h o a
+  by_kind kind.Class b e h o a = classes b e o a
+  by_kind kind.FormalParameter b e h o a = names_here kind.FormalParameter bound.Parameter (bound_names x) b e refl a
+  by_kind kind.FormalParameterRest b e h o a = names_here kind.FormalParameterRest bound.Parameter (bound_names x) b e refl a
+  by_kind kind.CatchParameter b e h o a = catches (children_of role.Pattern x.children) b e a
+  by_kind kind.ImportSpecifier b e h o a = names_here kind.ImportSpecifier bound.Lexical (names_at role.Local x) b e refl a
+  by_kind kind.ImportDefaultSpecifier b e h o a = names_here kind.ImportDefaultSpecifier bound.Lexical (names_at role.Local x) b e refl a
+  by_kind kind.ImportNamespaceSpecifier b e h o a = names_here kind.ImportNamespaceSpecifier bound.Lexical (names_at role.Local x) b e refl a
+  by_kind _ b e h o a = absurd a
 
 -- ---- the program
 
@@ -231,16 +227,16 @@ pub record IsPlacedBound (p : Tree) (b : Bound) : Type 0 where
   pub makes : may_make maker.kind b.environment.kind ≡ true
   pub body : is_made_for environment.Body b.environment ≡ true → has_parameter_expressions maker ≡ true
 
-placed_in : (p : Tree) (b : Bound) (q : Place) (path : List Node) → q.path ≡ path → Among (entering q) (steps p) → IsFamiliar (node_at p) q → in_with_under q.path ≡ false → is_plain b ≡ true → Among b (bound_by q.node.kind p.source_type q.node q.path) → IsPlacedBound p b
-placed_in p b q [] e a f w h c = absurd (root_binds q.node.kind (subst (EndsAtProgram q.node) e f.rooted) (subst (λ l. Among b (bound_by q.node.kind p.source_type q.node l)) e c))
+placed_in : (p : Tree) (b : Bound) (q : Place) (path : List Node) → q.path ≡ path → Among (entering q) (steps p) → IsFamiliar (node_at p) q → in_with_under q.path ≡ false → is_declared_plainly b ≡ true → is_bound_as bound.OwnName b ≡ false → Among b (bound_by q.node.kind p.source_type q.node q.path) → IsPlacedBound p b
+placed_in p b q [] e a f w h o c = absurd (root_binds q.node.kind (subst (EndsAtProgram q.node) e f.rooted) (subst (λ l. Among b (bound_by q.node.kind p.source_type q.node l)) e c))
   where
     root_binds : (k : AstType) → q.node.kind ≡ kind.Program → Among b (bound_by q.node.kind p.source_type q.node []) → ⊥
     root_binds k r i = subst (λ j. Among b (bound_by j p.source_type q.node [])) r i
-placed_in p b q (y ∷ path) e a f w h c =
+placed_in p b q (y ∷ path) e a f w h o c =
     let there : Among b (bound_by q.node.kind p.source_type q.node (y ∷ path)) = subst (λ l. Among b (bound_by q.node.kind p.source_type q.node l)) e c in
     let rooted : EndsAtProgram y path = subst (EndsAtProgram q.node) e f.rooted in
     let known : AllKnown (node_at p) (y ∷ path) = subst (AllKnown (node_at p)) e f.path in
-    let st : Stands q.node (y ∷ path) b = by_kind p.source_type q.node y path rooted q.node.kind b refl h there in
+    let st : Stands q.node (y ∷ path) b = by_kind p.source_type q.node y path rooted q.node.kind b refl h o there in
     let m : IsMadeBy (q.node ∷ y ∷ path) b.environment = made_in q.node (y ∷ path) b.environment st.among in
     record {
       by_node = record {
@@ -248,7 +244,7 @@ placed_in p b q (y ∷ path) e a f w h c =
         entered = a;
         apart_from_with = w;
         no_block_function = subst (λ l. is_function_in_block q.node l ≡ false) (sym e) st.no_block_function;
-        no_own_name = no_own b h;
+        no_own_name = o;
         binds = c;
       };
       usual = st.usual;
@@ -258,10 +254,10 @@ placed_in p b q (y ∷ path) e a f w h c =
       body = m.body;
     }
 
-pub placed_bound : (p : Tree) → first_fault p ≡ None → is_ecmascript p ≡ true → IsNumbered p.root → (x : Name) → IsBoundOutsideWith p x → (b : Bound) → Among b (written p.source_type (steps p)) → b.name ≡ x → is_plain b ≡ true → IsPlacedBound p b
-placed_bound p h e numbered x none b a named plain =
+pub placed_bound : (p : Tree) → first_fault p ≡ None → is_ecmascript p ≡ true → IsNumbered p.root → (x : Name) → IsBoundOutsideWith p x → (b : Bound) → Among b (written p.source_type (steps p)) → b.name ≡ x → is_declared_plainly b ≡ true → is_bound_as bound.OwnName b ≡ false → IsPlacedBound p b
+placed_bound p h e numbered x none b a named plain o =
     let at : IsBoundAt p.source_type (steps p) b = bound_at_place p.source_type (steps p) b a in
     placed_in p b at.place at.place.path refl at.entered
     (each_at (FamiliarAt (node_at p)) (steps p) (entering at.place) (familiar_program p h e numbered) at.entered)
     (none at.place at.entered b at.binds named)
-    plain at.binds
+    plain o at.binds

@@ -30,15 +30,16 @@ use Rattle.semantic_model.proofs.form.Clauses.{kind_is}
 use Rattle.semantic_model.proofs.form.ParameterShape.{is_parameter}
 use Rattle.semantic_model.proofs.lists.Members.{among_left, among_right, among_cases}
 use Rattle.semantic_model.proofs.once.ListedUnder.{name_tells}
+use Rattle.walk_model.proofs.headers.NoStatements.{is_loose}
 use Rattle.program_laws.proofs.DeclaredNodes.{among_map, among_flat}
-use Rattle.language_ties.specs.AgreeingNames.{is_plain, IsPlainName, IsBoundOutsideWith}
+use Rattle.language_ties.specs.AgreeingNames.{is_plain, is_declared_plainly, IsPlainName, IsBoundOutsideWith}
 use Rattle.language_ties.specs.Bound as language
 use Rattle.language_ties.specs.Bound.{Bound, bound_in, bound_here, bound_outward, bound_by_declarator, bound_by_declaration, bound_by_function, bound_by_class, bound_by_catch, bound_by, bound_at, is_bound_as, written}
 use Rattle.language_ties.specs.contracts.bound_as.BoundAs.{the_type as the_ways}
 use denote.Enum.Bare.{same_true}
 use Rattle.language_ties.specs.EarlyErrors.{meets_lexical, clashes, has_clash}
 use Rattle.language_ties.specs.EcmaScript.{is_ecmascript_kind, is_ecmascript}
-use Rattle.language_ties.specs.Environments.{Environment, same_environment, is_outside_body, has_parameter_expressions, made_by, environments, innermost, passed, takes_variables, variable_environment}
+use Rattle.language_ties.specs.Environments.{Environment, same_environment, is_made_for, is_outside_body, has_parameter_expressions, made_by, environments, innermost, passed, takes_variables, variable_environment}
 use Rattle.language_ties.specs.Moved.{is_lexical_in, moved as moved_by, unless_barred, bound_of}
 use Rattle.language_ties.specs.Scopes.{maker_of_scope, has_scope, makers}
 use Rattle.language_ties.specs.SharedSymbols.{KeepsClear, AllKeepClear}
@@ -50,12 +51,15 @@ use Rattle.language_ties.proofs.EnvironmentsRound.{IsKnown, KnownAt, known_progr
 use Rattle.language_ties.proofs.UndeclaredNames.{each_identifier}
 use Rattle.language_ties.proofs.agree.FamiliarPlaces.{is_function_kind, is_parent, ParentsFit, IsFamiliar, FamiliarAt, familiar_program, known_among}
 use Rattle.language_ties.proofs.agree.Identifiers.{same_again}
-use Rattle.language_ties.proofs.agree.KnownBounds.{some_is, KnownBound, known_bound, bodiless}
+use Rattle.language_ties.proofs.agree.KnownBounds.{some_is, KnownBound, bodiless}
 use Rattle.language_ties.proofs.agree.KnownNodes.{node_at}
 use Rattle.language_ties.proofs.agree.MadeEnvironments.{environment_kind_is, may_make, IsMadeBy, made_in, EndsAtProgram}
-use Rattle.language_ties.proofs.agree.PlainBounds.{no_catch_name, no_own, taking}
+use Rattle.language_ties.proofs.agree.PlainBounds.{no_catch_name, taking}
 use Rattle.language_ties.proofs.clear.PassedScopes.{IsPassed, passes_scope, passed_takes_none, before_among, scope_of_number, route_passes, variables_taken}
 use Rattle.language_ties.proofs.clear.SingleNames.{identifier_of, same_declaration, declared_once}
+use Rattle.language_ties.proofs.own_names.AnyBounds.{AnyBound, any_bound, IsDeclared, is_declared, declared_known, declared_own, IsMade, is_made, own_kind}
+use Rattle.language_ties.proofs.own_names.OwnBounds.{OwnBound}
+use Rattle.language_ties.proofs.own_names.PassedClasses.{HoldsLoose, LooseAt, loose_program, passes_no_class}
 use Rattle.language_ties.proofs.symbols.OneSymbol.{of_map, each_at, declared_at}
 use Rattle.language_ties.proofs.symbols.ScopeOpeners.{openers, IsOpened, AllOpened, IsPlaceOpened, places_opened}
 
@@ -308,7 +312,7 @@ parameter_takes node (y ∷ path) k f w = list_takes path list f.2 w
 abbrev LexicalOrTaken : Bound → Type 0
 LexicalOrTaken b = (is_bound_as bound.Lexical b ≡ true) ⊎ (takes_variables b.environment ≡ true)
 
-module _ (s : SourceType) (q : Place) (f : ParentsFit q.node.kind q.path) (rooted : EndsAtProgram q.node q.path) (b : Bound) (plain_bound : is_plain b ≡ true) where
+module _ (s : SourceType) (q : Place) (f : ParentsFit q.node.kind q.path) (rooted : EndsAtProgram q.node q.path) (b : Bound) (plain_bound : is_declared_plainly b ≡ true) (no_own : is_bound_as bound.OwnName b ≡ false) where
   lexical_names : (es : List Environment) (names : List Node) → Among b (map (bound_here bound.Lexical es) names) → LexicalOrTaken b
   lexical_names es names a = let (n, c, i) = among_map (bound_here bound.Lexical es) names b a in inl (sym (ap (is_bound_as bound.Lexical) i))
 
@@ -338,7 +342,7 @@ module _ (s : SourceType) (q : Place) (f : ParentsFit q.node.kind q.path) (roote
           inr (taking b plain_bound (sym (ap (is_bound_as bound.Function) i) ∙ function_sort n))
       go false c =
           let (n, d, i) = among_map (bound_in bound.OwnName (record { kind = environment.OwnName; maker = q.node.node_id }) [] []) (names_at role.Id q.node) b c in
-          absurd (never (ap (is_bound_as bound.OwnName) i ∙ no_own b plain_bound))
+          absurd (never (ap (is_bound_as bound.OwnName) i ∙ no_own))
 
   class : Among b (bound_by_class q.node q.path) → LexicalOrTaken b
   class a = go (is_statement q.node) a
@@ -349,7 +353,7 @@ module _ (s : SourceType) (q : Place) (f : ParentsFit q.node.kind q.path) (roote
           inl (sym (ap (is_bound_as bound.Lexical) i))
       go false c =
           let (n, d, i) = among_map (bound_in bound.OwnName (record { kind = environment.Class; maker = q.node.node_id }) [] []) (names_at role.Id q.node) b c in
-          absurd (never (ap (is_bound_as bound.OwnName) i ∙ no_own b plain_bound))
+          absurd (never (ap (is_bound_as bound.OwnName) i ∙ no_own))
 
   parameter : is_parameter q.node.kind ≡ true → Among b (map (bound_here bound.Parameter (environments q.node q.path)) (bound_names q.node)) → LexicalOrTaken b
   parameter k a =
@@ -434,19 +438,41 @@ module _ (p : Tree) (h : first_fault p ≡ None) (e : is_ecmascript p ≡ true) 
     known : KnownBound p h e numbered x none plain_name bind
     same : known.declares.declaration ≡ d
 
-  explained : (d : Declaration) → Among d ds → d.naming.name ≡ x → IsExplained d
+  -- or by the expression that has it as its own name
+  record IsOwned (d : Declaration) : Type 0 where
+    bind : Bound
+    owned : OwnBound p h x bind
+    same : owned.declaration ≡ d
+
+  explained : (d : Declaration) → Among d ds → d.naming.name ≡ x → IsExplained d ⊎ IsOwned d
   explained d a n =
       let (b, i, m, j) = each_identifier p.source_type x (λ k. (b : Bound) × Among b ws × (b.name ≡ x) × (b.identifier ≡ k)) p h e (λ b i m. (b, i, m, refl)) d a n in
-      let k : KnownBound p h e numbered x none plain_name b = known_bound p h e numbered x none plain_name b i m in
-      let one : identifier_of k.declares.declaration ≡ identifier_of d = k.declares.identifier ∙ j in
-      record { bind = b; among = i; named = m; known = k; same = same_declaration k.declares.declaration d ds k.declares.among a one (declared_once p (identifier_of k.declares.declaration) h numbered) }
+      go b i m j (any_bound p h e numbered x none plain_name b i m)
+    where
+      go : (b : Bound) → Among b ws → b.name ≡ x → b.identifier ≡ identifier_of d → AnyBound p h e numbered x none plain_name b → IsExplained d ⊎ IsOwned d
+      go b i m j (inl k) = inl (record { bind = b; among = i; named = m; known = k; same = same_declaration k.declares.declaration d ds k.declares.among a (k.declares.identifier ∙ j) (declared_once p (identifier_of k.declares.declaration) h numbered) })
+      go b i m j (inr o) = inr (record { bind = b; owned = o; same = same_declaration o.declaration d ds o.among a (o.identifier ∙ j) (declared_once p (identifier_of o.declaration) h numbered) })
 
   familiar_at : (q : Place) → Among (entering q) (steps p) → IsFamiliar (node_at p) q
   familiar_at q a = each_at (FamiliarAt (node_at p)) (steps p) (entering q) (familiar_program p h e numbered) a
 
-  -- a `var` passes no scope that binds the name
-  passes_none : (d c : Declaration) (v : IsExplained d) (w : IsExplained c) → v.known.declares.declaration.how ≡ hoisted → (n : ℕ) → contains (map (λ s. s.number) v.known.declares.declaration.route.passed) n ≡ true → w.known.declares.declaration.route.target.number ≡ n → ⊥
-  passes_none d c v w how n i t =
+  -- an environment that a `var` passes binds the other, too
+  record Passes (v b : Bound) : Type 0 where
+    var : is_bound_as bound.Var v ≡ true
+    among : Among b.environment v.passed
+    takes_none : takes_variables b.environment ≡ false
+    scoped : has_scope b.environment ≡ true
+    no_class : is_made_for environment.Class b.environment ≡ false
+
+  opened_among : (chain : List OpenScope) (s : OpenScope) → AllOpened (openers (steps p)) chain → Among s chain → IsOpened (openers (steps p)) s
+  opened_among [] s k a = absurd a
+  opened_among (z ∷ chain) s k (inl j) = subst (IsOpened (openers (steps p))) j k.0
+  opened_among (z ∷ chain) s k (inr a) = opened_among chain s k.1 a
+
+  -- so does the one whose scope it passes
+  passes_it : (d : Declaration) (v : IsExplained d) → v.known.declares.declaration.how ≡ hoisted → (n : ℕ) → contains (map (λ s. s.number) v.known.declares.declaration.route.passed) n ≡ true
+      → (b : Bound) (k : IsDeclared p h e numbered x none plain_name b) → IsMade p h e numbered x none plain_name b → k.declaration.route.target.number ≡ n → Passes v.bind b
+  passes_it d v how n i b k m t =
       let q : Place = v.known.declares.place in
       let there : Among (entering q) (steps p) = v.known.declares.entered in
       let variable : IsVariable q v.known.declares.declaration = hoisted_is q v.known.declares.declaration v.known.declares.told how in
@@ -460,24 +486,63 @@ module _ (p : Tree) (h : first_fault p ≡ None) (e : is_ecmascript p ≡ true) 
       let takes : (takes_variables passing.passes ≡ false) × Among passing.passes (environments q.node q.path) = passed_takes_none (environments q.node q.path) passing.passes passing.among in
       let opened : AllOpened (openers (steps p)) q.chain = each_at (IsPlaceOpened (openers (steps p))) (steps p) (entering q) (places_opened p) there in
       let s_opened : IsOpened (openers (steps p)) s = opened_among q.chain s opened (before_among q.chain s before) in
-      let opener : Some w.known.declares.declaration.route.target.opener ≡ Some s.opener = sym w.known.declares.opened ∙ ap (slice_get (openers (steps p))) (t ∙ sym number) ∙ s_opened in
-      let maker : w.bind.environment.maker ≡ passing.passes.maker = sym w.known.declares.maker ∙ some_is w.known.declares.declaration.route.target.opener s.opener opener ∙ sym passing.maker in
+      let opener : Some k.declaration.route.target.opener ≡ Some s.opener = sym k.opened ∙ ap (slice_get (openers (steps p))) (t ∙ sym number) ∙ s_opened in
+      let maker : b.environment.maker ≡ passing.passes.maker = sym k.maker ∙ some_is k.declaration.route.target.opener s.opener opener ∙ sym passing.maker in
       let made : IsMadeBy (q.node ∷ q.path) passing.passes = made_in q.node q.path passing.passes takes.1 in
       let familiar : IsFamiliar (node_at p) q = familiar_at q there in
-      let one_maker : w.known.placed.maker ≡ made.maker = some_is w.known.placed.maker made.maker (sym w.known.placed.found ∙ ap (node_at p) (maker ∙ made.is) ∙ known_among (node_at p) (q.node ∷ q.path) made.maker (familiar.node, familiar.path) made.among) in
-      let kinds : w.bind.environment.kind ≡ passing.passes.kind = one_kind made.maker.kind w.bind.environment.kind passing.passes.kind passing.passes.maker (subst (λ z. may_make z.kind w.bind.environment.kind ≡ true) one_maker w.known.placed.makes) made.makes passing.scoped takes.0 in
-      let same : w.bind.environment ≡ passing.passes = λ z. record { kind = kinds z; maker = maker z } in
+      let one_maker : m.maker ≡ made.maker = some_is m.maker made.maker (sym m.found ∙ ap (node_at p) (maker ∙ made.is) ∙ known_among (node_at p) (q.node ∷ q.path) made.maker (familiar.node, familiar.path) made.among) in
+      let kinds : b.environment.kind ≡ passing.passes.kind = one_kind made.maker.kind b.environment.kind passing.passes.kind passing.passes.maker (subst (λ z. may_make z.kind b.environment.kind ≡ true) one_maker m.makes) made.makes passing.scoped takes.0 in
+      let same : b.environment ≡ passing.passes = λ z. record { kind = kinds z; maker = maker z } in
+      let loose : HoldsLoose q.node.kind q.path = each_at LooseAt (steps p) (entering q) (loose_program p h) there in
+      record {
+        var = binds.0;
+        among = subst (λ z. Among z v.bind.passed) (sym same) (subst (Among passing.passes) (sym binds.1) passing.among);
+        takes_none = ap takes_variables same ∙ takes.0;
+        scoped = ap has_scope same ∙ passing.scoped;
+        no_class = ap (is_made_for environment.Class) same ∙ passes_no_class q.node q.path loose (ap is_loose kind_of) passing.passes passing.among;
+      }
+
+  -- a `var` passes no scope that binds the name
+  passes_none : (d c : Declaration) (v : IsExplained d) (w : IsExplained c) → v.known.declares.declaration.how ≡ hoisted → (n : ℕ) → contains (map (λ s. s.number) v.known.declares.declaration.route.passed) n ≡ true → w.known.declares.declaration.route.target.number ≡ n → ⊥
+  passes_none d c v w how n i t =
+      let any : AnyBound p h e numbered x none plain_name w.bind = inl w.known in
+      let passing : Passes v.bind w.bind = passes_it d v how n i w.bind (is_declared p h e numbered x none plain_name w.bind any) (is_made p h e numbered x none plain_name w.bind any) (ap (λ z. z.route.target.number) (declared_known p h e numbered x none plain_name w.bind w.known) ∙ t) in
       let r : Place = w.known.declares.place in
-      let familiar_other : IsFamiliar (node_at p) r = familiar_at r w.known.declares.entered in
-      elim (lexical_or_taken p.source_type r familiar_other.parents familiar_other.rooted w.bind w.known.plainly r.node.kind refl w.known.declares.binds) [
-        | inl lexical ↦ clash v.bind w.bind passing.passes v.among w.among v.named w.named binds.0 lexical (subst (Among passing.passes) (sym binds.1) passing.among) same
-        | inr taken ↦ never (sym taken ∙ ap takes_variables same ∙ takes.0)
+      let familiar : IsFamiliar (node_at p) r = familiar_at r w.known.declares.entered in
+      elim (lexical_or_taken p.source_type r familiar.parents familiar.rooted w.bind w.known.plainly w.known.no_own r.node.kind refl w.known.declares.binds) [
+        | inl lexical ↦ clash v.bind w.bind w.bind.environment v.among w.among v.named w.named passing.var lexical passing.among refl
+        | inr taken ↦ never (sym taken ∙ passing.takes_none)
       ]
+
+  -- nor that of an expression with that name
+  passes_no_own : (d : Declaration) (v : IsExplained d) → v.known.declares.declaration.how ≡ hoisted → (n : ℕ) → contains (map (λ s. s.number) v.known.declares.declaration.route.passed) n ≡ true → (b : Bound) (o : OwnBound p h x b) → o.declaration.route.target.number ≡ n → ⊥
+  passes_no_own d v how n i b o t =
+      let any : AnyBound p h e numbered x none plain_name b = inr o in
+      let passing : Passes v.bind b = passes_it d v how n i b (is_declared p h e numbered x none plain_name b any) (is_made p h e numbered x none plain_name b any) (ap (λ z. z.route.target.number) (declared_own p h e numbered x none plain_name b o) ∙ t) in
+      own_kind p h e numbered x none plain_name b o (unnamed b.environment passing.scoped) passing.no_class
     where
-      opened_among : (chain : List OpenScope) (s : OpenScope) → AllOpened (openers (steps p)) chain → Among s chain → IsOpened (openers (steps p)) s
-      opened_among [] s k a = absurd a
-      opened_among (z ∷ chain) s k (inl j) = subst (IsOpened (openers (steps p))) j k.0
-      opened_among (z ∷ chain) s k (inr a) = opened_among chain s k.1 a
+      unnamed : (c : Environment) → has_scope c ≡ true → is_made_for environment.OwnName c ≡ false
+      unnamed c k = elim (cases_Bool (is_made_for environment.OwnName c)) [
+        | inr q ↦ q
+        | inl q ↦ (let w : has_scope c ≡ false = ap (λ z. not ((z || is_made_for environment.Body c) || is_made_for environment.IfBody c)) q in absurd (never (sym k ∙ w)))
+      ]
+
+  nowhere : (n : ℕ) → None ≡ Some n → ⊥
+  nowhere n z = absurd cc
+
+  never_caught_name : (b : Bound) → is_plain b ≡ true → is_bound_as bound.CatchName b ≡ false
+  never_caught_name b k = elim (cases_Bool (is_bound_as bound.CatchName b)) [
+    | inr q ↦ q
+    | inl q ↦ (let sort : b.sort ≡ bound.CatchName = same_true the_ways tt b.sort bound.CatchName q in
+        let own : is_bound_as bound.OwnName b ≡ false = ap (λ w. is_bound_as bound.OwnName (record b { sort = w })) sort in
+        no_catch_name b (subst (λ t. (t || is_declared_plainly b) ≡ true) own k))
+  ]
+
+  caught_never : (d : Declaration) (v : IsExplained d) → v.known.declares.declaration.how ≡ caught → ⊥
+  caught_never d v how =
+      let q : Place = v.known.declares.place in
+      let familiar : IsFamiliar (node_at p) q = familiar_at q v.known.declares.entered in
+      none_caught p.source_type q x (λ b a n. never_caught_name b (plain_name b (among_written p.source_type b q (steps p) v.known.declares.entered a) n)) q.node.kind refl familiar.ecmascript v.known.declares.declaration v.known.declares.told v.known.declares.named how
 
   keeps_clear : (d c : Declaration) → IsExplained d → IsExplained c → KeepsClear d c
   keeps_clear d c v w = subst (λ z. KeepsClear z c) v.same (subst (KeepsClear v.known.declares.declaration) w.same (record {
@@ -486,22 +551,41 @@ module _ (p : Tree) (h : first_fault p ≡ None) (e : is_ecmascript p ≡ true) 
       | inr t ↦ nowhere n (sym (bodiless p h e numbered x none plain_name w.bind w.known) ∙ t)
     ];
     as_function = λ how m. v.known.declares.unmoved how;
-    as_catch_name = λ how b. caught_never v how;
+    as_catch_name = λ how b. caught_never d v how;
   }))
-    where
-      nowhere : (n : ℕ) → None ≡ Some n → ⊥
-      nowhere n z = absurd cc
 
-      caught_never : (v : IsExplained d) → v.known.declares.declaration.how ≡ caught → ⊥
-      caught_never v how =
-          let q : Place = v.known.declares.place in
-          let familiar : IsFamiliar (node_at p) q = familiar_at q v.known.declares.entered in
-          none_caught p.source_type q x (λ b a n. no_catch_name b (plain_name b (among_written p.source_type b q (steps p) v.known.declares.entered a) n)) q.node.kind refl familiar.ecmascript v.known.declares.declaration v.known.declares.told v.known.declares.named how
+  -- an own name goes nowhere
+  own_keeps : (d c : Declaration) → IsOwned d → KeepsClear d c
+  own_keeps d c v =
+      let how : d.how ≡ plain = sym (ap (λ z. z.how) v.same) ∙ v.owned.how in
+      record { as_variable = λ w n i b. absurd (hoisted_is_not (sym how ∙ w)); as_function = λ w m. absurd (moved_is_not (sym how ∙ w)); as_catch_name = λ w b. absurd (plain_never (sym how ∙ w)) }
+    where
+      hoisted_is_not : plain ≡ hoisted → ⊥
+      hoisted_is_not z = absurd cc
+
+      moved_is_not : plain ≡ moved → ⊥
+      moved_is_not z = absurd cc
+
+  -- and nothing passes it: a `var` passes neither a function nor a class
+  keeps_from_own : (d c : Declaration) → IsExplained d → IsOwned c → KeepsClear d c
+  keeps_from_own d c v w = subst (λ z. KeepsClear z c) v.same (subst (KeepsClear v.known.declares.declaration) w.same (record {
+    as_variable = λ how n i b. elim b [
+      | inl t ↦ passes_no_own d v how n i w.bind w.owned t
+      | inr t ↦ nowhere n (sym (ap (λ s. s.body) w.owned.target ∙ w.owned.bodiless) ∙ t)
+    ];
+    as_function = λ how m. v.known.declares.unmoved how;
+    as_catch_name = λ how b. caught_never d v how;
+  }))
+
+  keep_any : (d c : Declaration) → IsExplained d ⊎ IsOwned d → IsExplained c ⊎ IsOwned c → KeepsClear d c
+  keep_any d c (inl v) (inl w) = keeps_clear d c v w
+  keep_any d c (inl v) (inr w) = keeps_from_own d c v w
+  keep_any d c (inr v) w = own_keeps d c v
 
   clear_list : (cs : List Declaration) → ((d : Declaration) → Among d cs → Among d ds) → AllKeepClear x cs
   clear_list [] k = tt
   clear_list (d ∷ cs) k = (
-    λ n c a m. (let v : IsExplained d = explained d (k d (inl refl)) n in let w : IsExplained c = explained c (k c (inr a)) m in (keeps_clear d c v w, keeps_clear c d w v)),
+    λ n c a m. (let v : IsExplained d ⊎ IsOwned d = explained d (k d (inl refl)) n in let w : IsExplained c ⊎ IsOwned c = explained c (k c (inr a)) m in (keep_any d c v w, keep_any c d w v)),
     clear_list cs (λ c a. k c (inr a)),
   )
 

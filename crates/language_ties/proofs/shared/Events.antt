@@ -39,7 +39,7 @@ variable_visible false false true = refl
 variable_visible false false false = refl
 
 -- of the functions, those that are expressions are hidden by others of the name
-function_hidden : (a s p : Bool) → meets (flags_of_function a s p) symbol.FunctionExpression.bits ≡ cond s false true
+pub function_hidden : (a s p : Bool) → meets (flags_of_function a s p) symbol.FunctionExpression.bits ≡ cond s false true
 function_hidden true true true = refl
 function_hidden true true false = refl
 function_hidden true false true = refl
@@ -49,7 +49,7 @@ function_hidden false true false = refl
 function_hidden false false true = refl
 function_hidden false false false = refl
 
-class_visible : (a : Bool) → IsVisible (union symbol.Class.bits (ambient_if a))
+pub class_visible : (a : Bool) → IsVisible (union symbol.Class.bits (ambient_if a))
 class_visible true = refl
 class_visible false = refl
 

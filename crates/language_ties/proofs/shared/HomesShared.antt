@@ -30,7 +30,7 @@ use Rattle.semantic_model.proofs.form.Shape.{has_form}
 use Rattle.semantic_model.proofs.lists.Members.{among_left, among_last}
 use Rattle.semantic_model.proofs.once.HeadersEndOnce.{less_or}
 use Rattle.language_ties.specs.EcmaScript.{is_ecmascript}
-use Rattle.language_ties.specs.SharedSymbols.{AllKeepClear, ShareSymbols, IsBoundIn}
+use Rattle.language_ties.specs.SharedSymbols.{AllKeepClear, ShareSymbols}
 use Rattle.language_ties.proofs.shared.Events.{AllNumbered, numbered_events}
 use Rattle.language_ties.proofs.shared.Numbers.{numbered_program}
 use Rattle.language_ties.proofs.shared.PlainNodes.{ecmascript_program}
@@ -48,7 +48,7 @@ made_stays y st (declares d ∷ es) a =
 made_stays y st (takes_over c b ∷ es) a = made_stays y (act st (takes_over c b)) es a
 made_stays y st (ends_header c ∷ es) a = made_stays y st es a
 
-is_made : (d : Declaration) (st : State) (es : List Event) → Among d (declarations es) → (s : ℕ) × Among (record { declaration = d; symbol = s }) (run st es).made
+pub is_made : (d : Declaration) (st : State) (es : List Event) → Among d (declarations es) → (s : ℕ) × Among (record { declaration = d; symbol = s }) (run st es).made
 is_made d st [] a = absurd a
 is_made d st (declares e ∷ es) (inl q) =
     let w : Adds st.made e (act st (declares e)).made = adds st e in
@@ -64,7 +64,7 @@ beyond bs i (suc k) zero h = absurd (omega arith)
 beyond bs i (suc k) (suc c) h = beyond bs (i + 1) k c (omega arith)
 
 -- what is declared before the end of a header is declared
-until_among : (e : ℕ) (es : List Event) (d : Declaration) → Among d (declarations (until_end_of e es)) → Among d (declarations es)
+pub until_among : (e : ℕ) (es : List Event) (d : Declaration) → Among d (declarations (until_end_of e es)) → Among d (declarations es)
 until_among e [] d a = a
 until_among e (declares f ∷ es) d (inl q) = inl q
 until_among e (declares f ∷ es) d (inr a) = inr (until_among e es d a)
@@ -73,6 +73,17 @@ until_among e (ends_header c ∷ es) d a = go (c == e) (until_among e es d) a
   where
     go : (b : Bool) → (Among d (declarations (until_end_of e es)) → Among d (declarations es)) → Among d (declarations (cond b [] (ends_header c ∷ until_end_of e es))) → Among d (declarations es)
     go true later i = absurd i
+    go false later i = later i
+
+-- what is made before the end of a header is made
+pub until_stays : (y : Made) (st : State) (es : List Event) (e : ℕ) → Among y (run st (until_end_of e es)).made → Among y (run st es).made
+until_stays y st [] e a = a
+until_stays y st (declares d ∷ es) e a = until_stays y (act st (declares d)) es e a
+until_stays y st (takes_over c b ∷ es) e a = until_stays y (act st (takes_over c b)) es e a
+until_stays y st (ends_header c ∷ es) e a = go (c == e) (λ b. until_stays y st es e b) a
+  where
+    go : (b : Bool) → (Among y (run st (until_end_of e es)).made → Among y (run st es).made) → Among y (run st (cond b [] (ends_header c ∷ until_end_of e es))).made → Among y (run st es).made
+    go true later i = made_stays y st es i
     go false later i = later i
 
 -- ---- the whole program
@@ -161,22 +172,6 @@ module _ (p : Tree) (h : first_fault p ≡ None) (e : is_ecmascript p ≡ true) 
         });
   }
 
-  -- a declaration of the name that the scope binds
-  pub record WasDeclared (c : ℕ) : Type 0 where
-    pub declaration : Declaration
-    pub among : Among declaration (declarations es)
-    pub named : declaration.naming.name ≡ x
-    pub bound : IsBoundIn declaration c
-
-  -- what a scope binds where a header ends was declared
-  pub was_declared : (e c s : ℕ) → get (run start (until_end_of e es)).bindings c x ≡ Some s → WasDeclared c
-  was_declared e c s g =
-      let st : State = run start (until_end_of e es) in
-      let last : SharedAtLast table root (nearest p) x st = shared_until table root (nearest p) x e 0 0 start es numbered (events_in p f) led (orderly_events p f) (sound_start table) clear (λ y a. absurd a) (λ y a. absurd a) (shared_start table x) in
-      let w : BoundBy table x last.0 last.1 st.made c s = last.2.bound c s g in
-      record {
-        declaration = w.made.declaration;
-        among = until_among e es w.made.declaration (elim (made_declared w.made start (until_end_of e es) w.among) [ inl k ↦ absurd k | inr k ↦ k ]);
-        named = w.named;
-        bound = elim w.now [ inl k ↦ inl k | inr k ↦ inr k.0 ];
-      }
+  -- and so it is where a header ends
+  pub at_header : (e : ℕ) → SharedAtLast table root (nearest p) x (run start (until_end_of e es))
+  at_header e = shared_until table root (nearest p) x e 0 0 start es numbered (events_in p f) led (orderly_events p f) (sound_start table) clear (λ y a. absurd a) (λ y a. absurd a) (shared_start table x)

@@ -12,7 +12,7 @@ use Rattle.semantic_model.specs.Binder.{is_var, is_conditional, declared_by}
 use Rattle.semantic_model.specs.Cursor.{on_entering}
 use Rattle.semantic_model.specs.Declaration.{passed_before, first_with, route_from, outward_past}
 use Rattle.semantic_model.specs.EachStep.{EachStep}
-use Rattle.semantic_model.specs.Inside.{opens, is_inside, is_in_header, is_parameter_decorator}
+use Rattle.semantic_model.specs.Inside.{is_inside, is_in_header, is_parameter_decorator}
 use Rattle.semantic_model.specs.Place.{Place, OpenScope, innermost, outside}
 use Rattle.semantic_model.specs.ScopeKind.{opened_scope}
 use Rattle.semantic_model.specs.Step.{Step, entering, opening, header_ending, closing, leaving, steps_below, steps, root_place, opening_at, scope_at, child_place, chain_within}
@@ -131,7 +131,7 @@ module _ (table : List ℕ) where
 
 -- ---- the program
 
-opened_at : (table : List ℕ) (n : ℕ) (ss : List Step) → ((i : ℕ) → slice_get table (n + i) ≡ slice_get (openers ss) i) → OpenedFrom (λ m p s. slice_get table m ≡ Some s.opener) n ss
+pub opened_at : (table : List ℕ) (n : ℕ) (ss : List Step) → ((i : ℕ) → slice_get table (n + i) ≡ slice_get (openers ss) i) → OpenedFrom (λ m p s. slice_get table m ≡ Some s.opener) n ss
 opened_at table n [] h = tt
 opened_at table n (opening p s ∷ more) h =
     (subst (λ m. slice_get table m ≡ Some s.opener) (omega arith) (h 0), opened_at table (suc n) more (λ i. subst (λ m. slice_get table m ≡ slice_get (openers more) i) (omega arith) (h (suc i))))

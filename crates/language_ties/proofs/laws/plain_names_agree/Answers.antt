@@ -1,6 +1,7 @@
 use Rattle.language_ties.proofs.agree.AgreeingUses.{agrees_apart}
 use Rattle.language_ties.proofs.agree.Differing.{nothing_differs}
 use Rattle.language_ties.proofs.clear.UnclashedNames.{unclashed_clear}
+use Rattle.language_ties.proofs.headers.InExpressions.{in_expressions}
 use Rattle.language_ties.proofs.laws.plain_names_agree.Goals as goal
 
 pub returns-clause-each : goal.returns-clause-each
@@ -9,3 +10,7 @@ returns-clause-each c = λ p name h e numbered outside not_arguments plain no_cl
 pub returns-clause-none : goal.returns-clause-none
 returns-clause-none c = λ p name h e numbered outside not_arguments plain no_clash apart.
     nothing_differs p name (λ q a k n. agrees_apart p h e numbered name outside not_arguments (unclashed_clear p h e numbered name outside plain no_clash) plain q a k n (apart q a k n))
+
+pub returns-clause-marked : goal.returns-clause-marked
+returns-clause-marked c = λ p name h e numbered outside not_arguments plain no_clash marked q a k n w.
+    agrees_apart p h e numbered name outside not_arguments (unclashed_clear p h e numbered name outside plain no_clash) plain q a k n (w, in_expressions p h e marked name q a k)

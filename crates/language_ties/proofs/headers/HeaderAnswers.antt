@@ -1,0 +1,333 @@
+-- As the header of a function ends, its scope binds a plain name to the symbol of what the environment of its parameters binds.
+use Rattle.std.proofs.Common.{◌≡◌, ℕ, ◌==◌, List, [], ◌∷◌, Option, Some, None, Bool, true, false, ◌||◌, cond, filter, inl, inr, refl, sym, ap, subst, ◌∙◌, bytes_eq}
+use Rattle.std.specs.Prelude.{slice_get}
+use Rattle.std.proofs.lemmas.Bool.Decides.{eqb_tells}
+use Rattle.semantic_syntax.proofs.Truth.{and_second}
+use Rattle.semantic_kinds.specs.Kinds.{same_kind}
+use Rattle.semantic_kinds.specs.declared.kind.AstType.TheVariants as kind
+use Rattle.semantic_syntax.specs.Tables.{Name}
+use Rattle.semantic_syntax.specs.declared.source_type.SourceType.{SourceType}
+use Rattle.semantic_tree.specs.Faults.{first_fault}
+use Rattle.semantic_tree.specs.Tree.{Tree, IsNumbered}
+use Rattle.semantic_tree.specs.Views.{is}
+use Rattle.semantic_tree.specs.declared.node.Node.{Node}
+use Rattle.semantic_model.specs.Analysis.{analysis_of, symbol_at}
+use Rattle.semantic_model.specs.Binder.{is_var}
+use Rattle.semantic_model.specs.Binding.{get}
+use Rattle.semantic_model.specs.Declaration.{Declaration, first_with, passed_before, route_from}
+use Rattle.semantic_model.specs.Entries.{Among}
+use Rattle.semantic_model.specs.Event.{Event, declares, takes_over, ends_header, declarations, events}
+use Rattle.semantic_model.specs.Fold.{State, Made, start}
+use Rattle.semantic_model.specs.Hoist.{run}
+use Rattle.semantic_model.specs.Place as place
+use Rattle.semantic_model.specs.Place.{Place, OpenScope}
+use Rattle.semantic_model.specs.Step.{Step, entering, steps}
+use Rattle.semantic_model.specs.Tie.{until_end_of}
+use Rattle.semantic_model.proofs.bindings.NearestVar.{nearest}
+use Rattle.semantic_model.proofs.fits.NothingInvented.{made_declared}
+use Rattle.semantic_model.proofs.fold.Changes.{sound_start}
+use Rattle.semantic_model.proofs.fold.Orders.{table_of, root_body, orderly_events}
+use Rattle.semantic_model.proofs.form.Clauses.{kind_is}
+use Rattle.semantic_model.proofs.form.Shape.{has_form}
+use Rattle.semantic_model.proofs.lists.Growth.{start_is_sound}
+use Rattle.semantic_model.proofs.once.ListedUnder.{name_tells}
+use Rattle.semantic_syntax.specs.Members.{contains}
+use Rattle.walk_model.proofs.headers.Headed.{awaiting_past, AllMatch}
+use Rattle.tangle_model.specs.Surroundings.{in_with_under}
+use Rattle.binding_laws.specs.SeenDeclarations.{is_own_name, stands_before_body, is_before_body}
+use Rattle.binding_laws.proofs.CutEvents.{IsBefore, Cut, no_end, ended, not_yet}
+use Rattle.binding_laws.proofs.CutSteps.{WillAwait, cut_program}
+use Rattle.binding_laws.proofs.HeaderFold.{IsCutAt, cut_at, header_start}
+use Rattle.binding_laws.proofs.Matched.{IsMatchedStep, AreMatched, program_matched}
+use Rattle.binding_laws.proofs.SymbolsAtNodes.{symbols_are_at_nodes}
+use Rattle.language_ties.specs.AgreeingNames.{IsPlainName, IsBoundOutsideWith}
+use Rattle.language_ties.specs.Bound.{Bound, bound_by, is_bound_as, written}
+use Rattle.language_ties.specs.EcmaScript.{is_ecmascript}
+use Rattle.language_ties.specs.Environments.{Environment, is_made_for, has_parameter_expressions, environments, innermost, first_taking, environment_or}
+use Rattle.language_ties.specs.SharedSymbols.{AllKeepClear}
+use Rattle.language_ties.specs.declared.bound_as.BoundAs.TheVariants as bound
+use Rattle.language_ties.specs.declared.environment_kind.EnvironmentKind.TheVariants as environment
+use Rattle.language_ties.proofs.UndeclaredNames.{each_identifier}
+use Rattle.language_ties.proofs.agree.Answers.{symbol_of, has_symbol, answers}
+use Rattle.language_ties.proofs.agree.KnownBounds.{some_is, KnownBound, bodiless}
+use Rattle.language_ties.proofs.agree.KnownNodes.{node_at}
+use Rattle.language_ties.proofs.clear.SingleNames.{identifier_of, same_declaration, declared_once}
+use Rattle.language_ties.proofs.headers.Paired.{by_kind}
+use Rattle.language_ties.proofs.headers.Sides.{is_parameters, Side, TakingSide, Sides, SidesAt, sides_program}
+use Rattle.language_ties.proofs.own_names.AnyBounds.{AnyBound, any_bound, IsDeclared, is_declared, declared_known}
+use Rattle.language_ties.proofs.own_names.OwnBounds.{IsOfExpression, OwnBound, own_maker}
+use Rattle.language_ties.proofs.own_names.OwnSymbols.{one_name}
+use Rattle.language_ties.proofs.shared.HomesShared.{is_made, until_among, until_stays, at_header}
+use Rattle.language_ties.proofs.shared.Runs.{SharedAtLast}
+use Rattle.language_ties.proofs.shared.Shared.{IsNowIn, IsBoundNow, BoundBy}
+use Rattle.language_ties.proofs.symbols.OneSymbol.{each_at}
+use Rattle.language_ties.proofs.symbols.ScopeOpeners.{openers, IsOpened, one_scope}
+
+never : true ≡ false → ⊥
+never h = absurd cc
+
+-- ---- lists
+
+filter_among : {A : Type 0} → (test : A → Bool) (xs : List A) (x : A) → Among x (filter test xs) → Among x xs × (test x ≡ true)
+filter_among test [] x a = absurd a
+filter_among test (y ∷ xs) x a = go (test y) refl a (filter_among test xs x)
+  where
+    go : (b : Bool) → test y ≡ b → Among x (cond b (y ∷ filter test xs) (filter test xs)) → (Among x (filter test xs) → Among x xs × (test x ≡ true)) → Among x (y ∷ xs) × (test x ≡ true)
+    go true e (inl q) later = (inl q, subst (λ z. test z ≡ true) q e)
+    go true e (inr i) later = let w : Among x xs × (test x ≡ true) = later i in (inr w.0, w.1)
+    go false e i later = let w : Among x xs × (test x ≡ true) = later i in (inr w.0, w.1)
+
+among_filter : {A : Type 0} → (test : A → Bool) (xs : List A) (x : A) → Among x xs → test x ≡ true → Among x (filter test xs)
+among_filter test [] x a t = absurd a
+among_filter test (y ∷ xs) x a t = go (test y) refl a (λ b. among_filter test xs x b t)
+  where
+    go : (b : Bool) → test y ≡ b → Among x (y ∷ xs) → (Among x xs → Among x (filter test xs)) → Among x (cond b (y ∷ filter test xs) (filter test xs))
+    go true e (inl q) later = inl q
+    go true e (inr i) later = inr (later i)
+    go false e (inl q) later = absurd (never (sym (subst (λ z. test z ≡ true) (sym q) t) ∙ e))
+    go false e (inr i) later = later i
+
+-- ---- what is declared before the header ends
+
+-- it stands in the header, or is an own name
+before_cut : (c : ℕ) {es : List Event} → Cut c es → (d : Declaration) → Among d (declarations (until_end_of c es)) → d.route.target.number ≡ c → stands_before_body c d ≡ true
+before_cut c no_end d a q = absurd a
+before_cut c (ended k es i b) d a q = absurd (subst (λ t. Among d (declarations (cond t [] (ends_header k ∷ until_end_of c es)))) i a)
+before_cut c (not_yet e es i b cut) d a q = go e b (subst (λ t. Among d (declarations (cond t [] (e ∷ until_end_of c es)))) i a) (λ z. before_cut c cut d z q)
+  where
+    number : (d.route.target.number == c) ≡ false → ⊥
+    number w = elim (eqb_tells d.route.target.number c) [ inl u ↦ never (sym u.0 ∙ w) | inr u ↦ u.1 q ]
+
+    go : (f : Event) → IsBefore c f → Among d (declarations (f ∷ until_end_of c es)) → (Among d (declarations (until_end_of c es)) → stands_before_body c d ≡ true) → stands_before_body c d ≡ true
+    go (declares f) (inl w) (inl u) later = subst (λ z. stands_before_body c z ≡ true) u w.counts
+    go (declares f) (inr w) (inl u) later = absurd (number (subst (λ z. (z.route.target.number == c) ≡ false) u (w (λ n. false)).0))
+    go (declares f) w (inr u) later = later u
+    go (takes_over k l) w u later = later u
+    go (ends_header k) w u later = later u
+
+-- ---- headers that are still to end
+
+match_at : (aw : List ℕ) (chain : List OpenScope) (s : OpenScope) → AllMatch aw chain → Among s chain → s.in_header ≡ contains aw s.number
+match_at aw [] s h a = absurd a
+match_at aw (t ∷ chain) s h (inl e) = subst (λ (o : OpenScope). o.in_header ≡ contains aw o.number) e h.0
+match_at aw (t ∷ chain) s h (inr a) = match_at aw chain s h.1 a
+
+-- a header that holds a place is awaited where that stands
+place_awaits : (q : Place) (s : OpenScope) (aw : List ℕ) (ss : List Step) → AreMatched aw ss → Among (entering q) ss → Among s q.chain → is kind.BindingIdentifier q.node ≡ false → s.in_header ≡ true → WillAwait s.number aw ss
+place_awaits q s aw [] m a b n i = absurd a
+place_awaits q s aw (step ∷ ss) m (inl e) b n i = inl (sym (match_at aw q.chain s (subst (IsMatchedStep aw) e m.0 n) b) ∙ i)
+place_awaits q s aw (step ∷ ss) m (inr a) b n i = inr (place_awaits q s (awaiting_past aw step) ss m.1 a b n i)
+
+-- ---- a declaration and what binds its name
+
+target_side : (g : ℕ → Option Node) (chain passed : List OpenScope) (ds : List Environment) (o : Option OpenScope) (d : Option Environment) → TakingSide g o d → Side g (place.innermost chain) (innermost ds) → Side g (route_from chain passed o).target (environment_or (innermost ds) d)
+target_side g chain passed ds (Some s) (Some d) t h = t
+target_side g chain passed ds None None t h = h
+target_side g chain passed ds (Some s) None t h = absurd t
+target_side g chain passed ds None (Some d) t h = absurd t
+
+no_identifier : (s : SourceType) (q : Place) (b : Bound) → Among b (bound_by q.node.kind s q.node q.path) → is kind.BindingIdentifier q.node ≡ false
+no_identifier s q b a = go (same_kind q.node.kind kind.BindingIdentifier) refl
+  where
+    go : (t : Bool) → same_kind q.node.kind kind.BindingIdentifier ≡ t → same_kind q.node.kind kind.BindingIdentifier ≡ false
+    go false e = e
+    go true e = absurd (subst (λ k. Among b (bound_by k s q.node q.path)) (kind_is q.node.kind kind.BindingIdentifier e) a)
+
+module _ (p : Tree) (h : first_fault p ≡ None) (e : is_ecmascript p ≡ true) (numbered : IsNumbered p.root) (x : Name) (none : IsBoundOutsideWith p x) (clear : AllKeepClear x (declarations (events (steps p)))) (plain : IsPlainName p x) where
+  abbrev es : List Event
+  es = events (steps p)
+
+  abbrev final : State
+  final = run start es
+
+  abbrev ws : List Bound
+  ws = written p.source_type (steps p)
+
+  abbrev Known : Bound → Type 0
+  Known b = KnownBound p h e numbered x none plain b
+
+  abbrev Any : Bound → Type 0
+  Any b = AnyBound p h e numbered x none plain b
+
+  -- the scope where its declaration ends, with its environment
+  side_of : (b : Bound) → b.name ≡ x → (k : Known b) → Side (node_at p) k.declares.declaration.route.target b.environment
+  side_of b n k =
+      let q : Place = k.declares.place in
+      let apart : in_with_under q.path ≡ false = none q k.declares.entered b k.declares.binds n in
+      let both : Sides (node_at p) q.chain (environments q.node q.path) = each_at (SidesAt (node_at p)) (steps p) (entering q) (sides_program p h e numbered) k.declares.entered (no_identifier p.source_type q b k.declares.binds) apart in
+      elim (by_kind p.source_type q k.declares.declaration b q.node.kind k.declares.unmoved k.declares.told k.declares.binds) [
+        | inl w ↦ subst (λ d. Side (node_at p) k.declares.declaration.route.target d) (sym w.1) (subst (λ r. Side (node_at p) r.target (innermost (environments q.node q.path))) (sym w.0) both.inner)
+        | inr w ↦ subst (λ d. Side (node_at p) k.declares.declaration.route.target d) (sym w.1)
+            (subst (λ r. Side (node_at p) r.target (environment_or (innermost (environments q.node q.path)) (first_taking (environments q.node q.path)))) (sym w.0)
+            (target_side (node_at p) q.chain (passed_before is_var q.chain) (environments q.node q.path) (first_with is_var q.chain) (first_taking (environments q.node q.path)) both.taking both.inner))
+      ]
+
+  -- ---- what a declaration binds
+
+  record IsOf (d : Declaration) : Type 0 where
+    bind : Bound
+    any : Any bind
+    among : Among bind ws
+    named : bind.name ≡ x
+    is_it : d ≡ (is_declared p h e numbered x none plain bind any).declaration
+
+  is_of : (d : Declaration) → Among d (declarations es) → d.naming.name ≡ x → IsOf d
+  is_of d a name =
+      let (b, w, n, i) = each_identifier p.source_type x (λ j. (b : Bound) × Among b ws × (b.name ≡ x) × (b.identifier ≡ j)) p h e (λ b w n. (b, w, n, refl)) d a name in
+      let k : Any b = any_bound p h e numbered x none plain b w n in
+      let v : IsDeclared p h e numbered x none plain b = is_declared p h e numbered x none plain b k in
+      let one : identifier_of d ≡ identifier_of v.declaration = sym i ∙ sym v.identifier in
+      record { bind = b; any = k; among = w; named = n; is_it = same_declaration d v.declaration (declarations es) a v.among one (declared_once p (identifier_of d) h numbered) }
+
+  -- the symbol that it is made with
+  symbol_is_at : (m : Made) → Among m final.made → (i : ℕ) → m.declaration.naming.identifier ≡ i → symbol_at (analysis_of p) i ≡ Some m.symbol
+  symbol_is_at m a i q = subst (λ j. symbol_at (analysis_of p) j ≡ Some m.symbol) q (symbols_are_at_nodes p h numbered m a)
+
+  -- ---- the scope of an opener, as its header ends
+
+  module _ (s : OpenScope) (opened : IsOpened (openers (steps p)) s) (awaited : WillAwait s.number [] (steps p)) where
+    abbrev last : State
+    last = run start (until_end_of s.number es)
+
+    events_cut : Cut s.number es
+    events_cut = cut_program p s.number h awaited
+
+    cut : IsCutAt s.number start es
+    cut = cut_at s.number (table_of p) start events_cut (orderly_events p (has_form p h)) (sound_start (table_of p)) start_is_sound (header_start s.number)
+
+    -- what counts is made before the header ends
+    made_before : (m : Made) → Among m final.made → is_before_body s.number x m ≡ true → Among m last.made
+    made_before m a t =
+        let there : Among m (filter (is_before_body s.number x) last.made) = subst (Among m) (cut.same x) (among_filter (is_before_body s.number x) final.made m a t) in
+        (filter_among (is_before_body s.number x) last.made m there).0
+
+    shared : SharedAtLast (table_of p) (root_body p (has_form p h)) (nearest p) x last
+    shared = at_header p h e x clear s.number
+
+    at_target : (d : Declaration) (y : ℕ) → d.route.target.body ≡ None → d.route.target.number ≡ s.number → IsBoundNow (table_of p) x last.bindings d y → get last.bindings s.number x ≡ Some y
+    at_target d y b q (inl g) = subst (λ c. get last.bindings c x ≡ Some y) q g
+    at_target d y b q (inr g) = absurd (no_number g.0 (sym b ∙ g.1))
+      where
+        no_number : (n : ℕ) → None ≡ Some n → ⊥
+        no_number n w = absurd cc
+
+    -- what the scope binds then is declared by what binds the name there, and not in the body's environment
+    record IsSeen (y : ℕ) : Type 0 where
+      made : Made
+      among : Among made final.made
+      tells : IsOf made.declaration
+      symbol : made.symbol ≡ y
+      maker : tells.bind.environment.maker ≡ s.opener
+      outside : is_made_for environment.Body tells.bind.environment ≡ false
+
+    own_outside : (b : Bound) → OwnBound p h x b → is_made_for environment.Body b.environment ≡ false
+    own_outside b o = go o.named_by.sort
+      where
+        go : IsOfExpression o.place.node b.environment → is_made_for environment.Body b.environment ≡ false
+        go (inl w) = ap (is_made_for environment.Body) w.1
+        go (inr w) = ap (is_made_for environment.Body) w.1
+
+    same_maker : (d : Declaration) (w : IsOf d) → d.route.target.number ≡ s.number → w.bind.environment.maker ≡ s.opener
+    same_maker d w q =
+        let v : IsDeclared p h e numbered x none plain w.bind = is_declared p h e numbered x none plain w.bind w.any in
+        let number : v.declaration.route.target.number ≡ s.number = sym (ap (λ z. z.route.target.number) w.is_it) ∙ q in
+        sym v.maker ∙ some_is v.declaration.route.target.opener s.opener (sym v.opened ∙ ap (slice_get (openers (steps p))) number ∙ opened)
+
+    outside_of : (d : Declaration) (w : IsOf d) → stands_before_body s.number d ≡ true → is_made_for environment.Body w.bind.environment ≡ false
+    outside_of d w t = by w.any w.is_it
+      where
+        by : (k : Any w.bind) → d ≡ (is_declared p h e numbered x none plain w.bind k).declaration → is_made_for environment.Body w.bind.environment ≡ false
+        by (inr o) q = own_outside w.bind o
+        by (inl k) q =
+            let same : d ≡ k.declares.declaration = q ∙ declared_known p h e numbered x none plain w.bind k in
+            let header : d.route.target.in_header ≡ true = go d.route.target.in_header (is_own_name d) (and_second (d.route.target.number == s.number) (d.route.target.in_header || is_own_name d) t) (ap is_own_name same ∙ k.declares.visible) in
+            (side_of w.bind w.named k).outside (sym (ap (λ z. z.route.target.in_header) same) ∙ header)
+          where
+            go : (u v : Bool) → (u || v) ≡ true → v ≡ false → u ≡ true
+            go true v i j = refl
+            go false v i j = absurd (never (sym i ∙ j))
+
+    seen : (y : ℕ) → get last.bindings s.number x ≡ Some y → IsSeen y
+    seen y g =
+        let w : BoundBy (table_of p) x shared.0 shared.1 last.made s.number y = shared.2.bound s.number y g in
+        let before : Among w.made.declaration (declarations (until_end_of s.number es)) = elim (made_declared w.made start (until_end_of s.number es) w.among) [ inl i ↦ absurd i | inr i ↦ i ] in
+        let tells : IsOf w.made.declaration = is_of w.made.declaration (until_among s.number es w.made.declaration before) w.named in
+        let number : w.made.declaration.route.target.number ≡ s.number = now w.made.declaration tells w.now in
+        record {
+          made = w.made;
+          among = until_made w.made w.among;
+          tells = tells;
+          symbol = w.symbol;
+          maker = same_maker w.made.declaration tells number;
+          outside = outside_of w.made.declaration tells (before_cut s.number events_cut w.made.declaration before number);
+        }
+      where
+        no_number : None ≡ Some s.number → ⊥
+        no_number w = absurd cc
+
+        now : (d : Declaration) (w : IsOf d) → IsNowIn (table_of p) x d s.number → d.route.target.number ≡ s.number
+        now d w (inl q) = q
+        now d w (inr q) = absurd (no_number (sym (is_declared p h e numbered x none plain w.bind w.any).bodiless ∙ sym (ap (λ z. z.route.target.body) w.is_it) ∙ q.0))
+
+        until_made : (m : Made) → Among m last.made → Among m final.made
+        until_made m a = until_stays m start es s.number a
+
+    -- where the opener binds the name at most in the body's own environment, the header sees nothing
+    pub silent : ((b : Bound) → Among b ws → b.name ≡ x → b.environment.maker ≡ s.opener → is_made_for environment.Body b.environment ≡ false → ⊥) → get last.bindings s.number x ≡ None
+    silent apart = go (get last.bindings s.number x) refl
+      where
+        go : (o : Option ℕ) → get last.bindings s.number x ≡ o → get last.bindings s.number x ≡ None
+        go None g = g
+        go (Some y) g = let w : IsSeen y = seen y g in absurd (apart w.tells.bind w.tells.among w.tells.named w.maker w.outside)
+
+    same_number : (a c : ℕ) → a ≡ c → (a == c) ≡ true
+    same_number a c i = elim (eqb_tells a c) [ inl j ↦ j.0 | inr j ↦ absurd (j.1 i) ]
+
+    counts : (d : Declaration) (y : ℕ) → d.route.target.number ≡ s.number → (d.route.target.in_header || is_own_name d) ≡ true → d.naming.name ≡ x → is_before_body s.number x (record { declaration = d; symbol = y }) ≡ true
+    counts d y q v n = rw (same_number d.route.target.number s.number q, v, same_name d.naming.name n) refl
+      where
+        same_name : (z : Name) → z ≡ x → bytes_eq z x ≡ true
+        same_name z i = elim (name_tells z x) [ inl j ↦ j.0 | inr j ↦ absurd (j.1 i) ]
+
+    -- where the parameters have an expression and bind it, the header sees what the scope binds in the end
+    pub answers_too : (b : Bound) (k : Known b) → b.name ≡ x → s.opener ≡ b.environment.maker → is_parameters b.environment ≡ true → ((f : Node) → node_at p b.environment.maker ≡ Some f → has_parameter_expressions f ≡ true) → get last.bindings s.number x ≡ get final.bindings s.number x
+    answers_too b k n q parameters expressions =
+        let d : Declaration = k.declares.declaration in
+        let (y, made) = is_made d start es k.declares.among in
+        let m : Made = record { declaration = d; symbol = y } in
+        let number : d.route.target.number ≡ s.number = one_scope p numbered d.route.target s k.declares.opened opened (k.declares.maker ∙ sym q) in
+        let header : d.route.target.in_header ≡ true = (side_of b n k).inside parameters expressions in
+        let there : Among m last.made = made_before m made (counts d y number (rw header refl) k.declares.named) in
+        let here : get last.bindings s.number x ≡ Some y = at_target d y (bodiless p h e numbered x none plain b k) number (shared.2.declared m there k.declares.named k.declares.visible) in
+        let symbol : symbol_at (analysis_of p) b.identifier ≡ Some y = symbol_is_at m made b.identifier k.declares.identifier in
+        let same : y ≡ symbol_of p h e numbered x none clear plain b k = some_is y (symbol_of p h e numbered x none clear plain b k) (sym symbol ∙ has_symbol p h e numbered x none clear plain b k) in
+        here ∙ ap Some same ∙ sym (answers p h e numbered x none clear plain b k s opened q)
+
+    -- the header sees a function's own name, where the parameters don't bind it
+    pub own_answers : (b : Bound) (k : OwnBound p h x b) → s.opener ≡ k.place.node.node_id → k.place.node.kind ≡ kind.Function → ((c : Bound) → Among c ws → c.name ≡ x → is_bound_as bound.OwnName c ≡ false → c.environment.maker ≡ s.opener → is_made_for environment.Body c.environment ≡ false → ⊥) → (y : ℕ) × (get last.bindings s.number x ≡ Some y) × (symbol_at (analysis_of p) b.identifier ≡ Some y)
+    own_answers b k q f apart =
+        let d : Declaration = k.declaration in
+        let (r, made) = is_made d start es k.among in
+        let m : Made = record { declaration = d; symbol = r } in
+        let own : is_own_name d ≡ true = k.hidden ∙ ap (λ i. same_kind i kind.Function) f in
+        let number : d.route.target.number ≡ s.number = ap (λ t. t.number) k.target ∙ one_scope p numbered k.scope s k.opened opened (k.opener ∙ sym q) in
+        let there : Among m last.made = made_before m made (counts d r number (or_own d.route.target.in_header (is_own_name d) own) k.named) in
+        let (y, now) = shared.2.hidden m there k.named own in
+        let here : get last.bindings s.number x ≡ Some y = at_target d y (ap (λ t. t.body) k.target ∙ k.bodiless) number now in
+        let w : IsSeen y = seen y here in
+        (y, here, by w w.tells.any w.tells.is_it)
+      where
+        or_own : (u v : Bool) → v ≡ true → (u || v) ≡ true
+        or_own true v i = refl
+        or_own false v i = i
+
+        by : {y : ℕ} (w : IsSeen y) (v : Any w.tells.bind) → w.made.declaration ≡ (is_declared p h e numbered x none plain w.tells.bind v).declaration → symbol_at (analysis_of p) b.identifier ≡ Some y
+        by w (inl v) i = absurd (apart w.tells.bind w.tells.among w.tells.named v.no_own w.maker w.outside)
+        by w (inr v) i =
+            let identifier : w.made.declaration.naming.identifier ≡ w.tells.bind.identifier = ap identifier_of i ∙ (is_declared p h e numbered x none plain w.tells.bind (inr v)).identifier in
+            let same : w.tells.bind.identifier ≡ b.identifier = one_name p h e numbered x w.tells.bind b v k (sym (own_maker p h x w.tells.bind v) ∙ w.maker ∙ q) f in
+            symbol_is_at w.made w.among b.identifier (identifier ∙ same) ∙ ap Some w.symbol
+
+  -- a header that holds a place
+  pub awaits : (q : Place) (s : OpenScope) → Among (entering q) (steps p) → Among s q.chain → is kind.BindingIdentifier q.node ≡ false → s.in_header ≡ true → WillAwait s.number [] (steps p)
+  awaits q s a b n i = place_awaits q s [] (steps p) (program_matched p h) a b n i

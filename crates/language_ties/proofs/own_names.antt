@@ -1,0 +1,7 @@
+-- Own names of function and class expressions.
+pub mod OpenedNodes
+pub mod OwnIds
+pub mod PassedClasses
+pub mod OwnBounds
+pub mod AnyBounds
+pub mod OwnSymbols
