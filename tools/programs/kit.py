@@ -28,8 +28,8 @@ class Kit:
             raise Unbuilt(f"`rt {what}` ends with status {ran.returncode}: {ran.stderr.strip()}")
         return ran.stdout.strip()
 
-    def rattle(self):
-        return [f"{self.at}/bin/rattle", "build"]
+    def rattle(self, what):
+        return [f"{self.at}/bin/rattle", what]
 
     def library(self, name):
         return f"{name}={self.at}/rlibs/{name}.rlib"

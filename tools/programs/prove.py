@@ -97,8 +97,8 @@ class Crate:
     def is_ready(self):
         return not self.is_done and not self.running and all(it.is_done for it in self.below)
 
-    def words(self, jobs):
-        """The words of the call that proves the crate and makes what is made of it."""
+    def words_of_check(self, jobs):
+        """The words of a call that checks the crate over those below it."""
         words = ["--crate-name", self.name, "src/main.rt" if self.is_program else "src/lib.rt"]
         ours = {it.name: it for it in self.below}
         for name in ["std", *self.libraries]:
@@ -106,11 +106,16 @@ class Crate:
         words += ["-L", f"dependency={self.kit.at}/rlibs"]
         for it in self.below:
             words += ["-L", f"dependency={it.out}"]
-        words += [*self.kit.logic(), "--jobs", str(jobs)]
+        words += ["--crate-type", "staticlib"] if self.is_static else []
+        return [*words, *self.kit.logic(), "--jobs", str(jobs)]
+
+    def words(self, jobs):
+        """The words of the call that proves the crate and makes what is made of it."""
+        words = self.words_of_check(jobs)
         if self.is_program:
             return [*words, *self.kit.toolchain(), "-o", f"{self.made()}.o"]
         if self.is_static:
-            return [*words, "--crate-type", "staticlib", *self.kit.toolchain(), "-o", self.made()]
+            return [*words, *self.kit.toolchain(), "-o", self.made()]
         return [*words, "--statements", "-o", self.made()]
 
     def start(self, jobs):
@@ -122,7 +127,7 @@ class Crate:
         shutil.rmtree(f"{self.out}/{self.name}.rlib", ignore_errors=True)
         self.begun = time.monotonic()
         self.jobs, self.log = jobs, tempfile.TemporaryFile("w+", errors="replace")
-        self.running = start([*self.kit.rattle(), *self.words(jobs)], cwd=self.at, stdout=self.log, stderr=subprocess.STDOUT)
+        self.running = start([*self.kit.rattle("build"), *self.words(jobs)], cwd=self.at, stdout=self.log, stderr=subprocess.STDOUT)
 
     def elapsed(self):
         return time.monotonic() - self.begun
