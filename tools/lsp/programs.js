@@ -6,7 +6,7 @@ const { Pool } = require('../programs/pool.js');
 
 const TOOLS = ['report', 'name_lint', 'renamer'];
 
-// As many answers as are waited for at once, and as many beside them that a change has made void.
+// As many as there are answers that are waited for at once, and as many that stand ready for those that a change makes void.
 const SIDE_BY_SIDE = 4;
 
 const INFO = 3;
@@ -27,10 +27,11 @@ function prepareFirst(told) {
 
 let pool = null;
 
-// The run of a tool on a tree, in the form of `runTool`; `sent()` hears that the program has the tree.
+// The run of a tool on a tree, in the form of `runTool`; `sent()` hears that the program has the tree. While it answers others are
+// started in the place of those that were ended, which takes as long as many an answer.
 function runBeside(tool, words, input, sent) {
   pool ??= new Pool({ size: SIDE_BY_SIDE, programs: programsFor(TOOLS) });
-  return pool.run(tool, words, input, sent);
+  return pool.run(tool, words, input, () => { sent(); setImmediate(() => pool.standReady()); });
 }
 
 // Has the programs drop what they are at.

@@ -35,7 +35,7 @@ class Pool {
 
   // The program that has least to do, or one more where all have enough.
   idlest() {
-    const best = this.served.reduce((one, other) => (other.waiting.length < one.waiting.length ? other : one), this.served[0]);
+    const best = this.served.reduce((one, other) => (other.load < one.load ? other : one), this.served[0]);
     if (best !== undefined && (best.waiting.length < this.enough || this.served.length === this.size)) {
       return best;
     }
@@ -49,6 +49,14 @@ class Pool {
     const { crate, words: own } = servedBy(tool);
     const all = [...own, ...words];
     return crate === SERVING ? this.idlest().run(all, input, sent) : runOnce(this.programs[crate], all, input);
+  }
+
+  // Has as many programs stand ready as there may be.
+  standReady() {
+    while (this.served.length < this.size) {
+      this.served.push(new Served(this.programs[SERVING]));
+    }
+    this.served.forEach((program) => program.stand());
   }
 
   // Drops all that programs that stay are asked.

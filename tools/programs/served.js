@@ -7,6 +7,7 @@ const { AnswerReader, requestHead } = require('./frames.js');
 
 const NOTHING = Buffer.alloc(0);
 const UNHEARD = () => {};
+const START = 0.5; // requests
 
 class Served {
   constructor(program) {
@@ -17,11 +18,8 @@ class Served {
 
   // The run of a tool on an input, in the form of `runTool`; `sent()` hears that the program has the input.
   run(words, input, sent = UNHEARD) {
-    if (this.waiting.length > 0 && this.waiting.every(({ isDropped }) => isDropped)) {
-      this.leave();
-    }
     return new Promise((resolve, reject) => {
-      const request = { words, input, sent, resolve, reject, isDropped: false };
+      const request = { words, input, sent, resolve, reject };
       this.waiting.push(request);
       if (this.child === null) {
         this.start();
@@ -29,6 +27,18 @@ class Served {
         this.send(request);
       }
     });
+  }
+
+  // How many requests a further one waits for. To start the program is less than an answer.
+  get load() {
+    return this.waiting.length + (this.child === null ? START : 0);
+  }
+
+  // Has the program stand ready for the first request.
+  stand() {
+    if (this.child === null) {
+      this.start();
+    }
   }
 
   // Starts the program, which gets all that waits.
@@ -85,21 +95,14 @@ class Served {
     this.waiting.splice(0).forEach(({ reject }) => reject(fault));
   }
 
-  // Drops what waits: nobody wants the answers any more. The program goes on with it until it is asked again: to end it and to start
-  // another one takes as long as many an answer.
+  // Drops what waits, and ends the program that is at work: nobody wants the answers any more.
   abandon() {
-    for (const request of this.waiting) {
-      request.isDropped = true;
-      request.reject(new RunFault('nobody wants the answer any more'));
+    if (this.waiting.length > 0) {
+      const { child } = this;
+      this.child = null;
+      this.fail(new RunFault('nobody wants the answer any more'));
+      child.kill('SIGKILL');
     }
-  }
-
-  // Ends the program with all that waits.
-  leave() {
-    const { child } = this;
-    this.child = null;
-    this.waiting = [];
-    child.kill('SIGKILL');
   }
 
   // Has the program end once it has answered what waits.

@@ -8,7 +8,8 @@ const { readText } = require('./input');
 
 // An ESTree of another tool is taken, too.
 const CHOICES = { '--parser': [...PARSERS, 'estree'], '--goal': GOALS, '--parsers': null, '--source': null };
-const USAGE = `usage: main.js [--parser ${CHOICES['--parser'].join('|')}] [--goal ${GOALS.join('|')}] [--parsers FOLDER] [--source FILE] [--time] FILE`;
+const [PARSER, GOAL] = ['--parser', '--goal'].map((word) => `[${word} ${CHOICES[word].join('|')}]`);
+const USAGE = `usage: main.js ${PARSER} ${GOAL} [--parsers FOLDER] [--source FILE] [--time] FILE`;
 
 function optionsOf(words) {
   const options = { time: false };

@@ -2,6 +2,8 @@
 // What the commands say to words: the words, and the status, the lines of standard output and those of standard error that are
 // wanted. A text is the whole of them, a pattern is somewhere in them; what isn't named may be anything.
 
+const { parsersIn } = require('../source-to-tree/ways/babel.js');
+
 // A case: `name`, `words`, and `status`, `out`, `err`; `input` is standard input, `env` more variables, `cwd` the folder.
 const WORDS = [
   { name: 'help', words: ['--help'], status: 0, out: /Commands:\n {2}check/, err: '' },
@@ -28,10 +30,6 @@ const WORDS = [
   { name: 'a binary file', words: ['check', 'binary.js'], status: 1, out: /^binary.js:1:5: not UTF-8 at byte 4 {2}syntax\n/, err: '' },
   { name: 'Latin-1', words: ['check', 'latin1.js'], status: 1, out: /^latin1.js:1:7: not UTF-8 at byte 6 {2}syntax\n/, err: '' },
   { name: 'a byte order mark', words: ['check', 'marked.mjs'], status: 1, out: /^marked.mjs:1:5: variable 'lone' is never used/, err: '' },
-  { name: "Babel's parser", words: ['check', '--parser', 'babel', 'clean.mjs'], status: 0, out: '1 file, nothing found\n', err: '' },
-  { name: "tables by Babel's parser", words: ['tables', '--parser', 'babel', 'clean.mjs'], status: 0, out: /^scope 0 /, err: '' },
-  { name: "a page by Babel's parser", words: ['scopes', '--parser', 'babel', 'clean.mjs'], status: 0, out: /^<!doctype html>/i, err: '' },
-  { name: "a renaming by Babel's parser", words: ['rename', '--parser', 'babel', 'found.mjs:lone', 'other'], status: 0, out: /\n\+let other;\n/, err: '' },
   { name: 'JSX', words: ['check', 'page.jsx'], status: 0, out: '1 file, nothing found\n', err: '' },
   { name: 'JSX in a file of JavaScript', words: ['check', 'page.js'], status: 0, out: '1 file, nothing found\n', err: '' },
   { name: 'a tree that is too deep', words: ['check', 'deep.js'], status: 3, err: 'deep.js: too deep: its tree has more than 1,000 levels\n' },
@@ -92,4 +90,14 @@ const WORDS = [
   { name: 'an empty known name', words: ['lint-names', '--known', ',', 'clean.mjs'], status: 0 },
 ];
 
-module.exports = { WORDS };
+// What is tried where Babel's parser is there.
+const BY_BABEL = [
+  { name: "Babel's parser", words: ['check', '--parser', 'babel', 'clean.mjs'], status: 0, out: '1 file, nothing found\n', err: '' },
+  { name: "tables by Babel's parser", words: ['tables', '--parser', 'babel', 'clean.mjs'], status: 0, out: /^scope 0 /, err: '' },
+  { name: "a page by Babel's parser", words: ['scopes', '--parser', 'babel', 'clean.mjs'], status: 0, out: /^<!doctype html>/i, err: '' },
+  { name: "a renaming by Babel's parser", words: ['rename', '--parser', 'babel', 'found.mjs:lone', 'other'], status: 0, out: /\n\+let other;\n/, err: '' },
+];
+
+const [babel] = parsersIn(__dirname);
+
+module.exports = { WORDS: babel === undefined ? WORDS : [...WORDS, ...BY_BABEL] };
