@@ -13,7 +13,7 @@ const { PROGRAMS } = require('./rules.js');
 const BUSY_PROGRAMS = 2;
 
 // What a thread more is worth: it has to compile all code anew, which takes as long as a fraction of so many bytes do.
-const BYTES_A_THREAD = 5 << 20;
+const BYTES_A_THREAD = 8 << 20;
 
 function sizeOf(file) {
   return fs.statSync(file, { throwIfNoEntry: false })?.size ?? 0;

@@ -11,6 +11,7 @@ const { checkDialects } = require('./dialects');
 const { checkAges } = require('./ages');
 const { checkChanging } = require('./changing');
 const { checkParsers } = require('./parsers');
+const { checkWarmUp } = require('./warm-up');
 const { checkTest262 } = require('./test262');
 const { checkTypeScript } = require('./typescript-cases');
 const { Files } = require('./files');
@@ -61,6 +62,7 @@ function checkAll(tally, words) {
   checkAges(tally);
   checkChanging(tally);
   checkParsers(tally);
+  checkWarmUp(tally);
   console.log(`${checkStored(tally)} stored trees`);
   const files = new Files(tally);
   for (const file of filesOf(words)) files.check(file);

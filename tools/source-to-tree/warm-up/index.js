@@ -4,20 +4,23 @@
 
 const fs = require('fs');
 const path = require('path');
-const { Refusal } = require('../refusal');
 const { treeOf } = require('../convert');
 
+// The texts, with their goals.
 const TEXTS = [['script.txt', 'script'], ['module.txt', 'module']];
 
-// With the parser for the files of a folder. An old one refuses what it doesn't know, and has met what stands before that.
+const textOf = (file) => fs.readFileSync(path.join(__dirname, file), 'utf8');
+
+// With the parser for the files of a folder. An old one refuses what it doesn't know, and has met what stands before that; what else goes
+// wrong here does so with a file, too, where it is told.
 function warmUp(folder) {
   for (const [file, goal] of TEXTS) {
     try {
-      treeOf(fs.readFileSync(path.join(__dirname, file), 'utf8'), { filename: path.join(folder, 'text.js'), parser: 'acorn', goal });
-    } catch (error) {
-      if (!(error instanceof Refusal)) throw error;
+      treeOf(textOf(file), { filename: path.join(folder, 'text.js'), parser: 'acorn', goal });
+    } catch {
+      continue;
     }
   }
 }
 
-module.exports = { warmUp };
+module.exports = { TEXTS, textOf, warmUp };
