@@ -15,13 +15,13 @@ module _ {K : Type 0} (Offered : Offering K) (Answers : List (String Global) →
   -- a fault before anything is offered
   pub stops_before : (a : K) (result : Result (Option Unit) ServeFault) (why : ServeFault) → IsErrAnd result (λ told. told ≡ why) → OffersAnswer Offered Answers a a result
   stops_before a (Err told) why same = inl refl
-  stops_before a (Ok done) why same = absurd same
+  stops_before a (Ok turn) why same = absurd same
 
   -- a fault while an answer is offered
   pub stops_within : (a b : K) (asked text input bytes : List ℕ) (why : ServeFault) (result : Result (Option Unit) ServeFault)
       → IsRequest asked text input → ((answer : Answer) × IsAnswerTo Answers text input answer × (answer_bytes answer ≡ bytes)) → OffersPart Offered a bytes b → IsErrAnd result (λ told. told ≡ why) → OffersAnswer Offered Answers a b result
   stops_within a b asked text input bytes why (Err told) request answer part same = inr (bytes, some_answer asked text input bytes request answer, part)
-  stops_within a b asked text input bytes why (Ok done) request answer part same = absurd same
+  stops_within a b asked text input bytes why (Ok turn) request answer part same = absurd same
 
   -- an answer is offered
   pub offers_one : (a b : K) (asked text input bytes : List ℕ) (u : Unit) → IsRequest asked text input → ((answer : Answer) × IsAnswerTo Answers text input answer × (answer_bytes answer ≡ bytes)) → OffersUntil Offered a bytes b [] → OffersAnswer Offered Answers a b (Ok (Some u))

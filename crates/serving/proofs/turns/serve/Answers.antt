@@ -1,9 +1,10 @@
-use Rattle.std.proofs.Common.{subst, ◌∙◌, refl, arith}
+use Rattle.std.proofs.Common.{ap, Ok, subst, ◌∙◌, refl, arith}
 use Rattle.serving.specs.Serving.{Turn, OffersAnswer}
 use Rattle.serving.proofs.Steps.{stopped_by}
 use Rattle.serving.proofs.Exchanges.{served_none, served_more, served_some, served_most}
 use Rattle.serving.proofs.Offering.{none_yet, one_more, no_more, stopped, too_many}
 use Rattle.serving.proofs.Wholes.{only_memory}
+use Rattle.serving.specs.declared.fault.ServeFault.TheVariants as fault
 use Rattle.serving.proofs.turns.serve.Goals as goal
 
 pub loop-init : goal.loop-init
@@ -41,4 +42,4 @@ pub returns-in_err-serve_one-clause-pieces : goal.returns-in_err-serve_one-claus
 returns-in_err-serve_one-clause-pieces g c = stopped g.K.Sink.Offered _ _ _ _ _ c.in_err-serve_one.field-0.0 c.from_residual.result c.loop.invariant.4 c.in_err-serve_one.ensures.pieces c.from_residual.ensures.1
 
 pub returns-clause-pieces : goal.returns-clause-pieces
-returns-clause-pieces g c = too_many g.K.Sink.Offered _ _ _ _ c.loop.invariant.4
+returns-clause-pieces g c = too_many g.K.Sink.Offered _ _ _ fault.TooMany c.loop.invariant.4
