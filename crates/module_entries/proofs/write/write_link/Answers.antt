@@ -6,4 +6,4 @@ pub returns-in_err-make_link_line : goal.returns-in_err-make_link_line
 returns-in_err-make_link_line g c = lacks_memory_at_once g.K.Sink.held g.K.Sink.faults c.args.out.now _ c.from_residual.result c.from_residual.ensures.1
 
 pub returns : goal.returns
-returns g c = writes_line g.K.Sink.held g.K.Sink.faults _ _ _ _ _ c.offer.ensures.written c.offer.ensures.pieces cc (_, _, refl)
+returns g c = writes_line g.K.Sink.held g.K.Sink.faults _ _ _ _ _ c.offer.ensures.written c.offer.ensures.pieces c.in_ok-make_link_line.ensures (_, _, refl)
