@@ -3,7 +3,8 @@ use Rattle.std.proofs.Common.{◌≡◌, ◌<◌, ℕ, ◌+◌, List, [], ◌∷
 use Rattle.std.specs.Result.{IsErrAnd}
 use Rattle.std.proofs.lemmas.List.{length-map}
 use denote.Bor.{Bor}
-use Rattle.report_ends.specs.Streams.{Writes, PartWritten}
+use Rattle.report_ends.specs.Offers.{Offering}
+use Rattle.report_ends.specs.Streams.{WritesLines, PartWritten}
 use Rattle.report_ends.specs.declared.error.ReportError.{ReportError}
 use Rattle.report_ends.proofs.Stages.{writing_goes_on, writing_fails, writing_ends}
 use Rattle.tree_json.specs.Views.{characters}
@@ -30,24 +31,24 @@ lines_end : (locals : List (Bor (List ℕ))) (links : List Link) (i : ℕ) → i
 lines_end locals links i e =
     lines_short (map characters (drop i locals)) (drop i links) (omega (arith, length-map (drop i locals) characters, length-drop i locals, length-drop i links, e))
 
-module _ {K : Type 0} (held : K → Option (List ℕ)) (faults : K → ℕ) (locals : List (Bor (List ℕ))) (links : List Link) where
+module _ {K : Type 0} (held : K → Option (List ℕ)) (faults : K → ℕ) {Offered : Offering K} {IsLine : List ℕ → Type 0} (locals : List (Bor (List ℕ))) (links : List Link) where
   module _ {P : Type 0} (ys : List P) (x : Bor (List ℕ)) (l : Link) (h : length ys < length locals) (k : length ys < length links) (named : x ≡ get_or locals (length ys) x) (linked : l ≡ get_or links (length ys) l) where
     split : link_line (characters x) l ++ left locals links (length ys + 1) ≡ left locals links (length ys)
     split = (λ j. link_line (characters (named j)) (linked j) ++ left locals links (length ys + 1)) ∙ line_turn locals links (length ys) x l h k
 
     -- a pair more
-    pub pair_goes_on : (p : P) (a b c : K) (text : List ℕ) (u : Unit) → PartWritten held faults a b (left locals links (length ys)) text → Writes held faults b c (link_line (characters x) l) (Ok u)
-        → PartWritten held faults a c (left locals links (length (ys ++ p ∷ []))) text
+    pub pair_goes_on : (p : P) (a b c : K) (text : List ℕ) (u : Unit) → PartWritten held faults Offered IsLine a b (left locals links (length ys)) text → WritesLines held faults Offered IsLine b c (link_line (characters x) l) (Ok u)
+        → PartWritten held faults Offered IsLine a c (left locals links (length (ys ++ p ∷ []))) text
     pair_goes_on p a b c text u before call =
         writing_goes_on held faults a b c (link_line (characters x) l) (left locals links (length (ys ++ p ∷ []))) (left locals links (length ys)) text u before call
         (ap (λ n. link_line (characters x) l ++ left locals links n) (length-append ys (p ∷ [])) ∙ split)
 
     -- its line isn't written
-    pub pair_fails : (a b c : K) (text : List ℕ) (error : ReportError) (result : Result Unit ReportError) → PartWritten held faults a b (left locals links (length ys)) text → Writes held faults b c (link_line (characters x) l) (Err error)
-        → IsErrAnd result (λ told. told ≡ error) → Writes held faults a c text result
+    pub pair_fails : (a b c : K) (text : List ℕ) (error : ReportError) (result : Result Unit ReportError) → PartWritten held faults Offered IsLine a b (left locals links (length ys)) text → WritesLines held faults Offered IsLine b c (link_line (characters x) l) (Err error)
+        → IsErrAnd result (λ told. told ≡ error) → WritesLines held faults Offered IsLine a c text result
     pair_fails a b c text error result before call same =
         writing_fails held faults a b c (link_line (characters x) l) (left locals links (length ys + 1)) (left locals links (length ys)) text error result before call split same
 
   -- no pair is left
-  pub pairs_end : (i : ℕ) (a b : K) (text : List ℕ) (u : Unit) → i ≡ min (length locals) (length links) → PartWritten held faults a b (left locals links i) text → Writes held faults a b text (Ok u)
-  pairs_end i a b text u e before = writing_ends held faults a b text u (subst (λ rest. PartWritten held faults a b rest text) (lines_end locals links i e) before)
+  pub pairs_end : (i : ℕ) (a b : K) (text : List ℕ) (u : Unit) → i ≡ min (length locals) (length links) → PartWritten held faults Offered IsLine a b (left locals links i) text → WritesLines held faults Offered IsLine a b text (Ok u)
+  pairs_end i a b text u e before = writing_ends held faults a b text u (subst (λ rest. PartWritten held faults Offered IsLine a b rest text) (lines_end locals links i e) before)

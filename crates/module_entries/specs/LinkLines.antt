@@ -1,5 +1,5 @@
 -- The lines on links.
-use Rattle.std.specs.Prelude.{ℕ, List, [], ◌∷◌, ◌++◌, map, codes, decimal}
+use Rattle.std.specs.Prelude.{◌≡◌, ℕ, List, [], ◌∷◌, ◌++◌, map, codes, decimal}
 use Rattle.std.specs.List.{concat}
 use Rattle.std.specs.Str.{encode_utf8_all}
 use Rattle.semantic_syntax.specs.Tables.{Name}
@@ -24,6 +24,10 @@ outcome_text Ambiguous = codes "ambiguous"
 -- the line on a link: the number of its module, its node, the name that the import binds, and what it comes to
 unfoldable pub link_line : Name → Link → List ℕ
 link_line local l = concat (codes "import " ∷ decimal l.module ∷ codes " " ∷ decimal l.node ∷ codes " " ∷ quoted (encode_utf8_all local) ∷ codes " " ∷ outcome_text l.outcome ∷ codes "\n" ∷ [])
+
+-- the text is one line on a link
+abbrev pub IsLinkLine : List ℕ → Type 0
+IsLinkLine text = (local : Name) × (l : Link) × (link_line local l ≡ text)
 
 -- the lines on links, whose imports bind the names
 abbrev pub lines_for : List Name → List Link → List ℕ

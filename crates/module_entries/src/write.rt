@@ -2,10 +2,10 @@
 ghost use Rattle.std.specs.Prelude.{◌≡◌, map};
 ghost use Rattle.std.specs.Str.{chars};
 ghost use Rattle.tree_json.specs.Views.{characters, IsSpelled};
-ghost use Rattle.report_ends.specs.Streams.{Writes};
+ghost use Rattle.report_ends.specs.Streams.{WritesLines};
 ghost use Rattle.link_model.specs.Module.{all_analysed};
 ghost use Rattle.link_model.specs.Outcome.{all_imports};
-ghost use Rattle.module_entries.specs.LinkLines.{link_line, lines_for, link_lines};
+ghost use Rattle.module_entries.specs.LinkLines.{link_line, lines_for, link_lines, IsLinkLine};
 
 use crate::line::make_link_line;
 use crate::locals::locals_of;
@@ -27,7 +27,8 @@ fn write_link<K: Sink>(
     link: &Link,
     out: &mut K,
 ) -> Result<(), ReportError>
-    ensures { Writes K.held K.faults out.old out.new (link_line (chars local.now) link.now) result }
+    ensures { WritesLines K.held K.faults K.Offered IsLinkLine out.old out.new
+        (link_line (chars local.now) link.now) result }
 {
     spell(local);
     make_link_line(line, local, link)?;
@@ -41,7 +42,7 @@ fn write_lines<K: Sink>(
     links: &[Link],
     out: &mut K,
 ) -> Result<(), ReportError>
-    ensures { Writes K.held K.faults out.old out.new
+    ensures { WritesLines K.held K.faults K.Offered IsLinkLine out.old out.new
         (lines_for (map characters locals.now) links.now) result }
 {
     let mut line = Line::new(alloc);
@@ -60,7 +61,7 @@ pub fn write_links<K: Sink>(
     links: &[Link],
     out: &mut K,
 ) -> Result<(), ReportError>
-    ensures { Writes K.held K.faults out.old out.new
+    ensures { WritesLines K.held K.faults K.Offered IsLinkLine out.old out.new
         (link_lines (all_imports (all_analysed modules.now)) links.now) result }
 {
     let locals = locals_of(alloc, modules.as_slice())?;

@@ -1,5 +1,5 @@
 -- The lines on unused symbols and on undeclared references.
-use Rattle.std.specs.Prelude.{ℕ, List, [], ◌∷◌, ◌++◌, codes, decimal, slice_index_or}
+use Rattle.std.specs.Prelude.{◌≡◌, ℕ, List, [], ◌∷◌, ◌++◌, codes, decimal, slice_index_or}
 use Rattle.std.specs.List.{concat, flat_map}
 use Rattle.std.specs.Str.{encode_utf8_all}
 use Rattle.semantic_syntax.specs.declared.spans.Span.{Span}
@@ -14,6 +14,10 @@ use Rattle.name_lint.specs.Undeclared.{reference_names, reference_spans}
 -- a line on a name, given in UTF-8: what is said of it, the number that it has there, and where it stands
 unfoldable pub name_line : (what : List ℕ) → ℕ → List ℕ → Span → List ℕ
 name_line what number name span = concat (what ∷ decimal number ∷ codes " " ∷ quoted name ∷ codes " " ∷ span_text span ∷ codes "\n" ∷ [])
+
+-- the text is one line on a name
+abbrev pub IsNameLine : List ℕ → Type 0
+IsNameLine text = (what : List ℕ) × (number : ℕ) × (name : List ℕ) × (span : Span) × (name_line what number name span ≡ text)
 
 -- the line of an unused symbol
 abbrev pub symbol_line : ℕ → Symbol → List ℕ

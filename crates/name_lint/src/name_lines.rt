@@ -2,8 +2,8 @@
 ghost use Rattle.std.specs.Prelude.{◌≡◌, ◌<◌, ℕ, length, map, All, OnOk};
 ghost use Rattle.std.specs.List.{flat_map};
 ghost use Rattle.name_lint.specs.Gathered.{text_of, span_of};
-ghost use Rattle.report_ends.specs.Streams.{Writes};
-ghost use Rattle.name_lint.specs.Lines.{name_line, unused_line, undeclared_line, name_lines};
+ghost use Rattle.report_ends.specs.Streams.{WritesLines};
+ghost use Rattle.name_lint.specs.Lines.{name_line, unused_line, undeclared_line, name_lines, IsNameLine};
 
 use crate::found_names::NameReport;
 use report_ends::{ReportError, Sink};
@@ -38,7 +38,8 @@ fn write_symbol<K: Sink>(
     out: &mut K,
 ) -> Result<(), ReportError>
     requires { symbol < length scoping.now.symbols }
-    ensures { Writes K.held K.faults out.old out.new (unused_line scoping.now symbol) result }
+    ensures { WritesLines K.held K.faults K.Offered IsNameLine out.old out.new
+        (unused_line scoping.now symbol) result }
 {
     make_name_line(
         line,
@@ -58,7 +59,7 @@ fn write_unused<K: Sink>(
     out: &mut K,
 ) -> Result<(), ReportError>
     requires { All (λ y. y < length scoping.now.symbols) symbols.now }
-    ensures { Writes K.held K.faults out.old out.new
+    ensures { WritesLines K.held K.faults K.Offered IsNameLine out.old out.new
         (flat_map (unused_line scoping.now) symbols.now) result }
 {
     for symbol in symbols {
@@ -74,7 +75,7 @@ fn write_reference<K: Sink>(
     out: &mut K,
 ) -> Result<(), ReportError>
     requires { reference < length nodes.now }
-    ensures { Writes K.held K.faults out.old out.new
+    ensures { WritesLines K.held K.faults K.Offered IsNameLine out.old out.new
         (undeclared_line (map text_of nodes.now) (map span_of nodes.now) reference) result }
 {
     let node = nodes[reference.index()];
@@ -96,7 +97,7 @@ fn write_undeclared<K: Sink>(
     out: &mut K,
 ) -> Result<(), ReportError>
     requires { All (λ r. r < length nodes.now) references.now }
-    ensures { Writes K.held K.faults out.old out.new
+    ensures { WritesLines K.held K.faults K.Offered IsNameLine out.old out.new
         (flat_map (undeclared_line (map text_of nodes.now) (map span_of nodes.now)) references.now)
         result }
 {
@@ -118,7 +119,7 @@ pub fn write_names<K: Sink>(
 ) -> Result<(), ReportError>
     requires unused { All (λ y. y < length scoping.now.symbols) report.now.unused }
     requires undeclared { All (λ r. r < length nodes.now) report.now.undeclared }
-    ensures { Writes K.held K.faults out.old out.new
+    ensures { WritesLines K.held K.faults K.Offered IsNameLine out.old out.new
         (name_lines scoping.now (map text_of nodes.now)
         (map span_of nodes.now) report.now.unused report.now.undeclared) result }
 {

@@ -1,8 +1,9 @@
 //! Writes a report, or the summary of a script that was made.
 ghost use Rattle.semantic_tree.specs.Children.{node_count};
-ghost use Rattle.report_ends.specs.Streams.{Writes};
+ghost use Rattle.report_ends.specs.Streams.{WritesLines};
 ghost use Rattle.report_lines.specs.ClassLines.{all_class_lines};
 ghost use Rattle.report_lines.specs.CountLines.{node_lines, stats_line, made_line};
+ghost use Rattle.report_lines.specs.Rows.{IsRow};
 ghost use Rattle.std.specs.Prelude.{◌++◌};
 ghost use Rattle.report_answers.specs.Found.{found_in};
 ghost use Rattle.report_answers.specs.Report.{where_asked, listed_text, noted_text, counted_text, report_text};
@@ -26,7 +27,7 @@ fn write_asked_nodes<K: Sink>(
     nodes: &AstNodes<'_>,
     out: &mut K,
 ) -> Result<(), ReportError>
-    ensures { Writes K.held K.faults out.old out.new
+    ensures { WritesLines K.held K.faults K.Offered IsRow out.old out.new
         (where_asked asked (node_lines nodes.now)) result }
 {
     if asked {
@@ -43,7 +44,7 @@ fn write_asked_classes<K: Sink>(
     classes: &ClassTable<'_>,
     out: &mut K,
 ) -> Result<(), ReportError>
-    ensures { Writes K.held K.faults out.old out.new
+    ensures { WritesLines K.held K.faults K.Offered IsRow out.old out.new
         (where_asked asked (all_class_lines classes.now)) result }
 {
     if asked {
@@ -60,7 +61,7 @@ fn write_asked_stats<K: Sink>(
     semantic: &Semantic<'_>,
     out: &mut K,
 ) -> Result<(), ReportError>
-    ensures { Writes K.held K.faults out.old out.new
+    ensures { WritesLines K.held K.faults K.Offered IsRow out.old out.new
         (where_asked asked (stats_line
         (node_count semantic.now.program.now.root) semantic.now.scoping)) result }
 {
@@ -79,7 +80,7 @@ fn write_listed<K: Sink>(
     options: Options,
     out: &mut K,
 ) -> Result<(), ReportError>
-    ensures { Writes K.held K.faults out.old out.new
+    ensures { WritesLines K.held K.faults K.Offered IsRow out.old out.new
         (listed_text options (found_in ret.now)) result }
 {
     write_asked_nodes(line, options.nodes, ret.semantic.nodes(), out)?;
@@ -93,7 +94,7 @@ fn write_noted<K: Sink>(
     options: Options,
     out: &mut K,
 ) -> Result<(), ReportError>
-    ensures { Writes K.held K.faults out.old out.new
+    ensures { WritesLines K.held K.faults K.Offered IsRow out.old out.new
         (noted_text options (found_in ret.now)) result }
 {
     write_asked_classes(line, options.classes, ret.semantic.classes(), out)?;
@@ -107,7 +108,7 @@ fn write_counted<K: Sink>(
     options: Options,
     out: &mut K,
 ) -> Result<(), ReportError>
-    ensures { Writes K.held K.faults out.old out.new
+    ensures { WritesLines K.held K.faults K.Offered IsRow out.old out.new
         (counted_text options (found_in ret.now)) result }
 {
     write_asked_stats(line, options.stats, &ret.semantic, out)?;
@@ -121,7 +122,7 @@ fn write_behind_tables<K: Sink>(
     options: Options,
     out: &mut K,
 ) -> Result<(), ReportError>
-    ensures { Writes K.held K.faults out.old out.new
+    ensures { WritesLines K.held K.faults K.Offered IsRow out.old out.new
         (noted_text options (found_in ret.now) ++ counted_text options (found_in ret.now)) result }
 {
     write_noted(line, ret, options, out)?;
@@ -137,7 +138,7 @@ pub fn write_report<K: Sink>(
     options: Options,
     out: &mut K,
 ) -> Result<(), ReportError>
-    ensures { Writes K.held K.faults out.old out.new
+    ensures { WritesLines K.held K.faults K.Offered IsRow out.old out.new
         (report_text options (found_in ret.now)) result }
 {
     let mut line = Line::new(alloc);
@@ -151,7 +152,7 @@ pub fn write_summary<K: Sink>(
     ret: &SemanticBuilderReturn<'_>,
     out: &mut K,
 ) -> Result<(), ReportError>
-    ensures { Writes K.held K.faults out.old out.new
+    ensures { WritesLines K.held K.faults K.Offered IsRow out.old out.new
         (made_line (node_count ret.now.semantic.program.now.root) ret.now.semantic.scoping) result }
 {
     let mut line = Line::new(alloc);

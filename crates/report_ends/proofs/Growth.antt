@@ -1,5 +1,5 @@
 -- How the bytes that a sink holds grow over several calls.
-use Rattle.std.proofs.Common.{◌≤◌, ◌≡◌, ℕ, ◌+◌, ◌-◌, List, ◌++◌, length, take, drop, Option, subst, sym, arith, ap, ◌∙◌, take-append-drop, refl, append_assoc, append-nil, []}
+use Rattle.std.proofs.Common.{◌<◌, ◌≤◌, ◌≡◌, ℕ, ◌+◌, ◌-◌, List, ◌++◌, length, take, drop, Option, subst, sym, arith, ap, ◌∙◌, take-append-drop, refl, append_assoc, append-nil, [], length-drop}
 use Rattle.std.proofs.lemmas.Grind.{common_steps}
 use Rattle.std.proofs.KnownBytes.{Appends-trans, Appends-nil}
 use Rattle.report_ends.specs.Streams.{HasWritten, AppendsPrefix}
@@ -7,8 +7,14 @@ use Rattle.std.proofs.lemmas.List.{drop-drop}
 use Rattle.std.specs.Io.KnownBytes.{Appends}
 
 -- the rest of a list is not cut by its own length
-take_rest : (n : ℕ) (xs : List ℕ) → take (length xs - n) (drop n xs) ≡ drop n xs
+pub take_rest : (n : ℕ) (xs : List ℕ) → take (length xs - n) (drop n xs) ≡ drop n xs
 take_rest n xs = grind (arith, common_steps)
+
+-- what is taken of the rest is inside
+pub taken_inside : (n m : ℕ) (xs : List ℕ) → n < length xs → m ≤ length (take (length xs - n) (drop n xs)) → n + m ≤ length xs
+taken_inside n m xs some bound =
+    let most : m ≤ length (drop n xs) = subst (λ rest. m ≤ length rest) (take_rest n xs) bound in
+    omega (arith, most, length-drop n xs, some)
 
 -- nothing yet
 pub wrote_nothing : (a : Option (List ℕ)) (text : List ℕ) → HasWritten a a text text

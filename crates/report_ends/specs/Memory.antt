@@ -1,5 +1,7 @@
 -- What the ends in memory stand for.
-use Rattle.std.specs.Prelude.{ℕ, ◌+◌, ◌-◌, ◌^◌, min, List, drop}
+use Rattle.std.specs.Prelude.{◌≡◌, ℕ, ◌+◌, ◌-◌, ◌^◌, min, List, drop, Some, Result}
+use Rattle.std.specs.Io.KnownBytes.{WriteAppends}
+use Rattle.report_ends.specs.declared.ends.WriteFault.{WriteFault}
 use Rattle.report_ends.specs.declared.memory.MemorySource.{MemorySource}
 use Rattle.report_ends.specs.declared.memory.MemorySink.{MemorySink}
 use Rattle.report_ends.specs.declared.sure.SureSource.{SureSource}
@@ -40,6 +42,10 @@ sink_most s = s.most
 -- the number of the next call, which stops at `u64::MAX`
 abbrev pub next_call : ℕ → ℕ
 next_call calls = min (calls + 1) (2 ^ 64 - 1)
+
+-- a call on the sink is counted, and appends the bytes that it took of the piece
+abbrev pub Wrote : MemorySink → List ℕ → Result ℕ WriteFault → MemorySink → Type 0
+Wrote old piece answer new = WriteAppends (Some (sink_held old)) (Some (sink_held new)) answer piece × (sink_calls new ≡ next_call (sink_calls old))
 
 -- the bytes that the source has left
 abbrev pub sure_left : SureSource → List ℕ

@@ -4,6 +4,7 @@ use Rattle.report_ends.specs.Causes.{Rose}
 use Rattle.report_ends.specs.declared.error.ReportError.{ReportError}
 use Rattle.report_ends.specs.declared.error.ReportError.TheVariants.{Read, Write, TooLong, Memory}
 use Rattle.std.specs.Io.KnownBytes.{Appends}
+use Rattle.report_ends.specs.Offers.{Offering, HasOffered, OffersLines}
 
 -- the source had these bytes left, and has none now
 abbrev pub IsReadWhole : Option (List ℕ) → Option (List ℕ) → List ℕ → Type 0
@@ -60,12 +61,18 @@ pub record Writes {K : Type 0} (held : K → Option (List ℕ)) (faults : K → 
   pub cause : IfErr result (WriteCause (Rose (faults old) (faults new)))
   pub kept : WriteKeeps (faults new ≡ faults old) result
 
+-- The same, and each line of the text is offered as one piece, and what a call leaves of it again. A line is what is said here.
+pub record WritesLines {K : Type 0} (held : K → Option (List ℕ)) (faults : K → ℕ) (Offered : Offering K) (IsLine : List ℕ → Type 0) (old new : K) (text : List ℕ) (result : Result Unit ReportError) : Type 0 where
+  pub written : Writes held faults old new text result
+  pub pieces : OffersLines Offered IsLine old new text result
+
 -- the texts of the items, one after the other, each with the item's number
 abbrev pub numbered_text : {X : Type 0} → (ℕ → X → List ℕ) → ℕ → List X → List ℕ
 numbered_text line number [] = []
 numbered_text line number (x ∷ xs) = line number x ++ numbered_text line (number + 1) xs
 
--- The sink has taken a part of the text, this is the rest of it, and no write failed.
-pub record PartWritten {K : Type 0} (held : K → Option (List ℕ)) (faults : K → ℕ) (old new : K) (rest text : List ℕ) : Type 0 where
+-- The sink has taken the first lines of the text, each offered as one piece, this is the rest of it, and no write failed.
+pub record PartWritten {K : Type 0} (held : K → Option (List ℕ)) (faults : K → ℕ) (Offered : Offering K) (IsLine : List ℕ → Type 0) (old new : K) (rest text : List ℕ) : Type 0 where
   pub written : HasWritten (held old) (held new) rest text
+  pub pieces : HasOffered Offered IsLine old new rest text
   pub kept : faults new ≡ faults old

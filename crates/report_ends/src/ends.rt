@@ -1,5 +1,5 @@
 // A source and a sink: what they tell of their bytes, and how often they have failed.
-ghost use Rattle.std.specs.Prelude.{ℕ, ◌≡◌, List, Option};
+ghost use Rattle.std.specs.Prelude.{ℕ, ◌≡◌, List, Option, Result};
 ghost use Rattle.std.specs.Io.{ReadsAtMost, WritesAtMost};
 ghost use Rattle.std.specs.Io.KnownBytes.{ReadConsumes, WriteAppends};
 
@@ -37,6 +37,7 @@ pub trait Source {
 /// What bytes are written to.
 pub trait Sink {
     ghost use Rattle.report_ends.specs.Causes.{WriteHasCause};
+    ghost use Rattle.report_ends.specs.declared.ends.WriteFault.{WriteFault};
 
     /// The bytes that it holds, if it tells them.
     ghost held: { Self → Option (List ℕ) };
@@ -44,12 +45,17 @@ pub trait Sink {
     /// How often it has failed, up to `u64::MAX`.
     ghost faults: { Self → ℕ };
 
+    /// What it says of a call on `write`: the sink before it, the piece, the answer, and the sink after it. What writes to
+    /// any sink can say by this alone which pieces it offers.
+    ghost Offered: { Self → List ℕ → Result ℕ WriteFault → Self → Type 0 };
+
     /// Appends the first bytes of the piece, and answers how many. To take none of a piece that isn't empty is a fault.
     /// A write that fails appends nothing.
     fn write(&mut self, piece: &[u8]) -> Result<usize, WriteFault>
         ensures bound { WritesAtMost result piece.now }
         ensures bytes { WriteAppends (held self.old) (held self.new) result piece.now }
-        ensures cause { WriteHasCause (faults self.old) (faults self.new) piece.now result };
+        ensures cause { WriteHasCause (faults self.old) (faults self.new) piece.now result }
+        ensures offered { Offered self.old piece.now result self.new };
 }
 
 impl From<AllocError> for WriteFault {

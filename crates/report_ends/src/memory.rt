@@ -150,11 +150,13 @@ impl MemorySink {
 
 impl Sink for MemorySink {
     ghost use Rattle.report_ends.specs.Causes.{WriteHasCause};
-    ghost use Rattle.report_ends.specs.Memory.{sink_held, sink_failing, sink_calls, sink_most, next_call};
+    ghost use Rattle.report_ends.specs.Memory.{sink_held, sink_failing, sink_calls, sink_most, next_call, Wrote};
 
     ghost held = { λ s. Some (sink_held s) };
 
     ghost faults = { λ s. s.faults };
+
+    ghost Offered = { Wrote };
 
     fn write(&mut self, piece: &[u8]) -> Result<usize, WriteFault>
         ensures bound { WritesAtMost result piece.now }
@@ -166,6 +168,7 @@ impl Sink for MemorySink {
         ensures failing { sink_failing self.new ≡ sink_failing self.old }
         ensures most { sink_most self.new ≡ sink_most self.old }
         ensures count { IfOk result (λ count. count ≡ min (length piece.now) (sink_most self.old)) }
+        ensures offered { Wrote self.old piece.now result self.new }
     {
         self.calls = self.calls.saturating_add(1);
         if self.failing.contains(&self.calls) {

@@ -1,6 +1,6 @@
 // Ends over std's readers and writers, as standard input, output and error, which count their faults.
 ghost use Rattle.std.specs.Prelude.{◌≡◌, ◌≤◌, OnOk, OnErr};
-ghost use Rattle.std.specs.Io.KnownBytes.{Keeps};
+ghost use Rattle.std.specs.Io.KnownBytes.{Keeps, WriteAppends};
 ghost use Rattle.report_ends.specs.Causes.{Rose};
 
 use crate::{Failed, Sink, Source, WriteFault};
@@ -78,6 +78,8 @@ impl<W: Write> Sink for Writing<W> {
     ghost held = { λ s. W.contents s.writer };
 
     ghost faults = { λ s. s.faults };
+
+    ghost Offered = { λ old piece answer new. WriteAppends (W.contents old.writer) (W.contents new.writer) answer piece };
 
     fn write(&mut self, piece: &[u8]) -> Result<usize, WriteFault> {
         match self.writer.write(piece) {

@@ -1,6 +1,7 @@
 // Whole inputs and whole texts, over any source and any sink.
 ghost use Rattle.std.specs.Prelude.{IfOk, OnOk, IfErr, ◌≡◌};
 ghost use Rattle.report_ends.specs.Causes.{Rose};
+ghost use Rattle.report_ends.specs.Offers.{OffersPiece};
 ghost use Rattle.report_ends.specs.Streams.{ReadCause, ReadKeeps, IsReadWhole, HadMoreThan, HadAtMost, Writes};
 
 use crate::{ReportError, Sink, Source};
@@ -36,9 +37,10 @@ pub fn read_input<S: Source>(alloc: Global, source: &mut S) -> Result<Vec<u8>, R
 
 /// Offers a piece, and what a call leaves of it again. It answers `Write` where a call on the sink failed, or took
 /// nothing, and `Memory`. The sink has taken a prefix of the piece then.
-#[tactic(auto, using(crate::proofs::Growth::wrote_more, crate::proofs::Growth::wrote_all, crate::proofs::Growth::wrote_nothing))]
+#[tactic(auto, using(crate::proofs::Growth::wrote_more, crate::proofs::Growth::wrote_all, crate::proofs::Growth::wrote_nothing, crate::proofs::Offering::offered_nothing, crate::proofs::Offering::offered_again, crate::proofs::Offering::offered_all, crate::proofs::Offering::offered_in_vain))]
 pub fn write_whole<K: Sink>(piece: &[u8], out: &mut K) -> Result<(), ReportError>
-    ensures { Writes K.held K.faults out.old out.new piece.now result }
+    ensures written { Writes K.held K.faults out.old out.new piece.now result }
+    ensures pieces { OffersPiece K.Offered out.old out.new piece.now result }
 {
     let mut taken = 0;
     while taken < piece.len() {

@@ -82,12 +82,16 @@ impl Sink for SureSink {
 
     ghost faults = { λ _. 0 };
 
+    ghost Offered = { λ old piece answer new. WriteAppends (Some (sure_held old)) (Some (sure_held new)) answer piece };
+
     fn write(&mut self, piece: &[u8]) -> Result<usize, WriteFault>
         ensures bound { WritesAtMost result piece.now }
         ensures bytes { WriteAppends (Some (sure_held self.old)) (Some (sure_held self.new)) result piece.now }
         ensures cause { WriteHasCause 0 0 piece.now result }
         ensures sure { ¬ (IsErrOf result WriteFault.Failed) }
         ensures count { IfOk result (λ count. count ≡ length piece.now) }
+        ensures offered { WriteAppends (Some (sure_held self.old)) (Some (sure_held self.new))
+            result piece.now }
     {
         self.bytes.extend_from_slice(piece)?;
         Ok(piece.len())

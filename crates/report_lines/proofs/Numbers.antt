@@ -7,6 +7,7 @@ use Rattle.std.proofs.lemmas.List.{at_drop_more}
 use Rattle.semantic_syntax.specs.declared.references.Reference.{Reference}
 use Rattle.node_store.specs.NodeList.{SeenNode}
 use Rattle.node_store.specs.Outward.{numbered_from}
+use Rattle.report_ends.specs.Offers.{Offering}
 use Rattle.report_ends.specs.Streams.{PartWritten, numbered_text}
 use Rattle.report_ends.proofs.Stages.{writing_begins}
 use Rattle.report_lines.specs.CountLines.{free_count}
@@ -42,6 +43,7 @@ texts_seen seen text n (x ∷ xs) = ap (λ rest. text n (seen x) ++ rest) (texts
 pub free_next : (references : List Reference) (i : ℕ) (d : Reference) → i < length references → free_count (drop i references) ≡ cond (is_some (get_or references i d).symbol_id) 0 1 + free_count (drop (i + 1) references)
 free_next references i d inside = at_drop_more free_count references i d inside
 
--- nothing is written yet of the texts of these items
-pub begins_with : {K X : Type 0} (held : K → Option (List ℕ)) (faults : K → ℕ) (out : K) (text : X → List ℕ) (items all : List X) → items ≡ all → PartWritten held faults out out (flat_map text items) (flat_map text all)
-begins_with held faults out text items all same = subst (λ xs. PartWritten held faults out out (flat_map text xs) (flat_map text all)) (sym same) (writing_begins held faults out (flat_map text all))
+module _ {K X : Type 0} (held : K → Option (List ℕ)) (faults : K → ℕ) {Offered : Offering K} {IsLine : List ℕ → Type 0} where
+  -- nothing is written yet of the texts of these items
+  pub begins_with : (out : K) (text : X → List ℕ) (items all : List X) → items ≡ all → PartWritten held faults Offered IsLine out out (flat_map text items) (flat_map text all)
+  begins_with out text items all same = subst (λ xs. PartWritten held faults Offered IsLine out out (flat_map text xs) (flat_map text all)) (sym same) (writing_begins held faults out (flat_map text all))

@@ -4,3 +4,4 @@ pub mod ClassLines
 pub mod CountLines
 pub mod FreeNames
 pub mod DiagnosticLine
+pub mod Rows

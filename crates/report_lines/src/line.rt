@@ -1,6 +1,7 @@
 //! A line of a report that is being made.
 ghost use Rattle.std.specs.Prelude.{ℕ, ◌≡◌, ◌<◌, ◌++◌, [], OnOk, decimal, true};
 ghost use Rattle.std.specs.List.{list_all};
+ghost use Rattle.report_ends.specs.Offers.{OffersPiece};
 ghost use Rattle.report_ends.specs.Streams.{Writes};
 ghost use Rattle.report_lines.specs.Pieces.{quoted, is_plain, two_digits, number_or_dash, behind_space, span_text};
 
@@ -208,9 +209,10 @@ impl Line {
         self.push(&value.to_string(self.alloc)?)
     }
 
-    /// Offers the line to a sink.
+    /// Offers the line to a sink as one piece, and what a call leaves of it again.
     pub fn offer<K: Sink>(&self, out: &mut K) -> Result<(), ReportError>
-        ensures { Writes K.held K.faults out.old out.new self.now result }
+        ensures written { Writes K.held K.faults out.old out.new self.now result }
+        ensures pieces { OffersPiece K.Offered out.old out.new self.now result }
     {
         write_whole(&self.bytes, out)
     }

@@ -4,8 +4,9 @@ ghost use Rattle.std.specs.List.{flat_map};
 ghost use Rattle.class_table.specs.Lists.{elements_in, uses_in};
 ghost use Rattle.class_table.specs.Outward.{parent_in};
 ghost use Rattle.class_table.specs.Seen.{element_seen, use_seen};
-ghost use Rattle.report_ends.specs.Streams.{Writes, numbered_text};
+ghost use Rattle.report_ends.specs.Streams.{WritesLines, numbered_text};
 ghost use Rattle.report_lines.specs.ClassLines.{class_line, element_line, private_use_line, class_lines, all_class_lines};
+ghost use Rattle.report_lines.specs.Rows.{IsRow};
 
 use crate::class_lines::{make_class_line, make_element_line, make_private_use_line};
 use crate::line::Line;
@@ -28,7 +29,7 @@ fn write_class_line<K: Sink>(
     node: NodeId,
     out: &mut K,
 ) -> Result<(), ReportError>
-    ensures { Writes K.held K.faults out.old out.new
+    ensures { WritesLines K.held K.faults K.Offered IsRow out.old out.new
         (class_line class node (parent_in classes.now.parents class)) result }
 {
     let parent = parent_in(&classes.parent_ids, class);
@@ -43,7 +44,7 @@ fn write_element<K: Sink>(
     element: &Element<'_>,
     out: &mut K,
 ) -> Result<(), ReportError>
-    ensures { Writes K.held K.faults out.old out.new
+    ensures { WritesLines K.held K.faults K.Offered IsRow out.old out.new
         (element_line class number (element_seen element.now)) result }
 {
     make_element_line(
@@ -66,7 +67,7 @@ fn write_elements<K: Sink>(
     out: &mut K,
 ) -> Result<(), ReportError>
     requires { length elements.now ≤ u32.MAX }
-    ensures { Writes K.held K.faults out.old out.new
+    ensures { WritesLines K.held K.faults K.Offered IsRow out.old out.new
         (numbered_text (λ n e. element_line class n (element_seen e)) 0 elements.now) result }
 {
     for (number, element) in elements.iter().enumerate() {
@@ -81,7 +82,7 @@ fn write_use<K: Sink>(
     used: &PrivateIdentifierReference<'_>,
     out: &mut K,
 ) -> Result<(), ReportError>
-    ensures { Writes K.held K.faults out.old out.new
+    ensures { WritesLines K.held K.faults K.Offered IsRow out.old out.new
         (private_use_line class (use_seen used.now)) result }
 {
     make_private_use_line(
@@ -102,7 +103,7 @@ fn write_uses<K: Sink>(
     out: &mut K,
 ) -> Result<(), ReportError>
     requires { class < length classes.now.nodes }
-    ensures { Writes K.held K.faults out.old out.new
+    ensures { WritesLines K.held K.faults K.Offered IsRow out.old out.new
         (flat_map (private_use_line class) (uses_in classes.now class)) result }
 {
     for used in classes.iter_private_identifiers(class) {
@@ -119,7 +120,7 @@ fn write_members<K: Sink>(
     out: &mut K,
 ) -> Result<(), ReportError>
     requires { class < length classes.now.nodes }
-    ensures { Writes K.held K.faults out.old out.new
+    ensures { WritesLines K.held K.faults K.Offered IsRow out.old out.new
         (numbered_text (element_line class) 0 (elements_in classes.now class)
         ++ flat_map (private_use_line class) (uses_in classes.now class)) result }
 {
@@ -135,7 +136,7 @@ fn write_class<K: Sink>(
     out: &mut K,
 ) -> Result<(), ReportError>
     requires { class < length classes.now.nodes }
-    ensures { Writes K.held K.faults out.old out.new
+    ensures { WritesLines K.held K.faults K.Offered IsRow out.old out.new
         (class_lines classes.now (class, node)) result }
 {
     write_class_line(line, classes, class, node, out)?;
@@ -148,7 +149,8 @@ pub fn write_classes<K: Sink>(
     classes: &ClassTable<'_>,
     out: &mut K,
 ) -> Result<(), ReportError>
-    ensures { Writes K.held K.faults out.old out.new (all_class_lines classes.now) result }
+    ensures { WritesLines K.held K.faults K.Offered IsRow out.old out.new
+        (all_class_lines classes.now) result }
 {
     for (class, node) in classes.iter_enumerated() {
         write_class(line, classes, class, node, out)?;

@@ -1,8 +1,9 @@
 //! Writes the lines on labels and counts.
 ghost use Rattle.std.specs.Prelude.{◌≡◌};
 ghost use Rattle.std.specs.List.{flat_map};
-ghost use Rattle.report_ends.specs.Streams.{Writes};
+ghost use Rattle.report_ends.specs.Streams.{WritesLines};
 ghost use Rattle.report_lines.specs.CountLines.{label_line, stats_line, made_line, free_count};
+ghost use Rattle.report_lines.specs.Rows.{IsRow};
 
 use crate::count_lines::{make_label_line, make_made_line, make_stats_line};
 use crate::line::Line;
@@ -11,7 +12,7 @@ use scoping::Scoping;
 use semantic_syntax::{NodeId, ReferenceId};
 
 fn write_label<K: Sink>(line: &mut Line, node: NodeId, out: &mut K) -> Result<(), ReportError>
-    ensures { Writes K.held K.faults out.old out.new (label_line node) result }
+    ensures { WritesLines K.held K.faults K.Offered IsRow out.old out.new (label_line node) result }
 {
     make_label_line(line, node)?;
     line.offer(out)
@@ -23,7 +24,8 @@ pub fn write_labels<K: Sink>(
     labels: &[NodeId],
     out: &mut K,
 ) -> Result<(), ReportError>
-    ensures { Writes K.held K.faults out.old out.new (flat_map label_line labels.now) result }
+    ensures { WritesLines K.held K.faults K.Offered IsRow out.old out.new
+        (flat_map label_line labels.now) result }
 {
     for label in labels {
         write_label(line, *label, out)?;
@@ -38,7 +40,8 @@ pub fn write_stats<K: Sink>(
     scoping: &Scoping,
     out: &mut K,
 ) -> Result<(), ReportError>
-    ensures { Writes K.held K.faults out.old out.new (stats_line nodes scoping.now) result }
+    ensures { WritesLines K.held K.faults K.Offered IsRow out.old out.new
+        (stats_line nodes scoping.now) result }
 {
     make_stats_line(line, nodes, scoping)?;
     line.offer(out)
@@ -66,7 +69,8 @@ pub fn write_made<K: Sink>(
     scoping: &Scoping,
     out: &mut K,
 ) -> Result<(), ReportError>
-    ensures { Writes K.held K.faults out.old out.new (made_line nodes scoping.now) result }
+    ensures { WritesLines K.held K.faults K.Offered IsRow out.old out.new
+        (made_line nodes scoping.now) result }
 {
     make_made_line(line, nodes, scoping, free_count(scoping))?;
     line.offer(out)

@@ -1,7 +1,8 @@
 //! Writes the lines on diagnostics.
 ghost use Rattle.std.specs.List.{flat_map};
-ghost use Rattle.report_ends.specs.Streams.{Writes};
+ghost use Rattle.report_ends.specs.Streams.{WritesLines};
 ghost use Rattle.report_lines.specs.DiagnosticLine.{diagnostic_line};
+ghost use Rattle.report_lines.specs.Rows.{IsRow};
 
 use crate::diagnostic_line::make_diagnostic_line;
 use crate::line::Line;
@@ -13,7 +14,8 @@ fn write_diagnostic<K: Sink>(
     diagnostic: &Diagnostic,
     out: &mut K,
 ) -> Result<(), ReportError>
-    ensures { Writes K.held K.faults out.old out.new (diagnostic_line diagnostic.now) result }
+    ensures { WritesLines K.held K.faults K.Offered IsRow out.old out.new
+        (diagnostic_line diagnostic.now) result }
 {
     make_diagnostic_line(line, diagnostic)?;
     line.offer(out)
@@ -25,7 +27,7 @@ pub fn write_diagnostics<K: Sink>(
     diagnostics: &Diagnostics,
     out: &mut K,
 ) -> Result<(), ReportError>
-    ensures { Writes K.held K.faults out.old out.new
+    ensures { WritesLines K.held K.faults K.Offered IsRow out.old out.new
         (flat_map diagnostic_line diagnostics.now) result }
 {
     for diagnostic in diagnostics.iter() {

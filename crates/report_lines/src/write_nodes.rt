@@ -1,8 +1,9 @@
 //! Writes the lines on nodes.
 ghost use Rattle.std.specs.Prelude.{◌<◌, length};
 ghost use Rattle.node_store.specs.Seen.{seen};
-ghost use Rattle.report_ends.specs.Streams.{Writes};
+ghost use Rattle.report_ends.specs.Streams.{WritesLines};
 ghost use Rattle.report_lines.specs.CountLines.{node_line_by, node_lines};
+ghost use Rattle.report_lines.specs.Rows.{IsRow};
 
 use crate::count_lines::make_node_line;
 use crate::line::Line;
@@ -18,7 +19,7 @@ fn write_node<K: Sink>(
     out: &mut K,
 ) -> Result<(), ReportError>
     requires { id < length nodes.now.nodes }
-    ensures { Writes K.held K.faults out.old out.new
+    ensures { WritesLines K.held K.faults K.Offered IsRow out.old out.new
         (node_line_by nodes.now.parents (id, seen node.now)) result }
 {
     let parent = nodes.parent_id(id);
@@ -32,7 +33,8 @@ pub fn write_nodes<K: Sink>(
     nodes: &AstNodes<'_>,
     out: &mut K,
 ) -> Result<(), ReportError>
-    ensures { Writes K.held K.faults out.old out.new (node_lines nodes.now) result }
+    ensures { WritesLines K.held K.faults K.Offered IsRow out.old out.new
+        (node_lines nodes.now) result }
 {
     for (id, node) in nodes.iter_enumerated() {
         write_node(line, nodes, id, node, out)?;

@@ -4,9 +4,10 @@ ghost use Rattle.std.specs.List.{flat_map};
 ghost use Rattle.std.specs.Str.{encode_utf8_all};
 ghost use Rattle.scoping.specs.Names.{name_of};
 ghost use Rattle.semantic_syntax.specs.Reading.{reference_of};
-ghost use Rattle.report_ends.specs.Streams.{Writes, numbered_text};
+ghost use Rattle.report_ends.specs.Streams.{WritesLines, numbered_text};
 ghost use Rattle.report_lines.specs.TableLines.{reference_name, reference_line, free_line, all_reference_lines};
 ghost use Rattle.report_lines.specs.FreeNames.{name_shown, free_names};
+ghost use Rattle.report_lines.specs.Rows.{IsRow};
 
 use crate::free_names::free_names;
 use crate::line::Line;
@@ -53,7 +54,7 @@ fn write_reference<K: Sink>(
 ) -> Result<(), ReportError>
     requires reference { reference < length scoping.now.references }
     requires names { map name_shown names.now ≡ free_names scoping.now }
-    ensures { Writes K.held K.faults out.old out.new
+    ensures { WritesLines K.held K.faults K.Offered IsRow out.old out.new
         (reference_line scoping.now reference (reference_of scoping.now reference)) result }
 {
     let name = reference_name(scoping, names, reference);
@@ -73,7 +74,7 @@ fn write_named<K: Sink>(
     out: &mut K,
 ) -> Result<(), ReportError>
     requires names { map name_shown names.now ≡ free_names scoping.now }
-    ensures { Writes K.held K.faults out.old out.new
+    ensures { WritesLines K.held K.faults K.Offered IsRow out.old out.new
         (numbered_text (reference_line scoping.now) 0 scoping.now.references) result }
 {
     let count = scoping.references_len() as u32;
@@ -90,7 +91,7 @@ fn write_references<K: Sink>(
     scoping: &Scoping,
     out: &mut K,
 ) -> Result<(), ReportError>
-    ensures { Writes K.held K.faults out.old out.new
+    ensures { WritesLines K.held K.faults K.Offered IsRow out.old out.new
         (numbered_text (reference_line scoping.now) 0 scoping.now.references) result }
 {
     let names = free_names(alloc, scoping)?;
@@ -103,7 +104,7 @@ fn write_free<K: Sink>(
     references: &[ReferenceId],
     out: &mut K,
 ) -> Result<(), ReportError>
-    ensures { Writes K.held K.faults out.old out.new
+    ensures { WritesLines K.held K.faults K.Offered IsRow out.old out.new
         (free_line (name_of name.entry, references.now)) result }
 {
     make_free_line(line, name.as_str(), references)?;
@@ -112,7 +113,8 @@ fn write_free<K: Sink>(
 
 // Writes the lines of the free references, by name.
 fn write_frees<K: Sink>(line: &mut Line, scoping: &Scoping, out: &mut K) -> Result<(), ReportError>
-    ensures { Writes K.held K.faults out.old out.new (flat_map free_line scoping.now.free) result }
+    ensures { WritesLines K.held K.faults K.Offered IsRow out.old out.new
+        (flat_map free_line scoping.now.free) result }
 {
     for (name, references) in scoping.root_unresolved_references().iter() {
         write_free(line, name, references, out)?;
@@ -127,7 +129,8 @@ pub fn write_all_references<K: Sink>(
     scoping: &Scoping,
     out: &mut K,
 ) -> Result<(), ReportError>
-    ensures { Writes K.held K.faults out.old out.new (all_reference_lines scoping.now) result }
+    ensures { WritesLines K.held K.faults K.Offered IsRow out.old out.new
+        (all_reference_lines scoping.now) result }
 {
     write_references(alloc, line, scoping, out)?;
     write_frees(line, scoping, out)

@@ -3,8 +3,9 @@ ghost use Rattle.std.specs.Prelude.{◌<◌, length, ℕ};
 ghost use Rattle.std.specs.List.{flat_map};
 ghost use Rattle.scoping.specs.Names.{name_of};
 ghost use Rattle.semantic_syntax.specs.Reading.{scope_of};
-ghost use Rattle.report_ends.specs.Streams.{Writes, numbered_text};
+ghost use Rattle.report_ends.specs.Streams.{WritesLines, numbered_text};
 ghost use Rattle.report_lines.specs.TableLines.{scope_line, bind_line, scope_lines};
+ghost use Rattle.report_lines.specs.Rows.{IsRow};
 
 use crate::line::Line;
 use crate::table_lines::{make_bind_line, make_scope_line};
@@ -19,7 +20,7 @@ fn write_scope_line<K: Sink>(
     out: &mut K,
 ) -> Result<(), ReportError>
     requires { scope < length scoping.now.scopes }
-    ensures { Writes K.held K.faults out.old out.new
+    ensures { WritesLines K.held K.faults K.Offered IsRow out.old out.new
         (scope_line scope (scope_of scoping.now scope)) result }
 {
     let parent = scoping.scope_parent_id(scope);
@@ -40,7 +41,7 @@ fn write_binding<K: Sink>(
     symbol: SymbolId,
     out: &mut K,
 ) -> Result<(), ReportError>
-    ensures { Writes K.held K.faults out.old out.new
+    ensures { WritesLines K.held K.faults K.Offered IsRow out.old out.new
         (bind_line scope (name_of name.entry, symbol)) result }
 {
     make_bind_line(line, scope, name.as_str(), symbol)?;
@@ -53,7 +54,7 @@ fn write_bindings<K: Sink>(
     bindings: &Bindings<'_>,
     out: &mut K,
 ) -> Result<(), ReportError>
-    ensures { Writes K.held K.faults out.old out.new
+    ensures { WritesLines K.held K.faults K.Offered IsRow out.old out.new
         (flat_map (bind_line scope) bindings.now) result }
 {
     for (name, symbol) in bindings.iter() {
@@ -69,7 +70,7 @@ fn write_scope<K: Sink>(
     out: &mut K,
 ) -> Result<(), ReportError>
     requires { scope < length scoping.now.scopes }
-    ensures { Writes K.held K.faults out.old out.new
+    ensures { WritesLines K.held K.faults K.Offered IsRow out.old out.new
         (scope_lines scoping.now scope (scope_of scoping.now scope)) result }
 {
     write_scope_line(line, scoping, scope, out)?;
@@ -82,7 +83,7 @@ pub fn write_scopes<K: Sink>(
     scoping: &Scoping,
     out: &mut K,
 ) -> Result<(), ReportError>
-    ensures { Writes K.held K.faults out.old out.new
+    ensures { WritesLines K.held K.faults K.Offered IsRow out.old out.new
         (numbered_text (scope_lines scoping.now) 0 scoping.now.scopes) result }
 {
     let count = scoping.scopes_len() as u32;

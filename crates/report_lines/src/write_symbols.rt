@@ -2,8 +2,9 @@
 ghost use Rattle.std.specs.Prelude.{◌<◌, length, ℕ};
 ghost use Rattle.std.specs.List.{flat_map};
 ghost use Rattle.semantic_syntax.specs.Reading.{symbol_of, uses_of};
-ghost use Rattle.report_ends.specs.Streams.{Writes, numbered_text};
+ghost use Rattle.report_ends.specs.Streams.{WritesLines, numbered_text};
 ghost use Rattle.report_lines.specs.TableLines.{symbol_line, redeclaration_line, uses_line, declaration_lines, symbol_lines, pure_line, all_symbol_lines};
+ghost use Rattle.report_lines.specs.Rows.{IsRow};
 
 use crate::line::Line;
 use crate::table_lines::{
@@ -21,7 +22,7 @@ fn write_symbol_line<K: Sink>(
     out: &mut K,
 ) -> Result<(), ReportError>
     requires { symbol < length scoping.now.symbols }
-    ensures { Writes K.held K.faults out.old out.new
+    ensures { WritesLines K.held K.faults K.Offered IsRow out.old out.new
         (symbol_line symbol (symbol_of scoping.now symbol)) result }
 {
     make_symbol_line(
@@ -42,7 +43,8 @@ fn write_redeclaration<K: Sink>(
     entry: &Redeclaration,
     out: &mut K,
 ) -> Result<(), ReportError>
-    ensures { Writes K.held K.faults out.old out.new (redeclaration_line symbol entry.now) result }
+    ensures { WritesLines K.held K.faults K.Offered IsRow out.old out.new
+        (redeclaration_line symbol entry.now) result }
 {
     make_redeclaration_line(line, symbol, entry)?;
     line.offer(out)
@@ -54,7 +56,7 @@ fn write_redeclarations<K: Sink>(
     entries: &[Redeclaration],
     out: &mut K,
 ) -> Result<(), ReportError>
-    ensures { Writes K.held K.faults out.old out.new
+    ensures { WritesLines K.held K.faults K.Offered IsRow out.old out.new
         (flat_map (redeclaration_line symbol) entries.now) result }
 {
     for entry in entries {
@@ -70,7 +72,7 @@ fn write_uses<K: Sink>(
     out: &mut K,
 ) -> Result<(), ReportError>
     requires { symbol < length scoping.now.symbols }
-    ensures { Writes K.held K.faults out.old out.new
+    ensures { WritesLines K.held K.faults K.Offered IsRow out.old out.new
         (uses_line symbol (uses_of scoping.now symbol)) result }
 {
     make_uses_line(line, symbol, scoping.get_resolved_reference_ids(symbol))?;
@@ -84,7 +86,7 @@ fn write_declarations<K: Sink>(
     out: &mut K,
 ) -> Result<(), ReportError>
     requires { symbol < length scoping.now.symbols }
-    ensures { Writes K.held K.faults out.old out.new
+    ensures { WritesLines K.held K.faults K.Offered IsRow out.old out.new
         (declaration_lines symbol (symbol_of scoping.now symbol)) result }
 {
     write_symbol_line(line, scoping, symbol, out)?;
@@ -98,7 +100,7 @@ fn write_symbol<K: Sink>(
     out: &mut K,
 ) -> Result<(), ReportError>
     requires { symbol < length scoping.now.symbols }
-    ensures { Writes K.held K.faults out.old out.new
+    ensures { WritesLines K.held K.faults K.Offered IsRow out.old out.new
         (symbol_lines scoping.now symbol (symbol_of scoping.now symbol)) result }
 {
     write_declarations(line, scoping, symbol, out)?;
@@ -111,7 +113,7 @@ fn write_symbols<K: Sink>(
     scoping: &Scoping,
     out: &mut K,
 ) -> Result<(), ReportError>
-    ensures { Writes K.held K.faults out.old out.new
+    ensures { WritesLines K.held K.faults K.Offered IsRow out.old out.new
         (numbered_text (symbol_lines scoping.now) 0 scoping.now.symbols) result }
 {
     let count = scoping.symbols_len() as u32;
@@ -122,7 +124,8 @@ fn write_symbols<K: Sink>(
 }
 
 fn write_pure<K: Sink>(line: &mut Line, symbol: SymbolId, out: &mut K) -> Result<(), ReportError>
-    ensures { Writes K.held K.faults out.old out.new (pure_line symbol) result }
+    ensures { WritesLines K.held K.faults K.Offered IsRow out.old out.new
+        (pure_line symbol) result }
 {
     make_pure_line(line, symbol)?;
     line.offer(out)
@@ -134,7 +137,8 @@ fn write_pures<K: Sink>(
     symbols: &BTreeSet<SymbolId>,
     out: &mut K,
 ) -> Result<(), ReportError>
-    ensures { Writes K.held K.faults out.old out.new (flat_map pure_line symbols.now.keys) result }
+    ensures { WritesLines K.held K.faults K.Offered IsRow out.old out.new
+        (flat_map pure_line symbols.now.keys) result }
 {
     for symbol in symbols {
         write_pure(line, *symbol, out)?;
@@ -148,7 +152,8 @@ pub fn write_all_symbols<K: Sink>(
     scoping: &Scoping,
     out: &mut K,
 ) -> Result<(), ReportError>
-    ensures { Writes K.held K.faults out.old out.new (all_symbol_lines scoping.now) result }
+    ensures { WritesLines K.held K.faults K.Offered IsRow out.old out.new
+        (all_symbol_lines scoping.now) result }
 {
     write_symbols(line, scoping, out)?;
     write_pures(line, scoping.no_side_effects(), out)

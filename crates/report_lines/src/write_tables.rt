@@ -1,7 +1,8 @@
 //! Writes the lines on the tables.
 ghost use Rattle.std.specs.Prelude.{◌++◌};
-ghost use Rattle.report_ends.specs.Streams.{Writes};
+ghost use Rattle.report_ends.specs.Streams.{WritesLines};
 ghost use Rattle.report_lines.specs.TableLines.{all_symbol_lines, all_reference_lines, table_lines};
+ghost use Rattle.report_lines.specs.Rows.{IsRow};
 
 use crate::line::Line;
 use crate::write_references::write_all_references;
@@ -17,7 +18,7 @@ fn write_symbols_and_references<K: Sink>(
     scoping: &Scoping,
     out: &mut K,
 ) -> Result<(), ReportError>
-    ensures { Writes K.held K.faults out.old out.new
+    ensures { WritesLines K.held K.faults K.Offered IsRow out.old out.new
         (all_symbol_lines scoping.now ++ all_reference_lines scoping.now) result }
 {
     write_all_symbols(line, scoping, out)?;
@@ -32,7 +33,8 @@ pub fn write_tables<K: Sink>(
     scoping: &Scoping,
     out: &mut K,
 ) -> Result<(), ReportError>
-    ensures { Writes K.held K.faults out.old out.new (table_lines scoping.now) result }
+    ensures { WritesLines K.held K.faults K.Offered IsRow out.old out.new
+        (table_lines scoping.now) result }
 {
     write_scopes(line, scoping, out)?;
     write_symbols_and_references(alloc, line, scoping, out)

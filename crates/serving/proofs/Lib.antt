@@ -1,3 +1,4 @@
 pub mod Steps
 pub mod Exchanges
 pub mod Wholes
+pub mod Offering

@@ -1,7 +1,8 @@
 -- What it is to answer requests one behind the other.
-use Rattle.std.specs.Prelude.{◌≡◌, ◌-◌, ◌^◌, ℕ, zero, suc, List, [], ◌++◌, Option, Some, None, String}
+use Rattle.std.specs.Prelude.{◌≡◌, ◌⊎◌, ◌-◌, ◌^◌, ℕ, zero, suc, List, [], ◌++◌, Option, Some, None, Result, Ok, Err, String}
 use Rattle.std.specs.Io.KnownBytes.{Appends, Consumes}
 use Rattle.std.specs.declared.alloc.Global.{Global}
+use Rattle.report_ends.specs.Offers.{Offering, OffersUntil, OffersPart, OffersEach}
 use Rattle.report_ends.specs.Streams.{AppendsPrefix}
 use Rattle.std.specs.Str.{IsUtf8}
 use Rattle.serving.specs.Requests.{Answer, IsRequest, IsAnswered, MayBeAnswer}
@@ -54,6 +55,29 @@ pub record ServedAll (Answers : List (String Global) → List ℕ → Answer →
   pub between : Option (List ℕ)
   pub served : HasServed Answers left between held held_then
   pub done : IsDone between left_then
+
+-- ---- in which pieces answers are offered
+
+-- the bytes answer some request
+abbrev pub IsSomeAnswer : (List (String Global) → List ℕ → Answer → Type 0) → List ℕ → Type 0
+IsSomeAnswer Answers text = (asked : List ℕ) × IsAnswered Answers asked text
+
+-- nothing is offered, or an answer as one piece, and the sink hasn't taken it to its end
+abbrev pub StopsOffering : {K : Type 0} → Offering K → (List (String Global) → List ℕ → Answer → Type 0) → K → K → Type 0
+StopsOffering Offered Answers old new = (new ≡ old) ⊎ ((text : List ℕ) × IsSomeAnswer Answers text × OffersPart Offered old text new)
+
+-- the answer to one more request is offered as one piece, or there is none
+abbrev pub OffersAnswer : {K : Type 0} → Offering K → (List (String Global) → List ℕ → Answer → Type 0) → K → K → Result (Option Unit) ServeFault → Type 0
+OffersAnswer Offered Answers old new (Ok (Some u)) = (text : List ℕ) × IsSomeAnswer Answers text × OffersUntil Offered old text new []
+OffersAnswer Offered Answers old new (Ok None) = new ≡ old
+OffersAnswer Offered Answers old new (Err why) = StopsOffering Offered Answers old new
+
+-- answers to requests are offered, each as one piece
+abbrev pub OffersAnswers : {K : Type 0} → Offering K → (List (String Global) → List ℕ → Answer → Type 0) → K → K → Result Unit ServeFault → Type 0
+OffersAnswers Offered Answers old new (Ok done) = (texts : List (List ℕ)) × OffersEach Offered (IsSomeAnswer Answers) texts old new
+OffersAnswers Offered Answers old new (Err why) = (texts : List (List ℕ)) × (between : _) × OffersEach Offered (IsSomeAnswer Answers) texts old between × StopsOffering Offered Answers between new
+
+-- ---- what stops
 
 -- why a request that was read isn't answered: its words aren't UTF-8, or memory is wanting
 abbrev pub AnswerCause : (text : List ℕ) → ServeFault → Type 0

@@ -2,10 +2,11 @@
 ghost use Rattle.std.specs.Prelude.{◌≡◌, ◌<◌, ◌-◌, ◌^◌, ℕ, List, [], Some, IfOk, IfErr, OnOk, OnErr};
 ghost use Rattle.report_ends.specs.Causes.{Rose};
 ghost use Rattle.report_ends.specs.Memory.{sure_held};
+ghost use Rattle.report_ends.specs.Offers.{OffersPiece};
 ghost use Rattle.report_ends.specs.Streams.{AppendsPrefix};
 ghost use Rattle.std.specs.Io.KnownBytes.{Appends};
 ghost use Rattle.serving.specs.Requests.{Answer, IsAnswerTo, AreWhole, answer_bytes};
-ghost use Rattle.serving.specs.Serving.{Turn, TookPart, ServedAll, ServedSome, AnswerCause, OfferCause, FaultCause};
+ghost use Rattle.serving.specs.Serving.{Turn, TookPart, ServedAll, ServedSome, OffersAnswer, OffersAnswers, AnswerCause, OfferCause, FaultCause};
 
 use crate::answering::Answering;
 use crate::fault::ServeFault;
@@ -67,12 +68,13 @@ fn answer_of<A: Answering>(
     Ok(bytes)
 }
 
-/// Offers the bytes of an answer.
+/// Offers the bytes of an answer as one piece.
 fn offer<K: Sink>(bytes: &[u8], out: &mut K) -> Result<(), ServeFault>
     ensures whole { OnOk result (Appends (K.held out.old) (K.held out.new) bytes.now) }
     ensures part { OnErr result (AppendsPrefix (K.held out.old) (K.held out.new) bytes.now) }
     ensures fault { IfErr result (OfferCause (Rose (K.faults out.old) (K.faults out.new))) }
     ensures kept { OnOk result (K.faults out.new ≡ K.faults out.old) }
+    ensures pieces { OffersPiece K.Offered out.old out.new bytes.now result }
 {
     match write_whole(bytes, out) {
         Ok(()) => Ok(()),
@@ -93,6 +95,7 @@ fn serve_one<S: Source, K: Sink, A: Answering>(
     ensures fault { IfErr result (FaultCause (Rose (S.faults source.old) (S.faults source.new)) (Rose (K.faults out.old) (K.faults out.new)) ⊥ (S.left source.old) (S.left source.new)) }
     ensures read_kept { OnOk result (S.faults source.new ≡ S.faults source.old) }
     ensures write_kept { OnOk result (K.faults out.new ≡ K.faults out.old) }
+    ensures pieces { OffersAnswer K.Offered (A.Answers answering.now) out.old out.new result }
 {
     let Some(request) = read_request(alloc, source)? else {
         return Ok(None);
@@ -119,6 +122,8 @@ pub fn serve<S: Source, K: Sink, A: Answering>(
     ensures served { OnOk result (ServedAll (A.Answers answering.now) (S.left source.old) (S.left source.new) (K.held out.old) (K.held out.new)) }
     ensures stopped { IfErr result (ServedSome (A.Answers answering.now) (Rose (S.faults source.old) (S.faults source.new)) (Rose (K.faults out.old) (K.faults out.new))
         (S.left source.old) (S.left source.new) (K.held out.old) (K.held out.new)) }
+    // Each answer is offered as one piece.
+    ensures pieces { OffersAnswers K.Offered (A.Answers answering.now) out.old out.new result }
     // Where the input is fewer whole requests than `MOST_REQUESTS`, and no end fails, all are answered, but for want of memory.
     ensures complete { (count : ℕ) (input : List ℕ) → count < 2 ^ 32 - 1 → S.left source.old ≡ Some input → AreWhole count input
         → ¬ (Rose (S.faults source.old) (S.faults source.new)) → ¬ (Rose (K.faults out.old) (K.faults out.new)) → IfErr result (λ fault. fault ≡ ServeFault.Memory) }

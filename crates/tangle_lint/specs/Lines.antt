@@ -1,5 +1,5 @@
 -- The lines on tangled names.
-use Rattle.std.specs.Prelude.{ℕ, List, [], ◌∷◌, ◌++◌, codes, decimal}
+use Rattle.std.specs.Prelude.{◌≡◌, ℕ, List, [], ◌∷◌, ◌++◌, codes, decimal}
 use Rattle.std.specs.List.{concat, flat_map}
 use Rattle.std.specs.Str.{encode_utf8_all}
 use Rattle.semantic_syntax.specs.Reading.{symbol_of}
@@ -31,6 +31,10 @@ reasons_text rs = flat_map reason_text rs
 -- a line on a name, given in UTF-8: its first symbol, and the reasons
 unfoldable pub name_line : ℕ → List ℕ → List Reason → List ℕ
 name_line symbol name reasons = concat (codes "tangled " ∷ decimal symbol ∷ codes " " ∷ quoted name ∷ reasons_text reasons ∷ codes "\n" ∷ [])
+
+-- the text is one line on a name
+abbrev pub IsNameLine : List ℕ → Type 0
+IsNameLine text = (symbol : ℕ) × (name : List ℕ) × (reasons : List Reason) × (name_line symbol name reasons ≡ text)
 
 -- the line of a tangled name
 abbrev pub tangle_line : Tables → Tangle → List ℕ

@@ -1,7 +1,7 @@
-use Rattle.std.proofs.Common.{ap, ◌∙◌}
-use Rattle.report_ends.proofs.Stages.{lacks_memory_at_once}
+use Rattle.std.proofs.Common.{ap, ◌∙◌, refl}
+use Rattle.report_ends.proofs.Stages.{lacks_memory_at_once, writes_line}
 use Rattle.report_lines.specs.TableLines.{free_text}
-use Rattle.report_lines.proofs.Items.{writes_same}
+use Rattle.report_lines.specs.Rows as row
 use Rattle.report_lines.proofs.Utf8.{same_characters}
 use Rattle.report_lines.proofs.write_references.write_free.Goals as goal
 
@@ -9,5 +9,7 @@ pub returns-in_err-make_free_line : goal.returns-in_err-make_free_line
 returns-in_err-make_free_line g c = lacks_memory_at_once g.K.Sink.held g.K.Sink.faults c.args.out.now _ c.from_residual.result c.from_residual.ensures.1
 
 pub returns : goal.returns
-returns g c = writes_same g.K.Sink.held g.K.Sink.faults _ _ _ _ _ c.offer.ensures
+returns g c =
+    writes_line g.K.Sink.held g.K.Sink.faults _ _ _ _ _ c.offer.ensures.written c.offer.ensures.pieces
     (c.in_ok-make_free_line.ensures ∙ ap (λ bytes. free_text bytes c.args.references.now) (same_characters _ _ c.as_str.utf8 c.as_str.ensures))
+    (row.free _, refl)

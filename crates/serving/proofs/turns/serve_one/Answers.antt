@@ -1,6 +1,7 @@
 use Rattle.std.proofs.Common.{subst}
 use Rattle.serving.specs.Reads.{MayBeRead}
 use Rattle.serving.proofs.Exchanges.{nothing_on_fault, part_on_fault, unread, unanswered, unoffered}
+use Rattle.serving.proofs.Offering.{stops_before, stops_within, offers_one}
 use Rattle.serving.proofs.turns.serve_one.Goals as goal
 
 pub returns-in_err-request-clause-part : goal.returns-in_err-request-clause-part
@@ -24,3 +25,19 @@ returns-in_err-offer-clause-part g c =
 
 pub returns-in_err-offer-clause-fault : goal.returns-in_err-offer-clause-fault
 returns-in_err-offer-clause-fault g c = unoffered _ _ _ _ _ c.in_err-offer.field-0.0 c.from_residual-in_err-offer.result c.in_err-offer.ensures.fault c.from_residual-in_err-offer.ensures.1
+
+pub returns-in_err-request-clause-pieces : goal.returns-in_err-request-clause-pieces
+returns-in_err-request-clause-pieces g c = stops_before g.K.Sink.Offered _ _ c.from_residual.result _ c.from_residual.ensures.1
+
+pub returns-in_err-bytes-clause-pieces : goal.returns-in_err-bytes-clause-pieces
+returns-in_err-bytes-clause-pieces g c = stops_before g.K.Sink.Offered _ _ c.from_residual-in_err-bytes.result _ c.from_residual-in_err-bytes.ensures.1
+
+pub returns-in_err-offer-clause-pieces : goal.returns-in_err-offer-clause-pieces
+returns-in_err-offer-clause-pieces g c =
+    let asked = subst (MayBeRead _ _) c.in-Some.is c.in_ok-request.ensures.read in
+    stops_within g.K.Sink.Offered _ _ _ asked.0 _ _ c.in_ok-bytes.bytes.items _ c.from_residual-in_err-offer.result asked.1 c.in_ok-bytes.ensures.answer (rw c.deref.ensures.value at c.in_err-offer.ensures.pieces.part) c.from_residual-in_err-offer.ensures.1
+
+pub returns-clause-pieces : goal.returns-clause-pieces
+returns-clause-pieces g c =
+    let asked = subst (MayBeRead _ _) c.in-Some.is c.in_ok-request.ensures.read in
+    offers_one g.K.Sink.Offered _ _ _ asked.0 _ _ c.in_ok-bytes.bytes.items _ asked.1 c.in_ok-bytes.ensures.answer (rw c.deref.ensures.value at c.in_ok-offer.ensures.pieces.whole)
