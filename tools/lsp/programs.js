@@ -4,10 +4,10 @@
 const { cratesOf, prepare, programsFor, readyOf } = require('../programs/index.js');
 const { Pool } = require('../programs/pool.js');
 
-const TOOLS = ['report', 'name_lint', 'renamer'];
+const TOOLS = ['file_check', 'report', 'name_lint', 'renamer'];
 
-// As many as there are answers that are waited for at once, and as many that stand ready for those that a change makes void.
-const SIDE_BY_SIDE = 4;
+// One answers; the other stands ready for when a change makes that answer void.
+const SIDE_BY_SIDE = 2;
 
 const INFO = 3;
 const ERROR = 1;
