@@ -31,7 +31,7 @@ module _ {K : Type 0} (Offered : Offering K) where
     offered_again count some call = record {
       counts = before.counts ++ count ∷ [];
       calls = subst (OffersAgain Offered (before.counts ++ count ∷ []) a piece c) (drop-drop count n piece)
-      (one_more before.counts a b c piece (drop n piece) count before.calls some (subst (λ rest. Offered b rest (Ok count) c) (take_rest n piece) call));
+          (one_more before.counts a b c piece (drop n piece) count before.calls some (subst (λ rest. Offered b rest (Ok count) c) (take_rest n piece) call));
     }
 
     -- a call that took nothing, or failed

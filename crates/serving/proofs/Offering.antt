@@ -5,7 +5,7 @@ use Rattle.std.specs.declared.alloc.Global.{Global}
 use Rattle.report_ends.specs.Offers.{Offering, OffersUntil, OffersPart, OffersEach}
 use Rattle.report_ends.proofs.Offering.{each_append}
 use Rattle.serving.specs.Requests.{Answer, IsRequest, IsAnswerTo, answer_bytes}
-use Rattle.serving.specs.Serving.{IsSomeAnswer, StopsOffering, OffersAnswer, OffersAnswers}
+use Rattle.serving.specs.Serving.{IsSomeAnswer, OffersAnswer, OffersAnswers}
 use Rattle.serving.specs.declared.fault.ServeFault.{ServeFault}
 
 module _ {K : Type 0} (Offered : Offering K) (Answers : List (String Global) → List ℕ → Answer → Type 0) where

@@ -2,7 +2,7 @@ use Rattle.std.proofs.Common.{ap, Ok, subst, ◌∙◌, refl, arith}
 use Rattle.serving.specs.Serving.{Turn, OffersAnswer}
 use Rattle.serving.proofs.Steps.{stopped_by}
 use Rattle.serving.proofs.Exchanges.{served_none, served_more, served_some, served_most}
-use Rattle.serving.proofs.Offering.{none_yet, one_more, no_more, stopped, too_many}
+use Rattle.serving.proofs.Offering.{none_yet, one_more, stopped, too_many}
 use Rattle.serving.proofs.Wholes.{only_memory}
 use Rattle.serving.specs.declared.fault.ServeFault.TheVariants as fault
 use Rattle.serving.proofs.turns.serve.Goals as goal
