@@ -31,23 +31,25 @@ lines_end : (locals : List (Bor (List ℕ))) (links : List Link) (i : ℕ) → i
 lines_end locals links i e =
     lines_short (map characters (drop i locals)) (drop i links) (omega (arith, length-map (drop i locals) characters, length-drop i locals, length-drop i links, e))
 
+-- the line of the next pair, and what is left behind it
+next_pair : {P : Type 0} (locals : List (Bor (List ℕ))) (links : List Link) (ys : List P) (x : Bor (List ℕ)) (l : Link) → length ys < length locals → length ys < length links → x ≡ get_or locals (length ys) x → l ≡ get_or links (length ys) l
+    → link_line (characters x) l ++ left locals links (length ys + 1) ≡ left locals links (length ys)
+next_pair locals links ys x l h k named linked = (λ j. link_line (characters (named j)) (linked j) ++ left locals links (length ys + 1)) ∙ line_turn locals links (length ys) x l h k
+
 module _ {K : Type 0} (held : K → Option (List ℕ)) (faults : K → ℕ) {Offered : Offering K} {IsLine : List ℕ → Type 0} (locals : List (Bor (List ℕ))) (links : List Link) where
   module _ {P : Type 0} (ys : List P) (x : Bor (List ℕ)) (l : Link) (h : length ys < length locals) (k : length ys < length links) (named : x ≡ get_or locals (length ys) x) (linked : l ≡ get_or links (length ys) l) where
-    split : link_line (characters x) l ++ left locals links (length ys + 1) ≡ left locals links (length ys)
-    split = (λ j. link_line (characters (named j)) (linked j) ++ left locals links (length ys + 1)) ∙ line_turn locals links (length ys) x l h k
-
     -- a pair more
     pub pair_goes_on : (p : P) (a b c : K) (text : List ℕ) (u : Unit) → PartWritten held faults Offered IsLine a b (left locals links (length ys)) text → WritesLines held faults Offered IsLine b c (link_line (characters x) l) (Ok u)
         → PartWritten held faults Offered IsLine a c (left locals links (length (ys ++ p ∷ []))) text
     pair_goes_on p a b c text u before call =
         writing_goes_on held faults a b c (link_line (characters x) l) (left locals links (length (ys ++ p ∷ []))) (left locals links (length ys)) text u before call
-        (ap (λ n. link_line (characters x) l ++ left locals links n) (length-append ys (p ∷ [])) ∙ split)
+        (ap (λ n. link_line (characters x) l ++ left locals links n) (length-append ys (p ∷ [])) ∙ next_pair locals links ys x l h k named linked)
 
     -- its line isn't written
     pub pair_fails : (a b c : K) (text : List ℕ) (error : ReportError) (result : Result Unit ReportError) → PartWritten held faults Offered IsLine a b (left locals links (length ys)) text → WritesLines held faults Offered IsLine b c (link_line (characters x) l) (Err error)
         → IsErrAnd result (λ told. told ≡ error) → WritesLines held faults Offered IsLine a c text result
     pair_fails a b c text error result before call same =
-        writing_fails held faults a b c (link_line (characters x) l) (left locals links (length ys + 1)) (left locals links (length ys)) text error result before call split same
+        writing_fails held faults a b c (link_line (characters x) l) (left locals links (length ys + 1)) (left locals links (length ys)) text error result before call (next_pair locals links ys x l h k named linked) same
 
   -- no pair is left
   pub pairs_end : (i : ℕ) (a b : K) (text : List ℕ) (u : Unit) → i ≡ min (length locals) (length links) → PartWritten held faults Offered IsLine a b (left locals links i) text → WritesLines held faults Offered IsLine a b text (Ok u)
