@@ -28,14 +28,14 @@ use Rattle.language_ties.specs.Bound.{Bound, bound_in, bound_here, bound_outward
 use Rattle.language_ties.specs.Bound as language
 use Rattle.language_ties.specs.ToldNames.{Told, told_by_declaration, told_by_bound, is_function_in_block, DeclaresAsBound, Declares, DeclarationsAreBound}
 use Rattle.language_ties.specs.EcmaScript.{is_ecmascript_kind, is_ecmascript}
-use Rattle.language_ties.specs.Environments.{environments, innermost, takes_variables, variable_environment}
+use Rattle.language_ties.specs.Environments.{is_made_for, environments, innermost, takes_variables, variable_environment}
 use Rattle.language_ties.specs.Scopes.{maker_of_scope, maker_of_environment}
 use Rattle.language_ties.specs.declared.bound_as.BoundAs.{BoundAs}
 use Rattle.language_ties.specs.declared.bound_as.BoundAs.TheVariants as bound
 use Rattle.language_ties.specs.declared.environment_kind.EnvironmentKind.TheVariants as environment
 use Rattle.language_ties.proofs.EnvironmentsRound.{IsKnown, KnownAt, each_map, known_program}
 use Rattle.language_ties.proofs.SwitchShape.{is_bare_rest}
-use Rattle.language_ties.proofs.Innermost.{IsPlain, innermost_made, variables_made}
+use Rattle.language_ties.proofs.Innermost.{IsPlain, innermost_made, variables_made, taking_no_body}
 
 abbrev told : Node → ℕ → Told
 told id m = record { identifier = id.node_id; name = id.text; maker = m }
@@ -111,22 +111,40 @@ module _ (s : SourceType) (p : Place) (w : in_with_under p.path ≡ false) (know
       one : map told_by_declaration (catch_names p x) ≡ map told_by_bound (bound_by_catch (environments p.node p.path) x)
       one = go (is kind.BindingIdentifier x)
 
-  functions : p.node.kind ≡ kind.Function → is_function_in_block p.node p.path ≡ false
+  -- a function that stays where it stands, or has its name as an expression
+  abbrev Stays : Type 0
+  Stays = is_statement p.node ≡ true → (is_block_function p ≡ false) × (language.is_block_function s p.node p.path ≡ false) × (is_made_for environment.IfBody (innermost (environments p.node p.path)) ≡ false)
+
+  functions_told : Stays
       → map told_by_declaration (cond (is_statement p.node) [] (map (declare p.node (own_function_row p (opened_scope p 0)) (has mark.Pure p.node)) (ids p.node)) ++ cond (is_statement p.node) (map (declare p.node (function_row p) (has mark.Pure p.node)) (ids p.node)) [])
       ≡ map told_by_bound (bound_by kind.Function s p.node p.path)
-  functions k h = go (is_statement p.node) refl
+  functions_told stays = go (is_statement p.node) refl
     where
       go : (b : Bool) → is_statement p.node ≡ b
           → map told_by_declaration (cond b [] (map (declare p.node (own_function_row p (opened_scope p 0)) (has mark.Pure p.node)) (ids p.node)) ++ cond b (map (declare p.node (function_row p) (has mark.Pure p.node)) (ids p.node)) [])
           ≡ map told_by_bound (map (cond b (bound_by_declaration s p.node p.path) (bound_in bound.OwnName (record { kind = environment.OwnName; maker = p.node.node_id }) [] [])) (ids p.node))
       go false e = same_told_last (declare p.node (own_function_row p (opened_scope p 0)) (has mark.Pure p.node)) (bound_in bound.OwnName (record { kind = environment.OwnName; maker = p.node.node_id }) [] []) (ids p.node) (λ id. refl)
       go true e =
-          let takes : takes_variables (innermost (environments p.node p.path)) ≡ true = taken (is kind.Function p.node) (is_statement p.node) (takes_variables (innermost (environments p.node p.path))) (ap (λ q. same_kind q kind.Function) k) e h in
-          let made : maker_of_scope (place.innermost p.chain) ≡ maker_of_environment (innermost (environments p.node p.path)) = innermost_made p.chain p.node p.path (known.round w) (inr takes) in
-          let variable : is_var (place.innermost p.chain) ≡ true = ap (λ m. m.takes_variables) made ∙ takes in
-          let tables : is_block_function p ≡ false = not_block (not (is_special p.node)) (not (is_typescript p.source_type)) (not (is_strict p.chain)) (is_var (place.innermost p.chain)) (is_clause (place.innermost p.chain)) variable in
-          let ours : language.is_block_function s p.node p.path ≡ false = ap (λ b. not b && not (is_special p.node) && not (language.is_strict s p.path)) takes in
+          let (tables, ours, no_body) = stays e in
+          let made : maker_of_scope (place.innermost p.chain) ≡ maker_of_environment (innermost (environments p.node p.path)) = innermost_made p.chain p.node p.path (known.round w) (inr no_body) in
           same_told (declare p.node (function_row p) (has mark.Pure p.node)) (bound_by_declaration s p.node p.path) (ids p.node) (λ id. rw (tables, ours) (ap (λ m. told id m.node) made))
+
+  functions : p.node.kind ≡ kind.Function → is_function_in_block p.node p.path ≡ false
+      → map told_by_declaration (cond (is_statement p.node) [] (map (declare p.node (own_function_row p (opened_scope p 0)) (has mark.Pure p.node)) (ids p.node)) ++ cond (is_statement p.node) (map (declare p.node (function_row p) (has mark.Pure p.node)) (ids p.node)) [])
+      ≡ map told_by_bound (bound_by kind.Function s p.node p.path)
+  functions k h = functions_told (λ e.
+      let takes : takes_variables (innermost (environments p.node p.path)) ≡ true = taken (is kind.Function p.node) (is_statement p.node) (takes_variables (innermost (environments p.node p.path))) (ap (λ q. same_kind q kind.Function) k) e h in
+      let no_body : is_made_for environment.IfBody (innermost (environments p.node p.path)) ≡ false = taking_no_body (innermost (environments p.node p.path)) takes in
+      let made : maker_of_scope (place.innermost p.chain) ≡ maker_of_environment (innermost (environments p.node p.path)) = innermost_made p.chain p.node p.path (known.round w) (inr no_body) in
+      let variable : is_var (place.innermost p.chain) ≡ true = ap (λ m. m.takes_variables) made ∙ takes in (
+        not_block (not (is_special p.node)) (not (is_typescript p.source_type)) (not (is_strict p.chain)) (is_var (place.innermost p.chain)) (is_clause (place.innermost p.chain)) variable,
+        ap (λ b. not b && not (is_special p.node) && not (language.is_strict s p.path)) takes,
+        no_body,
+      ))
+
+  -- so it is of a function in a block that stays there
+  pub statements_told : p.node.kind ≡ kind.Function → Stays → map told_by_declaration (declared_inside p.node.kind p (opened_scope p 0) ++ declared_by p.node.kind p) ≡ map told_by_bound (bound_by p.node.kind s p.node p.path)
+  statements_told k stays = subst (λ i. map told_by_declaration (declared_inside i p (opened_scope p 0) ++ declared_by i p) ≡ map told_by_bound (bound_by i s p.node p.path)) (sym k) (functions_told stays)
 
   classes : IsPlain p.node p.path → map told_by_declaration (cond (is_statement p.node) [] (map (declare p.node (class_row p (opened_scope p 0 ∷ [])) false) (ids p.node)) ++ cond (is_statement p.node) (map (declare p.node (class_row p p.chain) false) (ids p.node)) [])
       ≡ map told_by_bound (bound_by kind.Class s p.node p.path)

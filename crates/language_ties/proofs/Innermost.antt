@@ -10,8 +10,9 @@ use Rattle.semantic_model.specs.Binder.{is_statement, is_var}
 use Rattle.semantic_model.specs.Declaration.{first_with, passed_before, route_from, outward_to}
 use Rattle.semantic_model.specs.Place as place
 use Rattle.semantic_model.specs.Place.{OpenScope}
-use Rattle.language_ties.specs.Environments.{Environment, is_outside_body, has_parameter_expressions, made_by, environments, innermost, takes_variables, first_taking, environment_or, variable_environment}
+use Rattle.language_ties.specs.Environments.{Environment, is_made_for, is_outside_body, has_parameter_expressions, made_by, environments, innermost, takes_variables, first_taking, environment_or, variable_environment}
 use Rattle.language_ties.specs.Scopes.{Maker, maker_of_scope, maker_of_environment, makers}
+use Rattle.language_ties.specs.declared.environment_kind.EnvironmentKind.{EnvironmentKind}
 use Rattle.language_ties.specs.declared.environment_kind.EnvironmentKind.TheVariants as environment
 
 abbrev first_maker : List Maker → Maker
@@ -48,9 +49,17 @@ first_scope (s ∷ ss) = go (is_var s) (first_scope ss)
 
 -- ---- environments
 
--- a node that is no function declared in the body of an `if`
+-- a node that is no function declared as the body of an `if`
 abbrev pub IsPlain : Node → List Node → Type 0
-IsPlain child path = ((is kind.Function child && is_statement child) ≡ false) ⊎ (takes_variables (innermost (environments child path)) ≡ true)
+IsPlain child path = ((is kind.Function child && is_statement child) ≡ false) ⊎ (is_made_for environment.IfBody (innermost (environments child path)) ≡ false)
+
+-- that is none which takes variables
+pub taking_no_body : (e : Environment) → takes_variables e ≡ true → is_made_for environment.IfBody e ≡ false
+taking_no_body e h = go e.kind h
+  where
+    go : (k : EnvironmentKind) → takes_variables (record { kind = k; maker = e.maker }) ≡ true → is_made_for environment.IfBody (record { kind = k; maker = e.maker }) ≡ false
+    go environment.IfBody q = absurd cc
+    go _ q = refl
 
 abbrev IsInner : List Environment → Type 0
 IsInner es = first_maker (makers es) ≡ maker_of_environment (innermost es)
@@ -75,7 +84,7 @@ object_inner : (b : Bool) (x : Node) (es : List Environment) → IsInner es → 
 object_inner true x es h = refl
 object_inner false x es h = h
 
-if_inner : (b : Bool) (x : Node) (es : List Environment) → (b ≡ false) ⊎ (takes_variables (innermost (cond b (record { kind = environment.IfBody; maker = x.node_id } ∷ []) [] ++ es)) ≡ true) → IsInner es → IsInner (cond b (record { kind = environment.IfBody; maker = x.node_id } ∷ []) [] ++ es)
+if_inner : (b : Bool) (x : Node) (es : List Environment) → (b ≡ false) ⊎ (is_made_for environment.IfBody (innermost (cond b (record { kind = environment.IfBody; maker = x.node_id } ∷ []) [] ++ es)) ≡ false) → IsInner es → IsInner (cond b (record { kind = environment.IfBody; maker = x.node_id } ∷ []) [] ++ es)
 if_inner false x es p h = h
 if_inner true x es (inl e) h = absurd cc
 if_inner true x es (inr e) h = absurd cc
@@ -87,7 +96,7 @@ inner child (x ∷ path) p = go x.kind refl p (λ q. inner x path q)
     further : (k : AstType) → x.kind ≡ k → same_kind k kind.Function ≡ false → (IsPlain x path → IsInner (environments x path)) → IsInner (environments x path)
     further k e h later = later (inl (ap (λ b. b && is_statement x) (ap (λ q. same_kind q kind.Function) e ∙ h)))
 
-    go : (k : AstType) → x.kind ≡ k → ((is kind.Function child && is_statement child) ≡ false) ⊎ (takes_variables (innermost (made_by k x child ++ environments x path)) ≡ true) → (IsPlain x path → IsInner (environments x path)) → IsInner (made_by k x child ++ environments x path)
+    go : (k : AstType) → x.kind ≡ k → ((is kind.Function child && is_statement child) ≡ false) ⊎ (is_made_for environment.IfBody (innermost (made_by k x child ++ environments x path)) ≡ false) → (IsPlain x path → IsInner (environments x path)) → IsInner (made_by k x child ++ environments x path)
     go kind.Program e q later = refl
     go kind.Function e q later = function_inner (not (is_outside_body child) && has_parameter_expressions x) x (environments x path)
     go kind.ArrowFunctionExpression e q later = arrow_inner (not (is_outside_body child) && has_parameter_expressions x) x (environments x path)

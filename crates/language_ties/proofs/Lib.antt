@@ -11,6 +11,7 @@ pub mod UndeclaredNames
 pub mod shared
 pub mod nearest
 pub mod symbols
+pub mod block_functions
 pub mod own_names
 pub mod clear
 pub mod agree

@@ -12,7 +12,7 @@ use Rattle.semantic_model.specs.Step.{entering, steps}
 use Rattle.tangle_model.specs.Surroundings.{in_with_under}
 use Rattle.language_ties.specs.Agreement.{use_agrees}
 use Rattle.language_ties.specs.Bound.{Bound, bound_by, is_bound_as, written}
-use Rattle.language_ties.specs.Environments.{Environment, is_made_for, has_parameter_expressions, takes_variables}
+use Rattle.language_ties.specs.Environments.{Environment, is_made_for, has_parameter_expressions}
 use Rattle.language_ties.specs.Meaning.{use_at}
 use Rattle.language_ties.specs.Moved.{bound_of}
 use Rattle.language_ties.specs.declared.bound_as.BoundAs.TheVariants as bound
@@ -22,18 +22,18 @@ abbrev pub has_none : List Environment → Bool
 has_none [] = true
 has_none (e ∷ es) = false
 
--- bound by one environment alone, or as the declaration of a class, which is bound inside it, too; by no function in a block and by no catch clause
+-- bound by one environment alone, or as the declaration of a class, which is bound inside it, too: by no function that has a variable beside its block's, nor as the body of an `if`; and by no catch clause
 abbrev pub is_declared_plainly : Bound → Bool
 is_declared_plainly b =
     (has_none b.also || is_bound_as bound.Lexical b)
     && (not (is_made_for environment.Catch b.environment || (is_made_for environment.Class b.environment || is_bound_as bound.CatchName b))
-    && (not (is_bound_as bound.Function b) || takes_variables b.environment))
+    && not (is_bound_as bound.Function b && is_made_for environment.IfBody b.environment))
 
 -- so, or as the own name of a function or class expression
 abbrev pub is_plain : Bound → Bool
 is_plain b = is_bound_as bound.OwnName b || is_declared_plainly b
 
--- the name is bound only so: by `var`, `let`, `const`, imports, classes, functions outside of blocks, as a parameter, and as the own name of an expression
+-- the name is bound only so: by `var`, `let`, `const`, imports, classes, functions without a variable beside, as a parameter, and as the own name of an expression
 abbrev pub IsPlainName : Tree → Name → Type 0
 IsPlainName p name = (b : Bound) → Among b (written p.source_type (steps p)) → b.name ≡ name → is_plain b ≡ true
 

@@ -87,11 +87,11 @@ pub fn names_keep_clear()
 {}
 
 /// Tables and language agree on a name of which no `var` clashes, and which the program binds by `var`, `let`, `const`, imports,
-/// classes, functions outside of blocks, parameters and own names of expressions alone, all outside of `with`: each reference is
-/// tied to the one symbol of all by which the innermost environment binds the name that binds it at all, and free where none does,
-/// in headers of functions, too. Left out are references in a `with`, and those among parameters without an expression of a
-/// function that binds the name, which no source has: where computed keys are marked, none stands so
-/// (`references_stand_in_expressions`).
+/// classes, functions, parameters and own names of expressions alone, all outside of `with`, by no function in a block of sloppy
+/// code that has a variable beside, and by none that is the body of an `if`: each reference is tied to the one symbol of all by
+/// which the innermost environment binds the name that binds it at all, and free where none does, in headers of functions, too.
+/// Left out are references in a `with`, and those among parameters without an expression of a function that binds the name, which
+/// no source has: where computed keys are marked, none stands so (`references_stand_in_expressions`).
 pub fn plain_names_agree()
     ensures each { (p : Tree) (name : Name) → first_fault p ≡ None → is_ecmascript p ≡ true
         → IsNumbered p.root → IsBoundOutsideWith p name → bytes_eq name (codes "arguments") ≡ false

@@ -2,7 +2,8 @@
 use Rattle.std.proofs.Common.{◌≡◌, ℕ, List, [], ◌∷◌, ◌++◌, Some, None, Bool, true, false, ◌&&◌, ◌||◌, not, cond, map, flat_map, inl, inr, ◌⊎◌, refl, sym, ap, subst, ◌∙◌, bytes_eq, codes, if◌then◌else◌}
 use Rattle.std.specs.List.{list_any}
 use Rattle.std.specs.Prelude.{slice_get}
-use Rattle.std.proofs.lemmas.Bool.{cases_Bool}
+use Rattle.std.proofs.lemmas.Bool.{cases_Bool, and_from}
+use Rattle.semantic_syntax.proofs.Truth.{or_true}
 use Rattle.semantic_kinds.specs.Kinds.{same_kind}
 use Rattle.semantic_kinds.specs.declared.kind.AstType.{AstType}
 use Rattle.semantic_kinds.specs.declared.kind.AstType.TheVariants as kind
@@ -54,7 +55,7 @@ use Rattle.language_ties.proofs.agree.Identifiers.{same_again}
 use Rattle.language_ties.proofs.agree.KnownBounds.{some_is, KnownBound, bodiless}
 use Rattle.language_ties.proofs.agree.KnownNodes.{node_at}
 use Rattle.language_ties.proofs.agree.MadeEnvironments.{environment_kind_is, may_make, IsMadeBy, made_in, EndsAtProgram}
-use Rattle.language_ties.proofs.agree.PlainBounds.{no_catch_name, taking}
+use Rattle.language_ties.proofs.agree.PlainBounds.{no_catch_name, by_one}
 use Rattle.language_ties.proofs.clear.PassedScopes.{IsPassed, passes_scope, passed_takes_none, before_among, scope_of_number, route_passes, variables_taken}
 use Rattle.language_ties.proofs.clear.SingleNames.{identifier_of, same_declaration, declared_once}
 use Rattle.language_ties.proofs.own_names.AnyBounds.{AnyBound, any_bound, IsDeclared, is_declared, declared_known, declared_own, IsMade, is_made, own_kind}
@@ -310,11 +311,20 @@ parameter_takes node (y ∷ path) k f w = list_takes path list f.2 w
         (function_takes_it z (environments z path) (or_first (is_function_kind z.kind) (is_ecmascript_kind z.kind) parent g.1))
 
 abbrev LexicalOrTaken : Bound → Type 0
-LexicalOrTaken b = (is_bound_as bound.Lexical b ≡ true) ⊎ (takes_variables b.environment ≡ true)
+LexicalOrTaken b = (is_lexical_in b.environment b ≡ true) ⊎ (takes_variables b.environment ≡ true)
+
+by_lexical : (b : Bound) → is_bound_as bound.Lexical b ≡ true → LexicalOrTaken b
+by_lexical b l = inl (and_from (same_environment b.environment b.environment) _ (same_again b.environment) (ap (λ t. t || (is_bound_as bound.Function b && not (takes_variables b.environment))) l))
+
+by_function : (b : Bound) → is_bound_as bound.Function b ≡ true → LexicalOrTaken b
+by_function b f = elim (cases_Bool (takes_variables b.environment)) [
+  | inl t ↦ inr t
+  | inr t ↦ inl (and_from (same_environment b.environment b.environment) _ (same_again b.environment) (ap (λ u. is_bound_as bound.Lexical b || u) (rw (f, t) refl) ∙ or_true (is_bound_as bound.Lexical b)))
+]
 
 module _ (s : SourceType) (q : Place) (f : ParentsFit q.node.kind q.path) (rooted : EndsAtProgram q.node q.path) (b : Bound) (plain_bound : is_declared_plainly b ≡ true) (no_own : is_bound_as bound.OwnName b ≡ false) where
   lexical_names : (es : List Environment) (names : List Node) → Among b (map (bound_here bound.Lexical es) names) → LexicalOrTaken b
-  lexical_names es names a = let (n, c, i) = among_map (bound_here bound.Lexical es) names b a in inl (sym (ap (is_bound_as bound.Lexical) i))
+  lexical_names es names a = let (n, c, i) = among_map (bound_here bound.Lexical es) names b a in by_lexical b (sym (ap (is_bound_as bound.Lexical) i))
 
   declarator : (path : List Node) → q.path ≡ path → Among b (bound_by_declarator q.node path) → LexicalOrTaken b
   declarator [] e a = absurd a
@@ -339,7 +349,7 @@ module _ (s : SourceType) (q : Place) (f : ParentsFit q.node.kind q.path) (roote
       go : (t : Bool) → Among b (map (cond t (bound_by_declaration s q.node q.path) (bound_in bound.OwnName (record { kind = environment.OwnName; maker = q.node.node_id }) [] [])) (names_at role.Id q.node)) → LexicalOrTaken b
       go true c =
           let (n, d, i) = among_map (bound_by_declaration s q.node q.path) (names_at role.Id q.node) b c in
-          inr (taking b plain_bound (sym (ap (is_bound_as bound.Function) i) ∙ function_sort n))
+          by_function b (sym (ap (is_bound_as bound.Function) i) ∙ function_sort n)
       go false c =
           let (n, d, i) = among_map (bound_in bound.OwnName (record { kind = environment.OwnName; maker = q.node.node_id }) [] []) (names_at role.Id q.node) b c in
           absurd (never (ap (is_bound_as bound.OwnName) i ∙ no_own))
@@ -350,7 +360,7 @@ module _ (s : SourceType) (q : Place) (f : ParentsFit q.node.kind q.path) (roote
       go : (t : Bool) → Among b (map (cond t (bound_in bound.Lexical (innermost (environments q.node q.path)) (record { kind = environment.Class; maker = q.node.node_id } ∷ []) []) (bound_in bound.OwnName (record { kind = environment.Class; maker = q.node.node_id }) [] [])) (names_at role.Id q.node)) → LexicalOrTaken b
       go true c =
           let (n, d, i) = among_map (bound_in bound.Lexical (innermost (environments q.node q.path)) (record { kind = environment.Class; maker = q.node.node_id } ∷ []) []) (names_at role.Id q.node) b c in
-          inl (sym (ap (is_bound_as bound.Lexical) i))
+          by_lexical b (sym (ap (is_bound_as bound.Lexical) i))
       go false c =
           let (n, d, i) = among_map (bound_in bound.OwnName (record { kind = environment.Class; maker = q.node.node_id }) [] []) (names_at role.Id q.node) b c in
           absurd (never (ap (is_bound_as bound.OwnName) i ∙ no_own))
@@ -403,6 +413,15 @@ any_of g (z ∷ xs) y (inr a) k = or_second (g z) (list_any g xs) (any_of g xs y
 unmoved_variable : (ws : List Bound) (b : Bound) → is_bound_as bound.Function b ≡ false → moved_by ws b ≡ b
 unmoved_variable ws b h = ap (λ t. cond t (record b { also = unless_barred ws b b.also }) b) h
 
+-- what is bound plainly has nothing that could be barred
+unmoved_plain : (ws : List Bound) (b : Bound) → is_declared_plainly b ≡ true → moved_by ws b ≡ b
+unmoved_plain ws b h = elim (cases_Bool (is_bound_as bound.Function b)) [
+  | inr q ↦ unmoved_variable ws b q
+  | inl q ↦ (let sort : b.sort ≡ bound.Function = same_true the_ways tt b.sort bound.Function q in
+      let alone : b.also ≡ [] = by_one b h (ap (λ w. is_bound_as bound.Lexical (record b { sort = w })) sort) in
+      ap (λ t. cond t (record b { also = unless_barred ws b b.also }) b) q ∙ ap (λ es. record b { also = es }) (ap (unless_barred ws b) alone ∙ sym alone))
+]
+
 no_function : (b : Bound) (k : BoundAs) → is_bound_as k b ≡ true → is_bound_as k (record b { sort = bound.Function }) ≡ false → is_bound_as bound.Function b ≡ false
 no_function b k h n = elim (cases_Bool (is_bound_as bound.Function b)) [
   | inr q ↦ q
@@ -419,14 +438,13 @@ module _ (p : Tree) (h : first_fault p ≡ None) (e : is_ecmascript p ≡ true) 
   abbrev ds : List Declaration
   ds = declarations (events (steps p))
 
-  clash : (b c : Bound) (d : Environment) → Among b ws → Among c ws → b.name ≡ x → c.name ≡ x → is_bound_as bound.Var b ≡ true → is_bound_as bound.Lexical c ≡ true → Among d b.passed → c.environment ≡ d → ⊥
-  clash b c d i j n m var lexical a q =
+  clash : (b c : Bound) → Among b ws → Among c ws → b.name ≡ x → c.name ≡ x → is_bound_as bound.Var b ≡ true → is_declared_plainly c ≡ true → is_lexical_in c.environment c ≡ true → Among c.environment b.passed → ⊥
+  clash b c i j n m var plainly lexical a =
       let there : Among b bs = subst (λ z. Among z bs) (unmoved_variable ws b (no_function b bound.Var var refl)) (of_map (moved_by ws) ws b i) in
-      let other : Among c bs = subst (λ z. Among z bs) (unmoved_variable ws c (no_function c bound.Lexical lexical refl)) (of_map (moved_by ws) ws c j) in
+      let other : Among c bs = subst (λ z. Among z bs) (unmoved_plain ws c plainly) (of_map (moved_by ws) ws c j) in
       let same : bytes_eq c.name b.name ≡ true = elim (name_tells c.name b.name) [ inl k ↦ k.0 | inr k ↦ absurd (k.1 (m ∙ sym n)) ] in
       let named : bytes_eq b.name x ≡ true = elim (name_tells b.name x) [ inl k ↦ k.0 | inr k ↦ absurd (k.1 n) ] in
-      let in_it : is_lexical_in d c ≡ true = rw (subst (λ z. same_environment c.environment z ≡ true) q (same_again c.environment), lexical) refl in
-      let meets : meets_lexical b c ≡ true = rw (same, any_of (λ z. is_lexical_in z c) (b.passed ++ b.environment ∷ []) d (among_left d b.passed (b.environment ∷ []) a) in_it) refl in
+      let meets : meets_lexical b c ≡ true = rw (same, any_of (λ z. is_lexical_in z c) (b.passed ++ b.environment ∷ []) c.environment (among_left c.environment b.passed (b.environment ∷ []) a) lexical) refl in
       let clashing : clashes bs x b ≡ true = rw (var, named, any_of (meets_lexical b) bs c other meets) refl in
       never (sym (any_of (clashes bs x) bs b there clashing) ∙ no_clash)
 
@@ -510,7 +528,7 @@ module _ (p : Tree) (h : first_fault p ≡ None) (e : is_ecmascript p ≡ true) 
       let r : Place = w.known.declares.place in
       let familiar : IsFamiliar (node_at p) r = familiar_at r w.known.declares.entered in
       elim (lexical_or_taken p.source_type r familiar.parents familiar.rooted w.bind w.known.plainly w.known.no_own r.node.kind refl w.known.declares.binds) [
-        | inl lexical ↦ clash v.bind w.bind w.bind.environment v.among w.among v.named w.named passing.var lexical passing.among refl
+        | inl lexical ↦ clash v.bind w.bind v.among w.among v.named w.named passing.var w.known.plainly lexical passing.among
         | inr taken ↦ never (sym taken ∙ passing.takes_none)
       ]
 

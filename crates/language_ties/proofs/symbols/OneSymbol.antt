@@ -32,7 +32,7 @@ use Rattle.semantic_model.proofs.lists.Members.{among_left, among_right}
 use Rattle.tangle_model.specs.Surroundings.{in_with_under}
 use Rattle.language_ties.specs.Bound.{Bound, bound_in, bound_by, is_bound_as}
 use Rattle.language_ties.specs.EcmaScript.{is_ecmascript_kind, is_ecmascript}
-use Rattle.language_ties.specs.Environments.{environments, innermost, takes_variables}
+use Rattle.language_ties.specs.Environments.{is_made_for, environments, innermost, takes_variables}
 use Rattle.language_ties.specs.OneSymbol.{IsBoundByNode, EnvironmentsHaveOneSymbol}
 use Rattle.language_ties.specs.SharedSymbols.{is_own_name, HasHomesSymbol, ShareSymbols}
 use Rattle.language_ties.specs.ToldNames.{told_by_declaration, told_by_bound, is_function_in_block, Declares}
@@ -40,7 +40,7 @@ use Rattle.language_ties.specs.declared.bound_as.BoundAs.TheVariants as bound
 use Rattle.language_ties.specs.declared.environment_kind.EnvironmentKind.TheVariants as environment
 use Rattle.language_ties.proofs.DeclaredAsBound.{declarations_are_bound}
 use Rattle.language_ties.proofs.EnvironmentsRound.{IsKnown, KnownAt, known_program}
-use Rattle.language_ties.proofs.Innermost.{innermost_made}
+use Rattle.language_ties.proofs.Innermost.{innermost_made, taking_no_body}
 use Rattle.language_ties.proofs.shared.Events.{entering_visible}
 use Rattle.language_ties.proofs.shared.PlainNodes.{IsPlainPlace, IsEcmaScriptAt, ecmascript_program}
 use Rattle.language_ties.proofs.symbols.ScopeOpeners.{openers, IsOpened, AllOpened, IsPlaceOpened, targets_opened, places_opened, root_opener, one_scope}
@@ -119,23 +119,25 @@ module _ (p : Place) (known : IsKnown p) (w : in_with_under p.path ≡ false) (f
   never_moved k s b =
       let function : (is kind.Function p.node && is_statement p.node) ≡ true = rw (k, s) refl in
       let takes : takes_variables (innermost (environments p.node p.path)) ≡ true = takes_of (takes_variables (innermost (environments p.node p.path))) (stays_put (is kind.Function p.node && is_statement p.node) (not (takes_variables (innermost (environments p.node p.path)))) f function) in
-      let variable : is_var (place.innermost p.chain) ≡ true = ap (λ m. m.takes_variables) (innermost_made p.chain p.node p.path (known.round w) (inr takes)) ∙ takes in
+      let no_body : is_made_for environment.IfBody (innermost (environments p.node p.path)) ≡ false = taking_no_body (innermost (environments p.node p.path)) takes in
+      let variable : is_var (place.innermost p.chain) ≡ true = ap (λ m. m.takes_variables) (innermost_made p.chain p.node p.path (known.round w) (inr no_body)) ∙ takes in
       not_block (not (is_special p.node)) (not (is_typescript p.source_type)) (not (is_strict p.chain)) (is_var (place.innermost p.chain)) (is_clause (place.innermost p.chain)) variable b
 
-  none_moves : EachDeclared (λ d. d.how ≡ moved → ⊥) (declared_by p.node.kind p)
-  none_moves = each_on_entering (λ d. d.how ≡ moved → ⊥) (λ how r. how ≡ moved → ⊥) (λ node row is_pure name r. r) p.node.kind p (record {
-    at_home = λ q. absurd cc;
-    when_caught = λ q. absurd cc;
-    when_hoisted = λ e q. absurd cc;
-    when_moved = λ e s b q. never_moved e s b;
-    when_inferred = λ q. absurd cc;
-  })
+-- where no function of the node moves, nothing does
+pub none_moves : (p : Place) → (p.node.kind ≡ kind.Function → is_statement p.node ≡ true → is_block_function p ≡ true → ⊥) → EachDeclared (λ d. d.how ≡ moved → ⊥) (declared_by p.node.kind p)
+none_moves p never_moved = each_on_entering (λ d. d.how ≡ moved → ⊥) (λ how r. how ≡ moved → ⊥) (λ node row is_pure name r. r) p.node.kind p (record {
+  at_home = λ q. absurd cc;
+  when_caught = λ q. absurd cc;
+  when_hoisted = λ e q. absurd cc;
+  when_moved = λ e s b q. never_moved e s b;
+  when_inferred = λ q. absurd cc;
+})
 
-  placed_stays : (ds : List Declaration) (how : How) (d : Declaration) → d.how ≡ how → (d.how ≡ moved → ⊥) → placed_by how ds d ≡ d
-  placed_stays ds plain d e n = refl
-  placed_stays ds hoisted d e n = refl
-  placed_stays ds caught d e n = refl
-  placed_stays ds moved d e n = absurd (n e)
+placed_stays : (ds : List Declaration) (how : How) (d : Declaration) → d.how ≡ how → (d.how ≡ moved → ⊥) → placed_by how ds d ≡ d
+placed_stays ds plain d e n = refl
+placed_stays ds hoisted d e n = refl
+placed_stays ds caught d e n = refl
+placed_stays ds moved d e n = absurd (n e)
 
 -- ---- the program
 
@@ -164,23 +166,29 @@ module _ (p : Tree) (h : first_fault p ≡ None) (e : is_ecmascript p ≡ true) 
     pub unmoved : declaration.how ≡ moved → ⊥
     pub bodied : IsOwn (table_of p) place.chain declaration.route.target
 
-  known_at : (b : Bound) (c : IsBoundByNode p b) → IsKnown c.place
-  known_at b c = each_at KnownAt (steps p) (entering c.place) (known_program p h e) c.entered
+  known_at : (q : Place) → Among (entering q) (steps p) → IsKnown q
+  known_at q a = each_at KnownAt (steps p) (entering q) (known_program p h e) a
 
-  plain_at : (b : Bound) (c : IsBoundByNode p b) → IsPlainPlace c.place
-  plain_at b c = each_at IsEcmaScriptAt (steps p) (entering c.place) (ecmascript_program p h form.root e) c.entered
+  plain_at : (q : Place) → Among (entering q) (steps p) → IsPlainPlace q
+  plain_at q a = each_at IsEcmaScriptAt (steps p) (entering q) (ecmascript_program p h form.root e) a
 
-  pub declaration_of : (b : Bound) → IsBoundByNode p b → b.name ≡ x → DeclarationOf b
-  declaration_of b c n =
-      let q : Place = c.place in
+  -- a place that binds a name, not as an own one, and where nothing moves
+  pub record IsBinding (q : Place) (b : Bound) : Type 0 where
+    pub entered : Among (entering q) (steps p)
+    pub no_own_name : is_bound_as bound.OwnName b ≡ false
+    pub binds : Among b (bound_by q.node.kind p.source_type q.node q.path)
+    pub told : map told_by_declaration (declared_on_opening q (opened_scope q 0) ++ declared_on_entering q) ≡ map told_by_bound (bound_by q.node.kind p.source_type q.node q.path)
+    pub unmoved : EachDeclared (λ d. d.how ≡ moved → ⊥) (declared_on_entering q)
+
+  pub declaration_at : (q : Place) (b : Bound) → IsBinding q b → b.name ≡ x → DeclarationOf b
+  declaration_at q b c n =
       let own : OpenScope = opened_scope q 0 in
-      let known : IsKnown q = known_at b c in
-      let plain_place : IsPlainPlace q = plain_at b c in
-      let told : map told_by_declaration (declared_on_opening q own ++ declared_on_entering q) ≡ map told_by_bound (bound_by q.node.kind p.source_type q.node q.path) =
-      each_at (Declares p.source_type) (steps p) (entering q) (declarations_are_bound p h e) c.entered c.apart_from_with c.no_block_function in
+      let known : IsKnown q = known_at q c.entered in
+      let plain_place : IsPlainPlace q = plain_at q c.entered in
+      let told : map told_by_declaration (declared_on_opening q own ++ declared_on_entering q) ≡ map told_by_bound (bound_by q.node.kind p.source_type q.node q.path) = c.told in
       let empty : declared_on_opening q own ≡ [] = none_inside p.source_type q own b q.node.kind known.ecmascript c.binds c.no_own_name in
       let (d, a, t) = told_too (declared_on_entering q) (bound_by q.node.kind p.source_type q.node q.path) (subst (λ os. map told_by_declaration (os ++ declared_on_entering q) ≡ map told_by_bound (bound_by q.node.kind p.source_type q.node q.path)) empty told) b c.binds in
-      let stays : placed ds d ≡ d = placed_stays q known c.apart_from_with c.no_block_function ds d.how d refl (declared_at (λ i. i.how ≡ moved → ⊥) (declared_on_entering q) d (none_moves q known c.apart_from_with c.no_block_function) a) in
+      let stays : placed ds d ≡ d = placed_stays ds d.how d refl (declared_at (λ i. i.how ≡ moved → ⊥) (declared_on_entering q) d c.unmoved a) in
       let event : Among (declares d) (events_of ds (entering q)) = subst (λ i. Among (declares i) (events_of ds (entering q))) stays (of_map (λ i. declares (placed ds i)) (declared_on_entering q) d a) in
       let chain_in : AllInTable (table_of p) q.chain = entered_chain q (steps p) (steps_in p form) c.entered in
       let opened : AllOpened (openers (steps p)) q.chain = each_at (IsPlaceOpened (openers (steps p))) (steps p) (entering q) (places_opened p) c.entered in
@@ -196,13 +204,22 @@ module _ (p : Tree) (h : first_fault p ≡ None) (e : is_ecmascript p ≡ true) 
         entered = c.entered;
         told = a;
         binds = c.binds;
-        unmoved = declared_at (λ i. i.how ≡ moved → ⊥) (declared_on_entering q) d (none_moves q known c.apart_from_with c.no_block_function) a;
+        unmoved = declared_at (λ i. i.how ≡ moved → ⊥) (declared_on_entering q) d c.unmoved a;
         bodied = declared_at (λ i. IsOwn (table_of p) q.chain i.route.target) (declared_on_entering q) d (entering_own (table_of p) q.node.kind q chain_in) a;
         entry = (declared_at (IsDeclaredIn (table_of p) (root_body p form)) (declared_on_entering q) d (entering_in (table_of p) (root_body p form) q.node.kind q chain_in) a).target.entry;
       }
     where
       entered_chain : (q : Place) (ss : List Step) → EachStep (IsStepIn (table_of p)) ss → Among (entering q) ss → AllInTable (table_of p) q.chain
       entered_chain q ss k a = each_at (IsStepIn (table_of p)) ss (entering q) k a
+
+  pub declaration_of : (b : Bound) → IsBoundByNode p b → b.name ≡ x → DeclarationOf b
+  declaration_of b c n = declaration_at c.place b (record {
+    entered = c.entered;
+    no_own_name = c.no_own_name;
+    binds = c.binds;
+    told = each_at (Declares p.source_type) (steps p) (entering c.place) (declarations_are_bound p h e) c.entered c.apart_from_with c.no_block_function;
+    unmoved = none_moves c.place (never_moved c.place (known_at c.place c.entered) c.apart_from_with c.no_block_function);
+  }) n
 
   same_home : (b c : Bound) (d : DeclarationOf b) (f : DeclarationOf c) → b.environment.maker ≡ c.environment.maker → home d.declaration ≡ home f.declaration
   same_home b c d f q =

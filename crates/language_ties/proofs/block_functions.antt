@@ -1,0 +1,3 @@
+-- Functions in blocks.
+pub mod StrictPlaces
+pub mod StayingFunctions
