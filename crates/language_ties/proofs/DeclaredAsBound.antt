@@ -1,12 +1,11 @@
 -- What the tables are told at a node to declare is what the language binds.
-use Rattle.std.proofs.Common.{◌≡◌, ℕ, List, [], ◌∷◌, ◌++◌, Bool, true, false, ◌&&◌, ◌||◌, not, cond, map, flat_map, refl, sym, ap, subst, ◌∙◌, inl, inr, codes, if◌then◌else◌}
+use Rattle.std.proofs.Common.{◌≡◌, ℕ, List, [], ◌∷◌, ◌++◌, Bool, true, false, ◌&&◌, cond, map, flat_map, refl, sym, ap, subst, ◌∙◌, inl, inr, codes, if◌then◌else◌}
 use Rattle.std.proofs.lemmas.List.{append-nil, map-append}
 use Rattle.semantic_kinds.specs.Kinds.{same_kind}
 use Rattle.semantic_kinds.specs.declared.kind.AstType.{AstType}
 use Rattle.semantic_kinds.specs.declared.kind.AstType.TheVariants as kind
 use Rattle.semantic_kinds.specs.declared.mark.Mark.TheVariants as mark
 use Rattle.semantic_kinds.specs.declared.role.Role.TheVariants as role
-use Rattle.semantic_syntax.specs.SourceTypes.{is_typescript}
 use Rattle.semantic_syntax.specs.declared.source_type.SourceType.{SourceType}
 use Rattle.semantic_syntax.specs.declared.symbol_flags.TheConstants.SymbolFlags as symbol
 use Rattle.semantic_syntax.specs.Sets.{union}
@@ -15,7 +14,7 @@ use Rattle.semantic_tree.specs.Faults.{first_fault}
 use Rattle.semantic_tree.specs.Tree.{Tree}
 use Rattle.semantic_tree.specs.Views.{is, is_with_text, has, children_of}
 use Rattle.semantic_tree.specs.declared.node.Node.{Node}
-use Rattle.semantic_model.specs.Binder.{Row, declare, declare_here, is_var, is_clause, is_statement, is_special, is_block_function, variable_row, variables_under, function_row, own_function_row, class_row, is_pure_declarator, ids, parameter_excluded, parameters_under, catch_names, import_flags, declared_by, declared_inside}
+use Rattle.semantic_model.specs.Binder.{Row, declare, declare_here, is_statement, is_block_function, variable_row, variables_under, function_row, own_function_row, class_row, is_pure_declarator, ids, parameter_excluded, parameters_under, catch_names, import_flags, declared_by, declared_inside}
 use Rattle.semantic_model.specs.Declaration.{Declaration, here}
 use Rattle.semantic_model.specs.Declaration.{plain as plain_way, caught as caught_way}
 use Rattle.semantic_model.specs.Names.{bound_names, bound_below, names_at}
@@ -29,7 +28,7 @@ use Rattle.language_ties.specs.Bound.{Bound, bound_in, bound_here, bound_outward
 use Rattle.language_ties.specs.Bound as language
 use Rattle.language_ties.specs.ToldNames.{Told, told_by_declaration, told_by_bound, may_leave_block, DeclaresAsBound, Declares, DeclarationsAreBound}
 use Rattle.language_ties.specs.EcmaScript.{is_ecmascript_kind, is_ecmascript}
-use Rattle.language_ties.specs.Environments.{is_made_for, environments, innermost, takes_variables, variable_environment}
+use Rattle.language_ties.specs.Environments.{is_made_for, environments, innermost, variable_environment}
 use Rattle.language_ties.specs.Scopes.{maker_of_scope, maker_of_environment}
 use Rattle.language_ties.specs.declared.bound_as.BoundAs.{BoundAs}
 use Rattle.language_ties.specs.declared.bound_as.BoundAs.TheVariants as bound

@@ -1,6 +1,6 @@
 -- Code that is strict by the scope where it stands is strict by the nodes round it.
 use Rattle.std.proofs.Common.{◌≡◌, ℕ, List, [], ◌∷◌, Option, Some, None, Bool, true, false, ◌&&◌, ◌||◌, not, cond, inl, inr, ◌⊎◌, refl, sym, ap, subst, ◌∙◌, bytes_eq, codes}
-use Rattle.std.proofs.lemmas.Bool.{cases_Bool, not-true}
+use Rattle.std.proofs.lemmas.Bool.{not-true}
 use Rattle.semantic_syntax.proofs.Truth.{and_first, and_second, and_false, or_true}
 use Rattle.semantic_kinds.specs.Classes.{holds_kind}
 use Rattle.semantic_kinds.specs.Roles.{same_role}
@@ -22,7 +22,7 @@ use Rattle.semantic_model.specs.EachStep.{EachStep}
 use Rattle.semantic_model.specs.Inside.{is_inside, is_in_header, is_parameter_decorator}
 use Rattle.semantic_model.specs.Place.{Place, OpenScope, outside, is_strict}
 use Rattle.semantic_model.specs.ScopeKind.{strict_if, accessor, value_of, method_flags, flags_of_kind, opened_scope}
-use Rattle.semantic_model.specs.Step.{Step, entering, opening, header_ending, closing, leaving, steps_below, steps, root_place, scope_at, child_place, chain_within}
+use Rattle.semantic_model.specs.Step.{Step, entering, opening, header_ending, closing, leaving, steps_below, steps, root_place, scope_at, chain_within}
 use Rattle.semantic_model.proofs.form.Shape.{has_form}
 use Rattle.semantic_model.proofs.steps.EachStep.{each_of_node, each_of_turn}
 use Rattle.semantic_model.proofs.steps.Turn.{Turn, turn_at}
@@ -31,7 +31,7 @@ use Rattle.language_ties.specs.Bound as language
 use Rattle.language_ties.specs.Bound.{makes_strict}
 use Rattle.language_ties.specs.EcmaScript.{is_ecmascript_kind, is_ecmascript_forest, is_ecmascript}
 use Rattle.language_ties.specs.StrictCode.{IsStrictAlike, StrictnessAgrees}
-use Rattle.language_ties.proofs.block_functions.StrictPlaces.{made_strict, IsStrictFlag, Strict, StrictAt, strict_program}
+use Rattle.language_ties.proofs.block_functions.StrictPlaces.{made_strict, IsStrictFlag, StrictAt, strict_program}
 use Rattle.language_ties.proofs.shared.PlainNodes.{forests_plain}
 
 never : true ≡ false → ⊥

@@ -1,24 +1,21 @@
 -- Where the declarations of a name keep clear of each other, those that one environment binds have one symbol.
-use Rattle.std.proofs.Common.{◌≡◌, ℕ, List, [], ◌∷◌, ◌++◌, Option, Some, None, Bool, true, false, ◌&&◌, ◌||◌, not, inl, inr, cond, map, flat_map, refl, sym, ap, subst, ◌∙◌}
+use Rattle.std.proofs.Common.{◌≡◌, ℕ, List, [], ◌∷◌, ◌++◌, Option, Some, None, Bool, true, false, inl, inr, cond, map, flat_map, refl, sym, ap, subst, ◌∙◌}
 use Rattle.std.specs.Prelude.{slice_get}
 use Rattle.semantic_kinds.specs.declared.kind.AstType.{AstType}
 use Rattle.semantic_kinds.specs.declared.kind.AstType.TheVariants as kind
 use Rattle.semantic_syntax.specs.Reading as reading
-use Rattle.semantic_syntax.specs.SourceTypes.{is_typescript}
 use Rattle.semantic_syntax.specs.Tables.{Name}
 use Rattle.semantic_tree.specs.Faults.{first_fault}
 use Rattle.semantic_tree.specs.Tree.{Tree, IsNumbered}
-use Rattle.semantic_tree.specs.Views.{is}
 use Rattle.semantic_tree.specs.declared.node.Node.{Node}
 use Rattle.semantic_model.specs.Analysis.{analysis_of, symbol_at}
-use Rattle.semantic_model.specs.Binder.{is_var, is_clause, is_special, is_statement, is_block_function, declared_by, declared_inside, declared_on_entering, declared_on_opening}
+use Rattle.semantic_model.specs.Binder.{is_statement, is_block_function, declared_by, declared_inside, declared_on_entering, declared_on_opening}
 use Rattle.semantic_model.specs.Declaration.{Declaration, How, plain, hoisted, moved, caught, home, body_or}
 use Rattle.semantic_model.specs.EachStep.{EachStep}
 use Rattle.semantic_model.specs.Entries.{Among}
 use Rattle.semantic_model.specs.Event.{declares, declared, declarations, events, events_of, placed, placed_by, written_declarations}
 use Rattle.semantic_model.specs.NodeTable.{node_tables}
-use Rattle.semantic_model.specs.Place as place
-use Rattle.semantic_model.specs.Place.{Place, OpenScope, is_strict}
+use Rattle.semantic_model.specs.Place.{Place, OpenScope}
 use Rattle.semantic_model.specs.ScopeKind.{opened_scope}
 use Rattle.semantic_model.specs.Step.{Step, entering, steps}
 use Rattle.semantic_model.specs.TablesOf.{tables_of}
@@ -29,10 +26,8 @@ use Rattle.semantic_model.proofs.fold.EachDeclared.{EachDeclared, each_on_enteri
 use Rattle.semantic_model.proofs.fold.Orders.{HasForm, table_of, root_body, steps_in}
 use Rattle.semantic_model.proofs.form.Shape.{has_form}
 use Rattle.semantic_model.proofs.lists.Members.{among_left, among_right}
-use Rattle.tangle_model.specs.Surroundings.{in_with_under}
 use Rattle.language_ties.specs.Bound.{Bound, bound_in, bound_by, is_bound_as}
 use Rattle.language_ties.specs.EcmaScript.{is_ecmascript_kind, is_ecmascript}
-use Rattle.language_ties.specs.Environments.{is_made_for, environments, innermost, takes_variables}
 use Rattle.language_ties.specs.OneSymbol.{IsBoundByNode, EnvironmentsHaveOneSymbol}
 use Rattle.language_ties.specs.SharedSymbols.{is_own_name, HasHomesSymbol, ShareSymbols}
 use Rattle.language_ties.specs.ToldNames.{told_by_declaration, told_by_bound, Declares}
