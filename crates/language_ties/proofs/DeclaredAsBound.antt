@@ -1,12 +1,11 @@
 -- What the tables are told at a node to declare is what the language binds.
-use Rattle.std.proofs.Common.{◌≡◌, ℕ, List, [], ◌∷◌, ◌++◌, Bool, true, false, ◌&&◌, ◌||◌, not, cond, map, flat_map, refl, sym, ap, subst, ◌∙◌, inl, inr, codes, if◌then◌else◌}
+use Rattle.std.proofs.Common.{◌≡◌, ℕ, List, [], ◌∷◌, ◌++◌, Bool, true, false, ◌&&◌, cond, map, flat_map, refl, sym, ap, subst, ◌∙◌, inl, inr, codes, if◌then◌else◌}
 use Rattle.std.proofs.lemmas.List.{append-nil, map-append}
 use Rattle.semantic_kinds.specs.Kinds.{same_kind}
 use Rattle.semantic_kinds.specs.declared.kind.AstType.{AstType}
 use Rattle.semantic_kinds.specs.declared.kind.AstType.TheVariants as kind
 use Rattle.semantic_kinds.specs.declared.mark.Mark.TheVariants as mark
 use Rattle.semantic_kinds.specs.declared.role.Role.TheVariants as role
-use Rattle.semantic_syntax.specs.SourceTypes.{is_typescript}
 use Rattle.semantic_syntax.specs.declared.source_type.SourceType.{SourceType}
 use Rattle.semantic_syntax.specs.declared.symbol_flags.TheConstants.SymbolFlags as symbol
 use Rattle.semantic_syntax.specs.Sets.{union}
@@ -15,10 +14,11 @@ use Rattle.semantic_tree.specs.Faults.{first_fault}
 use Rattle.semantic_tree.specs.Tree.{Tree}
 use Rattle.semantic_tree.specs.Views.{is, is_with_text, has, children_of}
 use Rattle.semantic_tree.specs.declared.node.Node.{Node}
-use Rattle.semantic_model.specs.Binder.{Row, declare, declare_here, is_var, is_clause, is_statement, is_special, is_block_function, variable_row, variables_under, function_row, own_function_row, class_row, is_pure_declarator, ids, parameter_excluded, parameters_under, catch_names, import_flags, declared_by, declared_inside}
+use Rattle.semantic_model.specs.Binder.{Row, declare, declare_here, is_statement, is_block_function, variable_row, variables_under, function_row, own_function_row, class_row, is_pure_declarator, ids, parameter_excluded, parameters_under, catch_names, import_flags, declared_by, declared_inside}
 use Rattle.semantic_model.specs.Declaration.{Declaration, here}
 use Rattle.semantic_model.specs.Declaration.{plain as plain_way, caught as caught_way}
 use Rattle.semantic_model.specs.Names.{bound_names, bound_below, names_at}
+use Rattle.semantic_model.specs.EachStep.{EachStep}
 use Rattle.semantic_model.specs.Place as place
 use Rattle.semantic_model.specs.Place.{Place, is_strict, parent_holds}
 use Rattle.semantic_model.specs.ScopeKind.{opened_scope}
@@ -26,16 +26,18 @@ use Rattle.semantic_model.specs.Step.{Step, entering, opening, header_ending, cl
 use Rattle.tangle_model.specs.Surroundings.{in_with_under}
 use Rattle.language_ties.specs.Bound.{Bound, bound_in, bound_here, bound_outward, bound_by_declarator, bound_by_declaration, bound_by_catch, bound_by}
 use Rattle.language_ties.specs.Bound as language
-use Rattle.language_ties.specs.ToldNames.{Told, told_by_declaration, told_by_bound, is_function_in_block, DeclaresAsBound, Declares, DeclarationsAreBound}
+use Rattle.language_ties.specs.ToldNames.{Told, told_by_declaration, told_by_bound, may_leave_block, DeclaresAsBound, Declares, DeclarationsAreBound}
 use Rattle.language_ties.specs.EcmaScript.{is_ecmascript_kind, is_ecmascript}
-use Rattle.language_ties.specs.Environments.{is_made_for, environments, innermost, takes_variables, variable_environment}
+use Rattle.language_ties.specs.Environments.{is_made_for, environments, innermost, variable_environment}
 use Rattle.language_ties.specs.Scopes.{maker_of_scope, maker_of_environment}
 use Rattle.language_ties.specs.declared.bound_as.BoundAs.{BoundAs}
 use Rattle.language_ties.specs.declared.bound_as.BoundAs.TheVariants as bound
 use Rattle.language_ties.specs.declared.environment_kind.EnvironmentKind.TheVariants as environment
-use Rattle.language_ties.proofs.EnvironmentsRound.{IsKnown, KnownAt, each_map, known_program}
+use Rattle.language_ties.proofs.EnvironmentsRound.{IsKnown, KnownAt, known_program}
 use Rattle.language_ties.proofs.SwitchShape.{is_bare_rest}
-use Rattle.language_ties.proofs.Innermost.{IsPlain, innermost_made, variables_made, taking_no_body}
+use Rattle.language_ties.proofs.block_functions.StayingFunctions.{StaysInBlock, stays_in_block, stays_there}
+use Rattle.language_ties.proofs.block_functions.StrictPlaces.{Strict, StrictAt, strict_program}
+use Rattle.language_ties.proofs.Innermost.{IsPlain, innermost_made, variables_made}
 
 abbrev told : Node → ℕ → Told
 told id m = record { identifier = id.node_id; name = id.text; maker = m }
@@ -49,24 +51,7 @@ same_told f g (x ∷ xs) h = λ i. h x i ∷ same_told f g xs h i
 same_told_last : (f : Node → Declaration) (g : Node → Bound) (names : List Node) → ((id : Node) → told_by_declaration (f id) ≡ told_by_bound (g id)) → map told_by_declaration (map f names ++ []) ≡ map told_by_bound (map g names)
 same_told_last f g names h = ap (map told_by_declaration) (append-nil (map f names)) ∙ same_told f g names h
 
-not_block : (a b c v w : Bool) → v ≡ true → (a && b && c && not (v || w)) ≡ false
-not_block true true true true w e = refl
-not_block true true false true w e = refl
-not_block true false true true w e = refl
-not_block true false false true w e = refl
-not_block false true true true w e = refl
-not_block false true false true w e = refl
-not_block false false true true w e = refl
-not_block false false false true w e = refl
-not_block a b c false w e = absurd cc
-
-taken : (a b c : Bool) → a ≡ true → b ≡ true → (a && b && not c) ≡ false → c ≡ true
-taken true true true e f h = refl
-taken true true false e f h = absurd cc
-taken true false c e f h = absurd cc
-taken false b c e f h = absurd cc
-
-module _ (s : SourceType) (p : Place) (w : in_with_under p.path ≡ false) (known : IsKnown p) where
+module _ (s : SourceType) (p : Place) (w : in_with_under p.path ≡ false) (known : IsKnown p) (strict : Strict s p) where
   -- the name stands in the innermost scope, as in the innermost environment
   stands_here : IsPlain p.node p.path → (place.innermost p.chain).opener ≡ (innermost (environments p.node p.path)).maker
   stands_here plain = ap (λ m. m.node) (innermost_made p.chain p.node p.path (known.round w) plain)
@@ -129,22 +114,10 @@ module _ (s : SourceType) (p : Place) (w : in_with_under p.path ≡ false) (know
           let made : maker_of_scope (place.innermost p.chain) ≡ maker_of_environment (innermost (environments p.node p.path)) = innermost_made p.chain p.node p.path (known.round w) (inr no_body) in
           same_told (declare p.node (function_row p) (has mark.Pure p.node)) (bound_by_declaration s p.node p.path) (ids p.node) (λ id. rw (tables, ours) (ap (λ m. told id m.node) made))
 
-  functions : p.node.kind ≡ kind.Function → is_function_in_block p.node p.path ≡ false
+  functions : p.node.kind ≡ kind.Function → may_leave_block s p.node p.path ≡ false
       → map told_by_declaration (cond (is_statement p.node) [] (map (declare p.node (own_function_row p (opened_scope p 0)) (has mark.Pure p.node)) (ids p.node)) ++ cond (is_statement p.node) (map (declare p.node (function_row p) (has mark.Pure p.node)) (ids p.node)) [])
       ≡ map told_by_bound (bound_by kind.Function s p.node p.path)
-  functions k h = functions_told (λ e.
-      let takes : takes_variables (innermost (environments p.node p.path)) ≡ true = taken (is kind.Function p.node) (is_statement p.node) (takes_variables (innermost (environments p.node p.path))) (ap (λ q. same_kind q kind.Function) k) e h in
-      let no_body : is_made_for environment.IfBody (innermost (environments p.node p.path)) ≡ false = taking_no_body (innermost (environments p.node p.path)) takes in
-      let made : maker_of_scope (place.innermost p.chain) ≡ maker_of_environment (innermost (environments p.node p.path)) = innermost_made p.chain p.node p.path (known.round w) (inr no_body) in
-      let variable : is_var (place.innermost p.chain) ≡ true = ap (λ m. m.takes_variables) made ∙ takes in (
-        not_block (not (is_special p.node)) (not (is_typescript p.source_type)) (not (is_strict p.chain)) (is_var (place.innermost p.chain)) (is_clause (place.innermost p.chain)) variable,
-        ap (λ b. not b && not (is_special p.node) && not (language.is_strict s p.path)) takes,
-        no_body,
-      ))
-
-  -- so it is of a function in a block that stays there
-  pub statements_told : p.node.kind ≡ kind.Function → Stays → map told_by_declaration (declared_inside p.node.kind p (opened_scope p 0) ++ declared_by p.node.kind p) ≡ map told_by_bound (bound_by p.node.kind s p.node p.path)
-  statements_told k stays = subst (λ i. map told_by_declaration (declared_inside i p (opened_scope p 0) ++ declared_by i p) ≡ map told_by_bound (bound_by i s p.node p.path)) (sym k) (functions_told stays)
+  functions k h = functions_told (λ e. let stays : StaysInBlock s p.node p.path = stays_in_block s p.node p.path k e h in (stays_there s p known w strict k stays, stays.ours, stays.no_body))
 
   classes : IsPlain p.node p.path → map told_by_declaration (cond (is_statement p.node) [] (map (declare p.node (class_row p (opened_scope p 0 ∷ [])) false) (ids p.node)) ++ cond (is_statement p.node) (map (declare p.node (class_row p p.chain) false) (ids p.node)) [])
       ≡ map told_by_bound (bound_by kind.Class s p.node p.path)
@@ -161,7 +134,7 @@ module _ (s : SourceType) (p : Place) (w : in_with_under p.path ≡ false) (know
   no_root : (k : AstType) → p.node.kind ≡ k → (k ≡ kind.Program → ⊥) → p.path ≡ [] → ⊥
   no_root k e n h = n (sym e ∙ known.rooted h)
 
-  by_kind : (k : AstType) → p.node.kind ≡ k → is_ecmascript_kind k ≡ true → is_function_in_block p.node p.path ≡ false → is_bare_rest p.node p.path ≡ false
+  by_kind : (k : AstType) → p.node.kind ≡ k → is_ecmascript_kind k ≡ true → may_leave_block s p.node p.path ≡ false → is_bare_rest p.node p.path ≡ false
       → map told_by_declaration (declared_inside k p (opened_scope p 0) ++ declared_by k p) ≡ map told_by_bound (bound_by k s p.node p.path)
   by_kind kind.VariableDeclarator k j h r = variables (not_function kind.VariableDeclarator k refl) p.path refl
   by_kind kind.Function k j h r = functions k h
@@ -187,15 +160,16 @@ module _ (s : SourceType) (p : Place) (w : in_with_under p.path ≡ false) (know
   by_kind kind.TSMappedType k j h r = absurd cc
   by_kind _ k j h r = refl
 
-declares_as_bound : (s : SourceType) (p : Place) → IsKnown p → DeclaresAsBound s p
-declares_as_bound s p known = λ w h. by_kind s p w known p.node.kind refl known.ecmascript h known.whole
+declares_as_bound : (s : SourceType) (p : Place) → IsKnown p → Strict s p → DeclaresAsBound s p
+declares_as_bound s p known strict = λ w h. by_kind s p w known strict p.node.kind refl known.ecmascript h known.whole
 
-declares_at : (s : SourceType) (st : Step) → KnownAt st → Declares s st
-declares_at s (entering p) k = declares_as_bound s p k
-declares_at s (opening p o) k = tt
-declares_at s (header_ending p o) k = tt
-declares_at s (closing p o) k = tt
-declares_at s (leaving p) k = tt
+declares_all : (s : SourceType) (ss : List Step) → EachStep KnownAt ss → EachStep (StrictAt s) ss → EachStep (Declares s) ss
+declares_all s [] k t = tt
+declares_all s (entering p ∷ ss) k t = (declares_as_bound s p k.0 t.0, declares_all s ss k.1 t.1)
+declares_all s (opening p o ∷ ss) k t = (tt, declares_all s ss k.1 t.1)
+declares_all s (header_ending p o ∷ ss) k t = (tt, declares_all s ss k.1 t.1)
+declares_all s (closing p o ∷ ss) k t = (tt, declares_all s ss k.1 t.1)
+declares_all s (leaving p ∷ ss) k t = (tt, declares_all s ss k.1 t.1)
 
 pub declarations_are_bound : (p : Tree) → first_fault p ≡ None → is_ecmascript p ≡ true → DeclarationsAreBound p
-declarations_are_bound p h e = each_map KnownAt (Declares p.source_type) (declares_at p.source_type) (steps p) (known_program p h e)
+declarations_are_bound p h e = declares_all p.source_type (steps p) (known_program p h e) (strict_program p h e)

@@ -1,3 +1,4 @@
 -- Functions in blocks.
 pub mod StrictPlaces
+pub mod StrictScopes
 pub mod StayingFunctions

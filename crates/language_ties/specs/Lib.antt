@@ -6,6 +6,7 @@ pub mod EarlyErrors
 pub mod Agreement
 pub mod EcmaScript
 pub mod Scopes
+pub mod StrictCode
 pub mod ToldNames
 pub mod UnboundNames
 pub mod SharedSymbols

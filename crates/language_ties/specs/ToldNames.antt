@@ -1,5 +1,5 @@
 -- Where the tables are told to declare names, and where the language binds them.
-use Rattle.std.specs.Prelude.{◌≡◌, ℕ, List, ◌++◌, Bool, false, ◌&&◌, not, map}
+use Rattle.std.specs.Prelude.{◌≡◌, ℕ, List, ◌++◌, Bool, false, ◌&&◌, ◌||◌, map}
 use Rattle.semantic_kinds.specs.declared.kind.AstType.TheVariants as kind
 use Rattle.semantic_syntax.specs.Tables.{Name}
 use Rattle.semantic_syntax.specs.declared.source_type.SourceType.{SourceType}
@@ -13,8 +13,9 @@ use Rattle.semantic_model.specs.Place.{Place}
 use Rattle.semantic_model.specs.ScopeKind.{opened_scope}
 use Rattle.semantic_model.specs.Step.{Step, entering, opening, header_ending, closing, leaving, steps}
 use Rattle.tangle_model.specs.Surroundings.{in_with_under}
-use Rattle.language_ties.specs.Bound.{Bound, bound_by}
-use Rattle.language_ties.specs.Environments.{environments, innermost, takes_variables}
+use Rattle.language_ties.specs.Bound.{Bound, bound_by, is_block_function}
+use Rattle.language_ties.specs.Environments.{environments, innermost, is_made_for}
+use Rattle.language_ties.specs.declared.environment_kind.EnvironmentKind.TheVariants as environment
 
 -- a name that is declared, and the node that makes the scope or environment for it
 pub record Told : Type 0 where
@@ -28,14 +29,15 @@ told_by_declaration d = record { identifier = d.naming.identifier; name = d.nami
 abbrev pub told_by_bound : Bound → Told
 told_by_bound b = record { identifier = b.identifier; name = b.name; maker = b.environment.maker }
 
--- a function in a block, the body of an `if` or of a loop
-abbrev pub is_function_in_block : Node → List Node → Bool
-is_function_in_block x path = is kind.Function x && is_statement x && not (takes_variables (innermost (environments x path)))
+-- a function that may leave its block: it has a variable beside (B.3.2), or is the body of an `if`, which is no scope of the tables
+abbrev pub may_leave_block : SourceType → Node → List Node → Bool
+may_leave_block s x path =
+    is kind.Function x && is_statement x && (is_block_function s x path || is_made_for environment.IfBody (innermost (environments x path)))
 
 -- what the tables are told of a node, in its scope or around it, is what the language binds
 abbrev pub DeclaresAsBound : SourceType → Place → Type 0
 DeclaresAsBound s p =
-    in_with_under p.path ≡ false → is_function_in_block p.node p.path ≡ false
+    in_with_under p.path ≡ false → may_leave_block s p.node p.path ≡ false
     → map told_by_declaration (declared_on_opening p (opened_scope p 0) ++ declared_on_entering p) ≡ map told_by_bound (bound_by p.node.kind s p.node p.path)
 
 abbrev pub Declares : SourceType → Step → Type 0

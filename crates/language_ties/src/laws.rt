@@ -19,6 +19,7 @@ ghost use Rattle.language_ties.specs.NearestScopes.{AreTiedNearest};
 ghost use Rattle.language_ties.specs.OneSymbol.{EnvironmentsHaveOneSymbol};
 ghost use Rattle.language_ties.specs.Scopes.{ScopesAreEnvironments};
 ghost use Rattle.language_ties.specs.SharedSymbols.{AllKeepClear, ShareSymbols};
+ghost use Rattle.language_ties.specs.StrictCode.{StrictnessAgrees};
 ghost use Rattle.language_ties.specs.UnboundNames.{binds_name, IsFreeEverywhere};
 
 /// The scopes round a node of an ECMAScript program, outside of `with`, are its environments: made by the same nodes in the same
@@ -28,9 +29,15 @@ pub fn scopes_are_environments()
     ensures { (p : Tree) → first_fault p ≡ None → is_ecmascript p ≡ true → ScopesAreEnvironments p }
 {}
 
+/// Code is strict by the scope where a node stands exactly where it is by the nodes above it: in modules and classes, and under the
+/// directive.
+pub fn strictness_agrees()
+    ensures { (p : Tree) → first_fault p ≡ None → is_ecmascript p ≡ true → StrictnessAgrees p }
+{}
+
 /// What the tables are told to declare at a node of an ECMAScript program, outside of `with`, is what the language binds there:
-/// the same identifiers and names in the same order, each in the scope of the node that makes its environment. Functions in
-/// blocks, which may go further, are left out.
+/// the same identifiers and names in the same order, each in the scope of the node that makes its environment. Functions that may
+/// leave their blocks are left out: those that have a variable beside, and those that are the body of an `if`.
 pub fn declarations_are_bound()
     ensures { (p : Tree) → first_fault p ≡ None → is_ecmascript p ≡ true → DeclarationsAreBound p }
 {}
@@ -59,8 +66,8 @@ pub fn clear_names_share_symbols()
         → AllKeepClear name (declarations (events (steps p))) → ShareSymbols p name }
 {}
 
-/// The identifiers by which the environments of one node bind such a name have one symbol, outside of `with`. Functions in blocks
-/// and own names of expressions are left out.
+/// The identifiers by which the environments of one node bind such a name have one symbol, outside of `with`. Functions that may
+/// leave their blocks and own names of expressions are left out.
 pub fn environments_have_one_symbol()
     ensures { (p : Tree) (name : Name) → first_fault p ≡ None → is_ecmascript p ≡ true
         → IsNumbered p.root → AllKeepClear name (declarations (events (steps p)))

@@ -16,8 +16,7 @@ use Rattle.language_ties.proofs.agree.FamiliarPlaces.{IsFamiliar, FamiliarAt, Is
 use Rattle.language_ties.proofs.agree.KnownNodes.{node_at}
 use Rattle.language_ties.proofs.agree.MadeEnvironments.{may_make}
 use Rattle.language_ties.proofs.agree.PlainBounds.{IsPlacedBound, placed_bound, no_catch}
-use Rattle.language_ties.proofs.block_functions.StayingFunctions.{declaration_placed}
-use Rattle.language_ties.proofs.symbols.OneSymbol.{each_at, DeclarationOf}
+use Rattle.language_ties.proofs.symbols.OneSymbol.{each_at, DeclarationOf, declaration_of}
 
 pub some_is : {A : Type 0} (x y : A) → Some x ≡ Some y → x ≡ y
 some_is x y h = cc
@@ -43,7 +42,7 @@ module _ (p : Tree) (h : first_fault p ≡ None) (e : is_ecmascript p ≡ true) 
   known_bound b a n o =
       let one : is_declared_plainly b ≡ true = subst (λ t. (t || is_declared_plainly b) ≡ true) o (plain b a n) in
       let placed : IsPlacedBound p b = placed_bound p h e numbered x none b a n one o in
-      record { plainly = one; no_own = o; placed = placed; declares = declaration_placed p h e numbered x placed.place b placed.entered placed.apart_from_with o placed.binds placed.stays n }
+      record { plainly = one; no_own = o; placed = placed; declares = declaration_of p h e numbered x b placed.by_node n }
 
   -- its scope is no clause's
   no_clause : (b : Bound) → KnownBound b → (y : Node) → node_at p b.environment.maker ≡ Some y → y.kind ≡ kind.CatchClause → ⊥

@@ -1,7 +1,7 @@
 -- Where a plain name is bound: in an environment of its place, and by which node that is made.
 use Rattle.std.proofs.Common.{◌≡◌, List, [], ◌∷◌, Option, Some, None, Bool, true, false, ◌&&◌, ◌||◌, not, cond, map, flat_map, inl, inr, refl, sym, ap, subst, ◌∙◌, codes}
 use Rattle.std.proofs.lemmas.Bool.{not-true}
-use Rattle.semantic_syntax.proofs.Truth.{and_first, and_second}
+use Rattle.semantic_syntax.proofs.Truth.{and_first, and_second, and_false}
 use Rattle.semantic_kinds.specs.Kinds.{same_kind}
 use Rattle.semantic_kinds.specs.declared.kind.AstType.{AstType}
 use Rattle.semantic_kinds.specs.declared.kind.AstType.TheVariants as kind
@@ -25,13 +25,14 @@ use Rattle.language_ties.specs.Bound as language
 use Rattle.language_ties.specs.Bound.{Bound, bound_in, bound_here, bound_outward, bound_by_declarator, bound_by_declaration, bound_by_function, bound_by_class, bound_by_catch, bound_by, is_bound_as, written}
 use Rattle.language_ties.specs.EcmaScript.{is_ecmascript}
 use Rattle.language_ties.specs.Environments.{Environment, is_made_for, has_parameter_expressions, environments, innermost, passed, takes_variables, variable_environment, first_taking, environment_or}
-use Rattle.language_ties.specs.ToldNames.{is_function_in_block}
+use Rattle.language_ties.specs.OneSymbol.{IsBoundByNode}
+use Rattle.language_ties.specs.ToldNames.{may_leave_block}
 use Rattle.language_ties.specs.declared.bound_as.BoundAs.TheVariants as bound
 use Rattle.language_ties.specs.declared.environment_kind.EnvironmentKind.TheVariants as environment
 use Rattle.language_ties.proofs.agree.FamiliarPlaces.{IsFamiliar, FamiliarAt, AllKnown, familiar_program, known_among}
 use Rattle.language_ties.proofs.agree.KnownNodes.{node_at}
 use Rattle.language_ties.proofs.agree.MadeEnvironments.{IsMadeBy, made_in, may_make, EndsAtProgram, innermost_among, variable_among, IsUsual, innermost_usual, taking_usual}
-use Rattle.language_ties.proofs.block_functions.StayingFunctions.{Stays, innermost_unnamed}
+use Rattle.language_ties.proofs.block_functions.StayingFunctions.{innermost_unnamed}
 use Rattle.language_ties.proofs.symbols.OneSymbol.{each_at}
 
 -- the place of what is bound
@@ -99,11 +100,11 @@ never_both q = absurd cc
 
 -- ---- the environment
 
--- it is one of the place, no own name's and no `if` body's, and a function in a block stays there
+-- it is one of the place, no own name's and no `if` body's, and no function leaves its block there
 pub record Stands (s : SourceType) (x : Node) (path : List Node) (b : Bound) : Type 0 where
   pub among : Among b.environment (environments x path)
   pub usual : IsUsual b.environment
-  pub stays : Stays s x path
+  pub no_leaving : may_leave_block s x path ≡ false
 
 module _ (s : SourceType) (x y : Node) (path : List Node) (rooted : EndsAtProgram y path) where
   abbrev es : List Environment
@@ -116,14 +117,14 @@ module _ (s : SourceType) (x y : Node) (path : List Node) (rooted : EndsAtProgra
   no_function : (k : AstType) → x.kind ≡ k → same_kind k kind.Function ≡ false → (is kind.Function x && is_statement x) ≡ false
   no_function k e h = ap (λ b. b && is_statement x) (ap (λ q. same_kind q kind.Function) e ∙ h)
 
-  no_block : (k : AstType) → x.kind ≡ k → same_kind k kind.Function ≡ false → is_function_in_block x (y ∷ path) ≡ false
-  no_block k e h = ap (λ b. b && not (takes_variables (innermost es))) (no_function k e h)
+  no_block : (k : AstType) → x.kind ≡ k → same_kind k kind.Function ≡ false → may_leave_block s x (y ∷ path) ≡ false
+  no_block k e h = ap (λ b. b && (language.is_block_function s x (y ∷ path) || is_made_for environment.IfBody (innermost es))) (no_function k e h)
 
   here : (k : AstType) (b : Bound) → x.kind ≡ k → same_kind k kind.Function ≡ false → b.environment ≡ innermost es → Stands s x (y ∷ path) b
   here k b e h q = record {
     among = subst (λ d. Among d es) (sym q) inner_there;
     usual = subst IsUsual (sym q) (innermost_usual x (y ∷ path) (no_function k e h));
-    stays = inl (no_block k e h);
+    no_leaving = no_block k e h;
   }
 
   variable_usual : (k : AstType) → x.kind ≡ k → same_kind k kind.Function ≡ false → IsUsual (variable_environment es)
@@ -145,7 +146,7 @@ module _ (s : SourceType) (x y : Node) (path : List Node) (rooted : EndsAtProgra
   out k b e h q = record {
     among = subst (λ d. Among d es) (sym q) (variable_among es inner_there);
     usual = subst IsUsual (sym q) (variable_usual k e h);
-    stays = inl (no_block k e h);
+    no_leaving = no_block k e h;
   }
 
   names_here : (k : AstType) (w : _) (names : List Node) (b : Bound) → x.kind ≡ k → same_kind k kind.Function ≡ false → Among b (map (bound_here w es) names) → Stands s x (y ∷ path) b
@@ -159,24 +160,24 @@ module _ (s : SourceType) (x y : Node) (path : List Node) (rooted : EndsAtProgra
       go false c = names_here kind.VariableDeclarator bound.Lexical (bound_names x) b e refl c
 
   -- a function that is a statement stays where it stands
-  statement : (b : Bound) → x.kind ≡ kind.Function → is_declared_plainly b ≡ true → (t : Bool) → language.is_block_function s x (y ∷ path) ≡ t → (n : Node) → b ≡ cond t (bound_in bound.Function (innermost es) (variable_environment es ∷ []) (passed es) n) (bound_here bound.Function es n) → Stands s x (y ∷ path) b
-  statement b e h true w n q = absurd (never_empty (variable_environment es) [] (sym (by_one b h (ap (is_bound_as bound.Lexical) q)) ∙ ap (λ i. i.also) q))
-  statement b e h false w n q =
+  statement : (b : Bound) → is_declared_plainly b ≡ true → (t : Bool) → language.is_block_function s x (y ∷ path) ≡ t → (n : Node) → b ≡ cond t (bound_in bound.Function (innermost es) (variable_environment es ∷ []) (passed es) n) (bound_here bound.Function es n) → Stands s x (y ∷ path) b
+  statement b h true w n q = absurd (never_empty (variable_environment es) [] (sym (by_one b h (ap (is_bound_as bound.Lexical) q)) ∙ ap (λ i. i.also) q))
+  statement b h false w n q =
       let env : b.environment ≡ innermost es = ap (λ i. i.environment) q in
       let no_body : is_made_for environment.IfBody (innermost es) ≡ false = subst (λ d. is_made_for environment.IfBody d ≡ false) env (no_if_body b h (ap (is_bound_as bound.Function) q)) in
       record {
         among = subst (λ d. Among d es) (sym env) inner_there;
         usual = subst IsUsual (sym env) (innermost_unnamed x (y ∷ path), no_body);
-        stays = inr (record { function = e; ours = w; no_body = no_body });
+        no_leaving = ap (λ t. (is kind.Function x && is_statement x) && t) (ap (λ t. t || is_made_for environment.IfBody (innermost es)) w ∙ no_body) ∙ and_false (is kind.Function x && is_statement x);
       }
 
-  functions : (b : Bound) → x.kind ≡ kind.Function → is_declared_plainly b ≡ true → is_bound_as bound.OwnName b ≡ false → Among b (bound_by_function s x (y ∷ path)) → Stands s x (y ∷ path) b
-  functions b e h o a = go (is_statement x) a
+  functions : (b : Bound) → is_declared_plainly b ≡ true → is_bound_as bound.OwnName b ≡ false → Among b (bound_by_function s x (y ∷ path)) → Stands s x (y ∷ path) b
+  functions b h o a = go (is_statement x) a
     where
       go : (t : Bool) → Among b (map (cond t (bound_by_declaration s x (y ∷ path)) (bound_in bound.OwnName (record { kind = environment.OwnName; maker = x.node_id }) [] [])) (names_at role.Id x)) → Stands s x (y ∷ path) b
       go true c =
           let (n, d, q) = among_map (bound_by_declaration s x (y ∷ path)) (names_at role.Id x) b c in
-          statement b e h (language.is_block_function s x (y ∷ path)) refl n (sym q)
+          statement b h (language.is_block_function s x (y ∷ path)) refl n (sym q)
       go false c =
           let (n, d, q) = among_map (bound_in bound.OwnName (record { kind = environment.OwnName; maker = x.node_id }) [] []) (names_at role.Id x) b c in
           absurd (never_both (ap (is_bound_as bound.OwnName) q ∙ o))
@@ -199,7 +200,7 @@ module _ (s : SourceType) (x y : Node) (path : List Node) (rooted : EndsAtProgra
 
   by_kind : (k : AstType) (b : Bound) → x.kind ≡ k → is_declared_plainly b ≡ true → is_bound_as bound.OwnName b ≡ false → Among b (bound_by k s x (y ∷ path)) → Stands s x (y ∷ path) b
   by_kind kind.VariableDeclarator b e h o a = variables b e a
-  by_kind kind.Function b e h o a = functions b e h o a
+  by_kind kind.Function b e h o a = functions b h o a
   by_kind kind.Class b e h o a = classes b e o a
   by_kind kind.FormalParameter b e h o a = names_here kind.FormalParameter bound.Parameter (bound_names x) b e refl a
   by_kind kind.FormalParameterRest b e h o a = names_here kind.FormalParameterRest bound.Parameter (bound_names x) b e refl a
@@ -213,12 +214,7 @@ module _ (s : SourceType) (x y : Node) (path : List Node) (rooted : EndsAtProgra
 
 -- where it is bound, and by which node that environment is made
 pub record IsPlacedBound (p : Tree) (b : Bound) : Type 0 where
-  pub place : Place
-  pub entered : Among (entering place) (steps p)
-  pub apart_from_with : in_with_under place.path ≡ false
-  pub stays : Stays p.source_type place.node place.path
-  pub no_own_name : is_bound_as bound.OwnName b ≡ false
-  pub binds : Among b (bound_by place.node.kind p.source_type place.node place.path)
+  pub by_node : IsBoundByNode p b
   pub usual : IsUsual b.environment
   pub maker : Node
   pub found : node_at p b.environment.maker ≡ Some maker
@@ -237,12 +233,14 @@ placed_in p b q (y ∷ path) e a f w h o c =
     let st : Stands p.source_type q.node (y ∷ path) b = by_kind p.source_type q.node y path rooted q.node.kind b refl h o there in
     let m : IsMadeBy (q.node ∷ y ∷ path) b.environment = made_in q.node (y ∷ path) b.environment st.among in
     record {
-      place = q;
-      entered = a;
-      apart_from_with = w;
-      stays = subst (Stays p.source_type q.node) (sym e) st.stays;
-      no_own_name = o;
-      binds = c;
+      by_node = record {
+        place = q;
+        entered = a;
+        apart_from_with = w;
+        no_leaving = subst (λ l. may_leave_block p.source_type q.node l ≡ false) (sym e) st.no_leaving;
+        no_own_name = o;
+        binds = c;
+      };
       usual = st.usual;
       maker = m.maker;
       found = ap (node_at p) m.is ∙ known_among (node_at p) (q.node ∷ y ∷ path) m.maker (f.node, known) m.among;

@@ -99,7 +99,7 @@ module _ (p : Tree) (h : first_fault p ≡ None) (e : is_ecmascript p ≡ true) 
     pub class : IsClassBound place b d
 
   pub class_here : (d : Environment) (b : Bound) → Any b → Among d b.also → IsClassHere d b
-  class_here d b (inl k) a = record { place = k.placed.place; entered = k.placed.entered; class = class_bound p.source_type k.placed.place b k.plainly d a k.placed.place.node.kind k.placed.binds }
+  class_here d b (inl k) a = record { place = k.placed.by_node.place; entered = k.placed.by_node.entered; class = class_bound p.source_type k.placed.by_node.place b k.plainly d a k.placed.by_node.place.node.kind k.placed.by_node.binds }
   class_here d b (inr o) a = absurd (subst (Among d) o.named_by.alone a)
 
   pub directly : (d : Environment) (i : ℕ) → is_made_for environment.Class d ≡ false → (w : IsHere d i) → w.bind.environment ≡ d

@@ -1,35 +1,26 @@
 -- A function in a block that has no variable beside is declared in its block alone: in strict code, `async`, or as a generator.
-use Rattle.std.proofs.Common.{◌≡◌, List, [], ◌∷◌, ◌++◌, None, Bool, true, false, ◌&&◌, ◌||◌, not, cond, inl, inr, ◌⊎◌, refl, sym, ap, ◌∙◌}
+use Rattle.std.proofs.Common.{◌≡◌, List, [], ◌∷◌, ◌++◌, Bool, true, false, ◌&&◌, ◌||◌, not, cond, inl, inr, refl, sym, ap, ◌∙◌}
 use Rattle.std.proofs.lemmas.Bool.{cases_Bool}
+use Rattle.semantic_kinds.specs.Kinds.{same_kind}
 use Rattle.semantic_kinds.specs.declared.kind.AstType.{AstType}
 use Rattle.semantic_kinds.specs.declared.kind.AstType.TheVariants as kind
 use Rattle.semantic_kinds.specs.declared.role.Role.TheVariants as role
 use Rattle.semantic_syntax.specs.SourceTypes.{is_typescript}
-use Rattle.semantic_syntax.specs.Tables.{Name}
 use Rattle.semantic_syntax.specs.declared.source_type.SourceType.{SourceType}
-use Rattle.semantic_tree.specs.Faults.{first_fault}
-use Rattle.semantic_tree.specs.Tree.{Tree, IsNumbered}
 use Rattle.semantic_tree.specs.Views.{is, is_child_in}
 use Rattle.semantic_tree.specs.declared.node.Node.{Node}
 use Rattle.semantic_model.specs.Binder.{is_block_function, is_clause, is_special, is_statement, is_var}
-use Rattle.semantic_model.specs.Entries.{Among}
 use Rattle.semantic_model.specs.Place as place
 use Rattle.semantic_model.specs.Place.{Place, is_strict}
-use Rattle.semantic_model.specs.Step.{entering, steps}
 use Rattle.tangle_model.specs.Surroundings.{in_with_under}
 use Rattle.language_ties.specs.Bound as language
-use Rattle.language_ties.specs.Bound.{Bound, bound_by, is_bound_as}
-use Rattle.language_ties.specs.EcmaScript.{is_ecmascript}
 use Rattle.language_ties.specs.Environments.{Environment, is_made_for, has_parameter_expressions, is_outside_body, made_by, environments, innermost, takes_variables}
 use Rattle.language_ties.specs.Scopes.{maker_of_scope, maker_of_environment}
-use Rattle.language_ties.specs.ToldNames.{is_function_in_block}
-use Rattle.language_ties.specs.declared.bound_as.BoundAs.TheVariants as bound
+use Rattle.language_ties.specs.ToldNames.{may_leave_block}
 use Rattle.language_ties.specs.declared.environment_kind.EnvironmentKind.TheVariants as environment
-use Rattle.language_ties.proofs.DeclaredAsBound.{statements_told}
-use Rattle.language_ties.proofs.EnvironmentsRound.{IsKnown, KnownAt, known_program}
+use Rattle.language_ties.proofs.EnvironmentsRound.{IsKnown}
 use Rattle.language_ties.proofs.Innermost.{innermost_made}
-use Rattle.language_ties.proofs.block_functions.StrictPlaces.{Strict, StrictAt, strict_program}
-use Rattle.language_ties.proofs.symbols.OneSymbol.{each_at, DeclarationOf, declaration_of, declaration_at, none_moves}
+use Rattle.language_ties.proofs.block_functions.StrictPlaces.{Strict}
 
 never : true ≡ false → ⊥
 never h = absurd cc
@@ -74,11 +65,21 @@ innermost_unnamed child (x ∷ path) = go x.kind (innermost_unnamed x path)
 
 -- ---- the function
 
--- a function in a block, not as the body of an `if`, whose variable the language doesn't have
+-- a declaration that stays in its block, not as the body of an `if`, has no variable beside
 pub record StaysInBlock (s : SourceType) (x : Node) (path : List Node) : Type 0 where
-  pub function : x.kind ≡ kind.Function
   pub ours : language.is_block_function s x path ≡ false
   pub no_body : is_made_for environment.IfBody (innermost (environments x path)) ≡ false
+
+pub stays_in_block : (s : SourceType) (x : Node) (path : List Node) → x.kind ≡ kind.Function → is_statement x ≡ true → may_leave_block s x path ≡ false → StaysInBlock s x path
+stays_in_block s x path k e h = by (language.is_block_function s x path) (is_made_for environment.IfBody (innermost (environments x path))) refl refl neither
+  where
+    neither : (language.is_block_function s x path || is_made_for environment.IfBody (innermost (environments x path))) ≡ false
+    neither = sym (ap (λ t. t && (language.is_block_function s x path || is_made_for environment.IfBody (innermost (environments x path)))) (ap (λ q. same_kind q kind.Function && is_statement x) k ∙ e)) ∙ h
+
+    by : (a b : Bool) → language.is_block_function s x path ≡ a → is_made_for environment.IfBody (innermost (environments x path)) ≡ b → (language.is_block_function s x path || is_made_for environment.IfBody (innermost (environments x path))) ≡ false → StaysInBlock s x path
+    by true b i j n = absurd (never (sym (ap (λ t. t || is_made_for environment.IfBody (innermost (environments x path))) i) ∙ n))
+    by false true i j n = absurd (never (sym (ap (λ t. t || is_made_for environment.IfBody (innermost (environments x path))) i ∙ j) ∙ n))
+    by false false i j n = record { ours = i; no_body = j }
 
 no_special : (b c d : Bool) → (false && b && c && d) ≡ false
 no_special b c d = refl
@@ -100,8 +101,8 @@ no_scope false b c true w e = refl
 no_scope a b c false w e = absurd cc
 
 -- nor do the tables move it
-pub stays_there : (s : SourceType) (q : Place) → IsKnown q → in_with_under q.path ≡ false → Strict s q → StaysInBlock s q.node q.path → is_block_function q ≡ false
-stays_there s q known w strict stays = elim (cases_Bool (takes_variables (innermost (environments q.node q.path)))) [
+pub stays_there : (s : SourceType) (q : Place) → IsKnown q → in_with_under q.path ≡ false → Strict s q → q.node.kind ≡ kind.Function → StaysInBlock s q.node q.path → is_block_function q ≡ false
+stays_there s q known w strict function stays = elim (cases_Bool (takes_variables (innermost (environments q.node q.path)))) [
   | inl t ↦ (let made : maker_of_scope (place.innermost q.chain) ≡ maker_of_environment (innermost (environments q.node q.path)) = innermost_made q.chain q.node q.path (known.round w) (inr stays.no_body) in
       no_scope (not (is_special q.node)) (not (is_typescript q.source_type)) (not (is_strict q.chain)) (is_var (place.innermost q.chain)) (is_clause (place.innermost q.chain)) (ap (λ m. m.takes_variables) made ∙ t))
   | inr t ↦ elim (cases_Bool (is_special q.node)) [
@@ -111,7 +112,7 @@ stays_there s q known w strict stays = elim (cases_Bool (takes_variables (innerm
       | inl v ↦ elim (strict v) [
         | inl c ↦ ap (λ b. not (is_special q.node) && not (is_typescript q.source_type) && not b && not (is_var (place.innermost q.chain) || is_clause (place.innermost q.chain))) c
             ∙ no_strict (not (is_special q.node)) (not (is_typescript q.source_type)) (not (is_var (place.innermost q.chain) || is_clause (place.innermost q.chain)))
-        | inr r ↦ absurd (no_program (sym r.1 ∙ stays.function))
+        | inr r ↦ absurd (no_program (sym r.1 ∙ function))
       ]
     ]
   ]
@@ -119,23 +120,3 @@ stays_there s q known w strict stays = elim (cases_Bool (takes_variables (innerm
   where
     no_program : kind.Program ≡ kind.Function → ⊥
     no_program e = absurd cc
-
--- ---- its declaration
-
-abbrev pub Stays : SourceType → Node → List Node → Type 0
-Stays s x path = (is_function_in_block x path ≡ false) ⊎ StaysInBlock s x path
-
-pub declaration_placed : (p : Tree) (h : first_fault p ≡ None) (e : is_ecmascript p ≡ true) (numbered : IsNumbered p.root) (x : Name) (q : Place) (b : Bound) → Among (entering q) (steps p) → in_with_under q.path ≡ false → is_bound_as bound.OwnName b ≡ false
-    → Among b (bound_by q.node.kind p.source_type q.node q.path) → Stays p.source_type q.node q.path → b.name ≡ x → DeclarationOf p h e numbered x b
-declaration_placed p h e numbered x q b a w o c (inl f) n = declaration_of p h e numbered x b (record { place = q; entered = a; apart_from_with = w; no_block_function = f; no_own_name = o; binds = c }) n
-declaration_placed p h e numbered x q b a w o c (inr stays) n =
-    let known : IsKnown q = each_at KnownAt (steps p) (entering q) (known_program p h e) a in
-    let strict : Strict p.source_type q = each_at (StrictAt p.source_type) (steps p) (entering q) (strict_program p h e) a in
-    let tables : is_block_function q ≡ false = stays_there p.source_type q known w strict stays in
-    declaration_at p h e numbered x q b (record {
-      entered = a;
-      no_own_name = o;
-      binds = c;
-      told = statements_told p.source_type q w known stays.function (λ t. (tables, stays.ours, stays.no_body));
-      unmoved = none_moves q (λ k t z. never (sym z ∙ tables));
-    }) n

@@ -77,12 +77,12 @@ beside_method [] node = beside_none
 beside_method (parent ∷ path) node = beside_value parent.kind parent.text node
 
 -- what makes the code in a node of the kind strict
-abbrev made_strict : AstType → Node → Bool
+abbrev pub made_strict : AstType → Node → Bool
 made_strict k x =
     same_kind k kind.Class || (same_kind k kind.Program && has_use_strict x)
     || (holds_kind (kind.Function ∷ kind.ArrowFunctionExpression ∷ []) k && holds has_use_strict (child_of role.Body x))
 
-abbrev IsStrictFlag : ℕ → Type 0
+abbrev pub IsStrictFlag : ℕ → Type 0
 IsStrictFlag m = meets m scope.StrictMode.bits ≡ true
 
 strict_with : (x : ℕ) → IsStrictFlag (union x scope.StrictMode.bits)

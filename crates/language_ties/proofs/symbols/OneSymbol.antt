@@ -1,24 +1,21 @@
 -- Where the declarations of a name keep clear of each other, those that one environment binds have one symbol.
-use Rattle.std.proofs.Common.{◌≡◌, ℕ, List, [], ◌∷◌, ◌++◌, Option, Some, None, Bool, true, false, ◌&&◌, ◌||◌, not, inl, inr, cond, map, flat_map, refl, sym, ap, subst, ◌∙◌}
+use Rattle.std.proofs.Common.{◌≡◌, ℕ, List, [], ◌∷◌, ◌++◌, Option, Some, None, Bool, true, false, inl, inr, cond, map, flat_map, refl, sym, ap, subst, ◌∙◌}
 use Rattle.std.specs.Prelude.{slice_get}
 use Rattle.semantic_kinds.specs.declared.kind.AstType.{AstType}
 use Rattle.semantic_kinds.specs.declared.kind.AstType.TheVariants as kind
 use Rattle.semantic_syntax.specs.Reading as reading
-use Rattle.semantic_syntax.specs.SourceTypes.{is_typescript}
 use Rattle.semantic_syntax.specs.Tables.{Name}
 use Rattle.semantic_tree.specs.Faults.{first_fault}
 use Rattle.semantic_tree.specs.Tree.{Tree, IsNumbered}
-use Rattle.semantic_tree.specs.Views.{is}
 use Rattle.semantic_tree.specs.declared.node.Node.{Node}
 use Rattle.semantic_model.specs.Analysis.{analysis_of, symbol_at}
-use Rattle.semantic_model.specs.Binder.{is_var, is_clause, is_special, is_statement, is_block_function, declared_by, declared_inside, declared_on_entering, declared_on_opening}
+use Rattle.semantic_model.specs.Binder.{is_statement, is_block_function, declared_by, declared_inside, declared_on_entering, declared_on_opening}
 use Rattle.semantic_model.specs.Declaration.{Declaration, How, plain, hoisted, moved, caught, home, body_or}
 use Rattle.semantic_model.specs.EachStep.{EachStep}
 use Rattle.semantic_model.specs.Entries.{Among}
 use Rattle.semantic_model.specs.Event.{declares, declared, declarations, events, events_of, placed, placed_by, written_declarations}
 use Rattle.semantic_model.specs.NodeTable.{node_tables}
-use Rattle.semantic_model.specs.Place as place
-use Rattle.semantic_model.specs.Place.{Place, OpenScope, is_strict}
+use Rattle.semantic_model.specs.Place.{Place, OpenScope}
 use Rattle.semantic_model.specs.ScopeKind.{opened_scope}
 use Rattle.semantic_model.specs.Step.{Step, entering, steps}
 use Rattle.semantic_model.specs.TablesOf.{tables_of}
@@ -29,18 +26,17 @@ use Rattle.semantic_model.proofs.fold.EachDeclared.{EachDeclared, each_on_enteri
 use Rattle.semantic_model.proofs.fold.Orders.{HasForm, table_of, root_body, steps_in}
 use Rattle.semantic_model.proofs.form.Shape.{has_form}
 use Rattle.semantic_model.proofs.lists.Members.{among_left, among_right}
-use Rattle.tangle_model.specs.Surroundings.{in_with_under}
 use Rattle.language_ties.specs.Bound.{Bound, bound_in, bound_by, is_bound_as}
 use Rattle.language_ties.specs.EcmaScript.{is_ecmascript_kind, is_ecmascript}
-use Rattle.language_ties.specs.Environments.{is_made_for, environments, innermost, takes_variables}
 use Rattle.language_ties.specs.OneSymbol.{IsBoundByNode, EnvironmentsHaveOneSymbol}
 use Rattle.language_ties.specs.SharedSymbols.{is_own_name, HasHomesSymbol, ShareSymbols}
-use Rattle.language_ties.specs.ToldNames.{told_by_declaration, told_by_bound, is_function_in_block, Declares}
+use Rattle.language_ties.specs.ToldNames.{told_by_declaration, told_by_bound, Declares}
 use Rattle.language_ties.specs.declared.bound_as.BoundAs.TheVariants as bound
 use Rattle.language_ties.specs.declared.environment_kind.EnvironmentKind.TheVariants as environment
 use Rattle.language_ties.proofs.DeclaredAsBound.{declarations_are_bound}
 use Rattle.language_ties.proofs.EnvironmentsRound.{IsKnown, KnownAt, known_program}
-use Rattle.language_ties.proofs.Innermost.{innermost_made, taking_no_body}
+use Rattle.language_ties.proofs.block_functions.StayingFunctions.{StaysInBlock, stays_in_block, stays_there}
+use Rattle.language_ties.proofs.block_functions.StrictPlaces.{Strict, StrictAt, strict_program}
 use Rattle.language_ties.proofs.shared.Events.{entering_visible}
 use Rattle.language_ties.proofs.shared.PlainNodes.{IsPlainPlace, IsEcmaScriptAt, ecmascript_program}
 use Rattle.language_ties.proofs.symbols.ScopeOpeners.{openers, IsOpened, AllOpened, IsPlaceOpened, targets_opened, places_opened, root_opener, one_scope}
@@ -98,33 +94,10 @@ none_inside s p own c kind.Class i a n = rw (class_names (is_statement p.node) p
 none_inside s p own c kind.TSMappedType i a n = absurd cc
 none_inside s p own c _ i a n = refl
 
--- a declaration at a node that is no function in a block doesn't move
-stays_put : (s t : Bool) → (s && t) ≡ false → s ≡ true → t ≡ false
-stays_put true t h e = h
-stays_put false t h e = absurd cc
-
-not_block : (a b c v w : Bool) → v ≡ true → (a && b && c && not (v || w)) ≡ true → ⊥
-not_block true true true true w e h = absurd cc
-not_block true true false true w e h = absurd cc
-not_block true false c true w e h = absurd cc
-not_block false b c true w e h = absurd cc
-not_block a b c false w e h = absurd cc
-
-takes_of : (b : Bool) → not b ≡ false → b ≡ true
-takes_of true h = refl
-takes_of false h = absurd cc
-
-module _ (p : Place) (known : IsKnown p) (w : in_with_under p.path ≡ false) (f : is_function_in_block p.node p.path ≡ false) where
-  never_moved : p.node.kind ≡ kind.Function → is_statement p.node ≡ true → is_block_function p ≡ true → ⊥
-  never_moved k s b =
-      let function : (is kind.Function p.node && is_statement p.node) ≡ true = rw (k, s) refl in
-      let takes : takes_variables (innermost (environments p.node p.path)) ≡ true = takes_of (takes_variables (innermost (environments p.node p.path))) (stays_put (is kind.Function p.node && is_statement p.node) (not (takes_variables (innermost (environments p.node p.path)))) f function) in
-      let no_body : is_made_for environment.IfBody (innermost (environments p.node p.path)) ≡ false = taking_no_body (innermost (environments p.node p.path)) takes in
-      let variable : is_var (place.innermost p.chain) ≡ true = ap (λ m. m.takes_variables) (innermost_made p.chain p.node p.path (known.round w) (inr no_body)) ∙ takes in
-      not_block (not (is_special p.node)) (not (is_typescript p.source_type)) (not (is_strict p.chain)) (is_var (place.innermost p.chain)) (is_clause (place.innermost p.chain)) variable b
+-- ---- what moves
 
 -- where no function of the node moves, nothing does
-pub none_moves : (p : Place) → (p.node.kind ≡ kind.Function → is_statement p.node ≡ true → is_block_function p ≡ true → ⊥) → EachDeclared (λ d. d.how ≡ moved → ⊥) (declared_by p.node.kind p)
+none_moves : (p : Place) → (p.node.kind ≡ kind.Function → is_statement p.node ≡ true → is_block_function p ≡ true → ⊥) → EachDeclared (λ d. d.how ≡ moved → ⊥) (declared_by p.node.kind p)
 none_moves p never_moved = each_on_entering (λ d. d.how ≡ moved → ⊥) (λ how r. how ≡ moved → ⊥) (λ node row is_pure name r. r) p.node.kind p (record {
   at_home = λ q. absurd cc;
   when_caught = λ q. absurd cc;
@@ -172,23 +145,28 @@ module _ (p : Tree) (h : first_fault p ≡ None) (e : is_ecmascript p ≡ true) 
   plain_at : (q : Place) → Among (entering q) (steps p) → IsPlainPlace q
   plain_at q a = each_at IsEcmaScriptAt (steps p) (entering q) (ecmascript_program p h form.root e) a
 
-  -- a place that binds a name, not as an own one, and where nothing moves
-  pub record IsBinding (q : Place) (b : Bound) : Type 0 where
-    pub entered : Among (entering q) (steps p)
-    pub no_own_name : is_bound_as bound.OwnName b ≡ false
-    pub binds : Among b (bound_by q.node.kind p.source_type q.node q.path)
-    pub told : map told_by_declaration (declared_on_opening q (opened_scope q 0) ++ declared_on_entering q) ≡ map told_by_bound (bound_by q.node.kind p.source_type q.node q.path)
-    pub unmoved : EachDeclared (λ d. d.how ≡ moved → ⊥) (declared_on_entering q)
+  -- where no function leaves its block, nothing moves
+  unmoved : (b : Bound) (c : IsBoundByNode p b) → EachDeclared (λ d. d.how ≡ moved → ⊥) (declared_on_entering c.place)
+  unmoved b c = none_moves c.place (λ k t z.
+      let known : IsKnown c.place = known_at c.place c.entered in
+      let strict : Strict p.source_type c.place = each_at (StrictAt p.source_type) (steps p) (entering c.place) (strict_program p h e) c.entered in
+      let stays : StaysInBlock p.source_type c.place.node c.place.path = stays_in_block p.source_type c.place.node c.place.path k t c.no_leaving in
+      never (sym z ∙ stays_there p.source_type c.place known c.apart_from_with strict k stays))
+    where
+      never : true ≡ false → ⊥
+      never i = absurd cc
 
-  pub declaration_at : (q : Place) (b : Bound) → IsBinding q b → b.name ≡ x → DeclarationOf b
-  declaration_at q b c n =
+  pub declaration_of : (b : Bound) → IsBoundByNode p b → b.name ≡ x → DeclarationOf b
+  declaration_of b c n =
+      let q : Place = c.place in
       let own : OpenScope = opened_scope q 0 in
       let known : IsKnown q = known_at q c.entered in
       let plain_place : IsPlainPlace q = plain_at q c.entered in
-      let told : map told_by_declaration (declared_on_opening q own ++ declared_on_entering q) ≡ map told_by_bound (bound_by q.node.kind p.source_type q.node q.path) = c.told in
+      let told : map told_by_declaration (declared_on_opening q own ++ declared_on_entering q) ≡ map told_by_bound (bound_by q.node.kind p.source_type q.node q.path) =
+      each_at (Declares p.source_type) (steps p) (entering q) (declarations_are_bound p h e) c.entered c.apart_from_with c.no_leaving in
       let empty : declared_on_opening q own ≡ [] = none_inside p.source_type q own b q.node.kind known.ecmascript c.binds c.no_own_name in
       let (d, a, t) = told_too (declared_on_entering q) (bound_by q.node.kind p.source_type q.node q.path) (subst (λ os. map told_by_declaration (os ++ declared_on_entering q) ≡ map told_by_bound (bound_by q.node.kind p.source_type q.node q.path)) empty told) b c.binds in
-      let stays : placed ds d ≡ d = placed_stays ds d.how d refl (declared_at (λ i. i.how ≡ moved → ⊥) (declared_on_entering q) d c.unmoved a) in
+      let stays : placed ds d ≡ d = placed_stays ds d.how d refl (declared_at (λ i. i.how ≡ moved → ⊥) (declared_on_entering q) d (unmoved b c) a) in
       let event : Among (declares d) (events_of ds (entering q)) = subst (λ i. Among (declares i) (events_of ds (entering q))) stays (of_map (λ i. declares (placed ds i)) (declared_on_entering q) d a) in
       let chain_in : AllInTable (table_of p) q.chain = entered_chain q (steps p) (steps_in p form) c.entered in
       let opened : AllOpened (openers (steps p)) q.chain = each_at (IsPlaceOpened (openers (steps p))) (steps p) (entering q) (places_opened p) c.entered in
@@ -204,22 +182,13 @@ module _ (p : Tree) (h : first_fault p ≡ None) (e : is_ecmascript p ≡ true) 
         entered = c.entered;
         told = a;
         binds = c.binds;
-        unmoved = declared_at (λ i. i.how ≡ moved → ⊥) (declared_on_entering q) d c.unmoved a;
+        unmoved = declared_at (λ i. i.how ≡ moved → ⊥) (declared_on_entering q) d (unmoved b c) a;
         bodied = declared_at (λ i. IsOwn (table_of p) q.chain i.route.target) (declared_on_entering q) d (entering_own (table_of p) q.node.kind q chain_in) a;
         entry = (declared_at (IsDeclaredIn (table_of p) (root_body p form)) (declared_on_entering q) d (entering_in (table_of p) (root_body p form) q.node.kind q chain_in) a).target.entry;
       }
     where
       entered_chain : (q : Place) (ss : List Step) → EachStep (IsStepIn (table_of p)) ss → Among (entering q) ss → AllInTable (table_of p) q.chain
       entered_chain q ss k a = each_at (IsStepIn (table_of p)) ss (entering q) k a
-
-  pub declaration_of : (b : Bound) → IsBoundByNode p b → b.name ≡ x → DeclarationOf b
-  declaration_of b c n = declaration_at c.place b (record {
-    entered = c.entered;
-    no_own_name = c.no_own_name;
-    binds = c.binds;
-    told = each_at (Declares p.source_type) (steps p) (entering c.place) (declarations_are_bound p h e) c.entered c.apart_from_with c.no_block_function;
-    unmoved = none_moves c.place (never_moved c.place (known_at c.place c.entered) c.apart_from_with c.no_block_function);
-  }) n
 
   same_home : (b c : Bound) (d : DeclarationOf b) (f : DeclarationOf c) → b.environment.maker ≡ c.environment.maker → home d.declaration ≡ home f.declaration
   same_home b c d f q =
