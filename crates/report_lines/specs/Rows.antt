@@ -12,6 +12,7 @@ use Rattle.report_lines.specs.CountLines.{node_line, label_line, stats_line, mad
 use Rattle.report_lines.specs.DiagnosticLine.{diagnostic_line}
 use Rattle.report_lines.specs.TableLines.{scope_line, bind_line, symbol_line, redeclaration_line, uses_line, pure_line, reference_line, free_line}
 
+-- what one line tells
 pub data Row : Type 0 where
   node : ℕ → AstType → (parent scope : ℕ) → Row
   scope : ℕ → Scope → Row

@@ -33,8 +33,8 @@ unfoldable pub name_line : ℕ → List ℕ → List Reason → List ℕ
 name_line symbol name reasons = concat (codes "tangled " ∷ decimal symbol ∷ codes " " ∷ quoted name ∷ reasons_text reasons ∷ codes "\n" ∷ [])
 
 -- the text is one line on a name
-abbrev pub IsNameLine : List ℕ → Type 0
-IsNameLine text = (symbol : ℕ) × (name : List ℕ) × (reasons : List Reason) × (name_line symbol name reasons ≡ text)
+abbrev pub IsTangleLine : List ℕ → Type 0
+IsTangleLine text = (symbol : ℕ) × (name : List ℕ) × (reasons : List Reason) × (name_line symbol name reasons ≡ text)
 
 -- the line of a tangled name
 abbrev pub tangle_line : Tables → Tangle → List ℕ

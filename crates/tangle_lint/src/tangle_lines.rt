@@ -5,7 +5,7 @@ ghost use Rattle.std.specs.Str.{encode_utf8_all};
 ghost use Rattle.semantic_syntax.specs.Reading.{symbol_of};
 ghost use Rattle.report_ends.specs.Streams.{WritesLines};
 ghost use Rattle.tangled_names.specs.Found.{tangle_seen};
-ghost use Rattle.tangle_lint.specs.Lines.{reason_name, reason_text, reasons_text, name_line, tangle_line, seen_line, tangle_lines, IsNameLine};
+ghost use Rattle.tangle_lint.specs.Lines.{reason_name, reason_text, reasons_text, name_line, tangle_line, seen_line, tangle_lines, IsTangleLine};
 
 use report_ends::{ReportError, Sink};
 use report_lines::Line;
@@ -83,7 +83,7 @@ fn write_tangle<K: Sink>(
     name: &TangledName,
     out: &mut K,
 ) -> Result<(), ReportError>
-    ensures { WritesLines K.held K.faults K.Offered IsNameLine out.old out.new
+    ensures { WritesLines K.held K.faults K.Offered IsTangleLine out.old out.new
         (tangle_line scoping.now (tangle_seen name.now)) result }
 {
     let text = name_of(scoping, name.symbol);
@@ -98,7 +98,7 @@ fn write_each<K: Sink>(
     names: &[TangledName],
     out: &mut K,
 ) -> Result<(), ReportError>
-    ensures { WritesLines K.held K.faults K.Offered IsNameLine out.old out.new
+    ensures { WritesLines K.held K.faults K.Offered IsTangleLine out.old out.new
         (flat_map (seen_line scoping.now) names.now) result }
 {
     for name in names {
@@ -116,7 +116,7 @@ pub fn write_tangles<K: Sink>(
     names: &TangledNames,
     out: &mut K,
 ) -> Result<(), ReportError>
-    ensures { WritesLines K.held K.faults K.Offered IsNameLine out.old out.new
+    ensures { WritesLines K.held K.faults K.Offered IsTangleLine out.old out.new
         (tangle_lines scoping.now names.now) result }
 {
     let mut line = Line::new(alloc);
