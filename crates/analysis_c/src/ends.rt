@@ -31,10 +31,12 @@ impl<'a> Source for BytesSource<'a> {
     #[tactic(auto, using(report_ends::proofs::Growth::front_and_rest))]
     fn read(&mut self, buf: &mut [u8]) -> Result<usize, Failed>
         ensures bound { ReadsAtMost result buf.new }
-        ensures bytes { ReadConsumes (Some self.old.left.now) (Some self.new.left.now) result buf.new }
+        ensures bytes { ReadConsumes (Some self.old.left.now)
+            (Some self.new.left.now) result buf.new }
         ensures cause { ReadHasCause 0 0 result }
         ensures sure { IsOk result }
-        ensures count { IfOk result (λ count. count ≡ min (length self.old.left.now) (length buf.old)) }
+        ensures count { IfOk result
+            (λ count. count ≡ min (length self.old.left.now) (length buf.old)) }
     {
         let count = move_front(self.left, buf, usize::MAX);
         self.left = &self.left[count..];

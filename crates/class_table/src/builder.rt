@@ -36,7 +36,11 @@ fn uses_under(parent: AstType) -> bool
 impl<'a> ClassTableBuilder<'a> {
     /// No classes, and none is noted until it is enabled.
     pub fn new(alloc: Global) -> ClassTableBuilder<'a>
-        ensures { result ≡ record { enabled = false; current_class_id = None; classes = no_classes } }
+        ensures { result ≡ record {
+          enabled = false;
+          current_class_id = None;
+          classes = no_classes;
+        } }
     {
         ClassTableBuilder {
             enabled: false,
@@ -55,9 +59,11 @@ impl<'a> ClassTableBuilder<'a> {
     /// Whether there are ids for one more class, and for an element of each child of a body.
     #[tactic(auto, using(crate::proofs::Room::elements_fit_trees))]
     pub fn has_room(&self, body: AstKind<'_>) -> bool
-        ensures answer { result ≡ (nat_lt (length self.now.classes.nodes) u32.MAX && nat_le (length (trees body.entry.node.now.children)) u32.MAX) }
+        ensures answer { result ≡ (nat_lt (length self.now.classes.nodes) u32.MAX
+            && nat_le (length (trees body.entry.node.now.children)) u32.MAX) }
         ensures class { result ≡ true → length self.now.classes.nodes < u32.MAX }
-        ensures elements { result ≡ true → length (elements_of body.entry.node.now.children) ≤ u32.MAX }
+        ensures elements { result ≡ true
+            → length (elements_of body.entry.node.now.children) ≤ u32.MAX }
     {
         self.classes.len() < u32::MAX as usize
             && body.node().children.as_slice().len() <= u32::MAX as usize
@@ -72,7 +78,8 @@ impl<'a> ClassTableBuilder<'a> {
     ) -> Result<(), AllocError>
         requires current { IsCurrent self.old }
         requires class { self.old.enabled ≡ true → length self.old.classes.nodes < u32.MAX }
-        requires elements { self.old.enabled ≡ true → length (elements_of body.node.now.children) ≤ u32.MAX }
+        requires elements { self.old.enabled ≡ true
+            → length (elements_of body.node.now.children) ≤ u32.MAX }
         ensures ok { OnOk result (self.new ≡ with_body self.old body.entry.node.now parent) }
         ensures err { OnErr result (self.new ≡ self.old) }
         ensures stays { IsCurrent self.new }
@@ -151,7 +158,9 @@ impl<'a> ClassTableBuilder<'a> {
         parent: AstKind<'a>,
     ) -> Result<(), AllocError>
         requires { IsCurrent self.old }
-        ensures ok { OnOk result (self.new ≡ with_use_under self.old ident.entry.node.now node parent.entry.node.now.kind) }
+        ensures ok { OnOk result
+            (self.new ≡ with_use_under self.old ident.entry.node.now node
+            parent.entry.node.now.kind) }
         ensures err { OnErr result (self.new ≡ self.old) }
         ensures stays { IsCurrent self.new }
     {

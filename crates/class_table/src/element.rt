@@ -30,7 +30,14 @@ impl<'a> Element<'a> {
         is_private: bool,
         kind: ElementKind,
     ) -> Element<'a>
-        ensures { element_seen result ≡ record { name = name_shown name.entry; span = span; is_static = is_static; is_private = is_private; kind = kind } }
+        ensures { element_seen result
+            ≡ record {
+              name = name_shown name.entry;
+              span = span;
+              is_static = is_static;
+              is_private = is_private;
+              kind = kind;
+            } }
     {
         Element {
             name,

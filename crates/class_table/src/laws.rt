@@ -22,25 +22,39 @@ ghost use Rattle.class_table.specs.declared.builder.ClassTableBuilder.{ClassTabl
 /// with its node, has the classes of the program in its table in the end, and is in none. Where classes aren't noted
 /// it leaves the builder alone.
 pub fn a_walk_notes_the_classes()
-    ensures noted { (p : Tree) → first_fault p ≡ None → noted p.root begun ≡ record begun { classes = lists_told (classes p.root) } }
+    ensures noted { (p : Tree) → first_fault p ≡ None
+        → noted p.root begun ≡ record begun { classes = lists_told (classes p.root) } }
     ensures off { (root : Node) (b : ClassTableBuilder) → b.enabled ≡ false → noted root b ≡ b }
 {}
 
 /// A class is current from its body on until its node is left: behind the children of a class that is the class of its
 /// body, behind those of another node the class around. The table has all classes of what was walked.
 pub fn a_class_stays_current()
-    ensures shape { (p : Tree) → first_fault p ≡ None → (end_rightly p.root.kind p.root.children ≡ true) × (all_end_rightly p.root.children ≡ true) }
-    ensures current { (k : AstType) (node : ℕ) (current : Option ℕ) (lists : ClassLists) (f : Forest) → end_rightly k f ≡ true → all_end_rightly f ≡ true → FitCurrent lists current →
+    ensures shape { (p : Tree) → first_fault p ≡ None
+        → (end_rightly p.root.kind p.root.children ≡ true)
+        × (all_end_rightly p.root.children ≡ true) }
+    ensures current { (k : AstType) (node : ℕ) (current : Option ℕ) (lists : ClassLists)
+        (f : Forest) → end_rightly k f ≡ true → all_end_rightly f ≡ true → FitCurrent lists current
+        →
         noted_below k node f (noting_in current lists)
-        ≡ noting_in (current_behind (length lists.nodes) current f) (told lists current (uses_below (current_elements lists current) k f) (classes_below (length lists.nodes) current node f)) }
+        ≡ noting_in (current_behind (length lists.nodes) current f)
+        (told lists current (uses_below (current_elements lists current) k f)
+        (classes_below (length lists.nodes) current node f)) }
 {}
 
 /// The steps of a walk note what the walk notes, after each part of it.
 pub fn steps_note_the_classes()
-    ensures lists { (b : ClassTableBuilder) (xs ys : List Step) → noting_all b (xs ++ ys) ≡ noting_all (noting_all b xs) ys }
-    ensures below { (p : Place) (own : Option OpenScope) (n cursor : ℕ) (f : Forest) (b : ClassTableBuilder) → noting_all b (steps_below p own n cursor f) ≡ noted_below p.node.kind p.node.node_id f b }
-    ensures node { (p : Place) (n : ℕ) (b : ClassTableBuilder) → noting_all b (steps_of p n) ≡ left p.node.kind (noted_below p.node.kind p.node.node_id p.node.children (entered_under p.path p.node b)) }
-    ensures program { (p : Tree) → first_fault p ≡ None → noting_all begun (steps p) ≡ record begun { classes = lists_told (classes p.root) } }
+    ensures lists { (b : ClassTableBuilder) (xs ys : List Step)
+        → noting_all b (xs ++ ys) ≡ noting_all (noting_all b xs) ys }
+    ensures below { (p : Place) (own : Option OpenScope) (n cursor : ℕ) (f : Forest)
+        (b : ClassTableBuilder)
+        → noting_all b (steps_below p own n cursor f) ≡ noted_below p.node.kind p.node.node_id f b }
+    ensures node { (p : Place) (n : ℕ) (b : ClassTableBuilder)
+        → noting_all b (steps_of p n)
+        ≡ left p.node.kind (noted_below p.node.kind p.node.node_id p.node.children
+        (entered_under p.path p.node b)) }
+    ensures program { (p : Tree) → first_fault p ≡ None
+        → noting_all begun (steps p) ≡ record begun { classes = lists_told (classes p.root) } }
 {}
 
 /// There are no more classes, and no more elements of one class, than nodes.
@@ -51,5 +65,6 @@ pub fn classes_are_fewer_than_nodes()
 
 /// A table that tells some classes tells the class around each.
 pub fn a_table_tells_parents()
-    ensures { (cs : List Class) (c : ℕ) → parent_in (lists_told cs).parents c ≡ option_and_then (λ k. k.parent) (slice_get cs c) }
+    ensures { (cs : List Class) (c : ℕ)
+        → parent_in (lists_told cs).parents c ≡ option_and_then (λ k. k.parent) (slice_get cs c) }
 {}

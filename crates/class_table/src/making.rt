@@ -88,7 +88,8 @@ pub(crate) fn elements_of_body<'a>(
     alloc: Global,
     body: AstKind<'a>,
 ) -> Result<Vec<Element<'a>>, AllocError>
-    ensures { IfOk result (λ es. map element_seen es.items ≡ elements_of body.entry.node.now.children) }
+    ensures { IfOk result (λ es. map element_seen es.items
+        ≡ elements_of body.entry.node.now.children) }
 {
     let mut elements = Vec::new(alloc);
     for member in body.children(Role::Body) {

@@ -112,7 +112,8 @@ impl<'a> MeantNames<'a> {
         name: Ident<'_>,
         is_private: bool,
     ) -> Result<ElementIds, AllocError>
-        ensures { IfOk result (λ ids. ids ≡ ids_meant (lookup (key_eq (chars name.entry.text.now, is_private)) self.now)) }
+        ensures { IfOk result (λ ids. ids
+            ≡ ids_meant (lookup (key_eq (chars name.entry.text.now, is_private)) self.now)) }
     {
         let mut ids = ElementIds::new(alloc);
         match self.meaning(name.as_str(), is_private) {
@@ -130,7 +131,8 @@ impl<'a> MeantNames<'a> {
 
     /// Whether some element has the name.
     pub(crate) fn has(&self, name: Ident<'_>, is_private: bool) -> bool
-        ensures { result ≡ is_some (lookup (key_eq (chars name.entry.text.now, is_private)) self.now) }
+        ensures { result ≡ is_some
+            (lookup (key_eq (chars name.entry.text.now, is_private)) self.now) }
     {
         self.meaning(name.as_str(), is_private).is_some()
     }

@@ -26,7 +26,13 @@ impl<'a> PrivateIdentifierReference<'a> {
         span: Span,
         element_ids: ElementIds,
     ) -> PrivateIdentifierReference<'a>
-        ensures { use_seen result ≡ record { id = id; name = chars name.entry.text.now; span = span; element_ids = element_ids } }
+        ensures { use_seen result
+            ≡ record {
+              id = id;
+              name = chars name.entry.text.now;
+              span = span;
+              element_ids = element_ids;
+            } }
     {
         PrivateIdentifierReference {
             id,

@@ -130,7 +130,9 @@ impl<'a> ClassTable<'a> {
         is_private: bool,
     ) -> Result<ElementIds, AllocError>
         requires { c < length self.now.nodes }
-        ensures ids { IfOk result (λ ids. ids ≡ element_ids (elements_in self.now c) (chars name.entry.text.now) is_private) }
+        ensures ids { IfOk result
+            (λ ids. ids ≡ element_ids (elements_in self.now c)
+            (chars name.entry.text.now) is_private) }
         ensures within { IfOk result (AllByRecursion (λ i. i < length (elements_in self.now c))) }
     {
         self.names[c.index()].ids_meant(alloc, name, is_private)
@@ -139,7 +141,8 @@ impl<'a> ClassTable<'a> {
     /// Whether the class itself has a private element of the name (ECMAScript 15.7.1, PrivateBoundIdentifiers).
     pub fn has_private_definition(&self, c: ClassId, name: Ident<'_>) -> bool
         requires { c < length self.now.nodes }
-        ensures { result ≡ list_any (is_named (chars name.entry.text.now) true) (elements_in self.now c) }
+        ensures { result ≡ list_any (is_named (chars name.entry.text.now) true)
+            (elements_in self.now c) }
     {
         self.names[c.index()].has(name, true)
     }
@@ -172,7 +175,8 @@ impl<'a> ClassTable<'a> {
         requires parent { IfSome parent (λ p. p < length self.old.nodes) }
         requires elements { length elements.items ≤ u32.MAX }
         ensures id { IfOk result (λ id. id ≡ length self.old.nodes) }
-        ensures ok { OnOk result (self.new ≡ with_class self.old parent node (map element_seen elements.entry.items)) }
+        ensures ok { OnOk result
+            (self.new ≡ with_class self.old parent node (map element_seen elements.entry.items)) }
         ensures err { OnErr result (self.new ≡ self.old) }
     {
         let alloc = self.allocator();
@@ -233,7 +237,8 @@ fn reserve_class<'a>(
     ensures elements { elements.new.items ≡ elements.old.items }
     ensures uses { uses.new.items ≡ uses.old.items }
     ensures names { names.new.items ≡ names.old.items }
-    ensures declarations_room { OnOk result (vec_len declarations.new < vec_capacity declarations.new) }
+    ensures declarations_room { OnOk result
+        (vec_len declarations.new < vec_capacity declarations.new) }
     ensures elements_room { OnOk result (vec_len elements.new < vec_capacity elements.new) }
     ensures uses_room { OnOk result (vec_len uses.new < vec_capacity uses.new) }
     ensures names_room { OnOk result (vec_len names.new < vec_capacity names.new) }
@@ -251,7 +256,8 @@ fn put_inside(
     parent: Option<ClassId>,
 ) -> Result<(), AllocError>
     requires { AllByRecursion (IsInside class) parents.old.entries }
-    ensures ok { OnOk result (parents.new.entries ≡ parents.old.entries ++ option_to_list (option_map (λ p. (class, p)) parent)) }
+    ensures ok { OnOk result (parents.new.entries
+        ≡ parents.old.entries ++ option_to_list (option_map (λ p. (class, p)) parent)) }
     ensures err { OnErr result (parents.new.entries ≡ parents.old.entries) }
 {
     if let Some(parent) = parent {
@@ -276,7 +282,8 @@ fn push_named<'a>(
 ) -> Result<(), AllocError>
     requires { length elements.old.items < u32.MAX }
     ensures elements { OnOk result (elements.new.items ≡ elements.old.items ++ element.entry ∷ []) }
-    ensures names { OnOk result (names.new ≡ put names.old (length elements.old.items) (element_seen element.entry)) }
+    ensures names { OnOk result
+        (names.new ≡ put names.old (length elements.old.items) (element_seen element.entry)) }
     ensures elements_stay { OnErr result (elements.new.items ≡ elements.old.items) }
     ensures names_stay { OnErr result (names.new ≡ names.old) }
 {

@@ -13,7 +13,9 @@ impl<'a> ClassTableBuilder<'a> {
     /// there is no id for a class or its elements counts as want of memory. After it all is as before.
     pub fn enter(&mut self, kind: AstKind<'a>, parent: AstKind<'a>) -> Result<(), AllocError>
         requires { IsCurrent self.old }
-        ensures ok { OnOk result (self.new ≡ entered parent.entry.node.now.kind parent.entry.node.now.node_id kind.entry.node.now self.old) }
+        ensures ok { OnOk result
+            (self.new ≡ entered parent.entry.node.now.kind parent.entry.node.now.node_id
+            kind.entry.node.now self.old) }
         ensures err { OnErr result (self.new ≡ self.old) }
         ensures stays { IsCurrent self.new }
     {

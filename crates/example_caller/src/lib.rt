@@ -90,7 +90,8 @@ fn print_diagnostics(rt: &HostRuntime, diagnostics: &Diagnostics) -> io::Result<
 
 // The symbol that the root binds to a name. Tables without a root bind nothing.
 fn bound_at_root(scoping: &Scoping, name: &str) -> Option<SymbolId>
-    ensures { IfSome result (λ symbol. (0 < length scoping.now.scopes) × (symbol < length scoping.now.symbols)) }
+    ensures { IfSome result (λ symbol. (0 < length scoping.now.scopes)
+        × (symbol < length scoping.now.symbols)) }
 {
     if scoping.scopes_is_empty() {
         return None;

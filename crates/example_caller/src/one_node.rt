@@ -15,7 +15,8 @@ pub fn add_early_errors<'a>(
     ctx: &CheckContext<'a, '_>,
     out: &mut Diagnostics,
 ) -> Result<bool, AllocError>
-    ensures told { result ≡ Ok true → out.new ≡ out.old ++ rows_of (sight kind.entry.node.now ctx.now) }
+    ensures told { result ≡ Ok true
+        → out.new ≡ out.old ++ rows_of (sight kind.entry.node.now ctx.now) }
     ensures unfit { result ≡ Ok false → out.new ≡ out.old }
 {
     if !is_checkable(kind, ctx) {

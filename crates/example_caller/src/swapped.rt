@@ -13,7 +13,9 @@ use std::alloc::{AllocError, Global};
 /// The tables of a program.
 fn scoping_of(alloc: Global, program: &Program) -> Result<Scoping, AllocError>
     ensures tables { IfOk result (λ t. t ≡ tables_of program.now) }
-    ensures names { IfOk result (λ t. (a b : Name) → IsSwappable a → IsSwappable b → tables_of (swapped_tree a b program.now) ≡ swapped_tables a b t) }
+    ensures names { IfOk result
+        (λ t. (a b : Name) → IsSwappable a → IsSwappable b
+        → tables_of (swapped_tree a b program.now) ≡ swapped_tables a b t) }
 {
     let SemanticBuilderReturn {
         semantic,

@@ -27,7 +27,8 @@ pub fn leaf(
 
 /// The node with one more child.
 pub fn with(node: Node, role: Role, child: Node) -> Result<Node, AllocError>
-    ensures { IfOk result (λ now. now ≡ record node { children = join node.children (single role child) }) }
+    ensures { IfOk result (λ now. now
+        ≡ record node { children = join node.children (single role child) }) }
 {
     let mut node = node;
     match node.push(role, child) {

@@ -26,7 +26,8 @@ fn function_name(alloc: Global, number: u32) -> Result<String, AllocError>
 
 /// Adds the line of a function to the source.
 fn push_line(source: &mut String, name: &str) -> Result<(), AllocError>
-    ensures { OnOk result (string_bytes source.new ≡ string_bytes source.old ++ made.line name.now) }
+    ensures { OnOk result (string_bytes source.new
+        ≡ string_bytes source.old ++ made.line name.now) }
 {
     source.push_str("function ")?;
     source.push_str(name)?;
@@ -57,7 +58,8 @@ fn add_function(
     requires source { string_bytes source.old ≡ made.lines number }
     requires root { root ≡ made.plain program_kind 0 0 [] (made.functions number) }
     ensures source { OnOk result (string_bytes source.new ≡ made.lines (number + 1)) }
-    ensures root { IfOk result (λ now. now ≡ made.plain program_kind 0 0 [] (made.functions (number + 1))) }
+    ensures root { IfOk result (λ now. now
+        ≡ made.plain program_kind 0 0 [] (made.functions (number + 1))) }
 {
     let name = function_name(alloc, number)?;
     let at = end_of(source.as_str(), number);

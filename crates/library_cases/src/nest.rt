@@ -54,7 +54,8 @@ impl Nest {
 
     /// The parents make no cycle, and each parent and each bound symbol exists.
     fn attest(&self)
-        ensures { IsSource (nest_of self.now.names self.now.flags.bits self.now.declared.bits self.now.way.bits) }
+        ensures { IsSource (nest_of self.now.names self.now.flags.bits self.now.declared.bits
+            self.now.way.bits) }
     {
         let _names = &self.names;
     }

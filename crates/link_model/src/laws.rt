@@ -8,5 +8,6 @@ ghost use Rattle.link_model.specs.Outcome.{IsOutcome};
 
 /// The outcome that is computed is the outcome, where the bound of the computation sufficed.
 pub fn outcomes_are_computed()
-    ensures { (ms : List Analysed) (e : End) → suffices ms e ≡ true → IsOutcome ms e (outcome_of ms e) }
+    ensures { (ms : List Analysed) (e : End) → suffices ms e ≡ true
+        → IsOutcome ms e (outcome_of ms e) }
 {}

@@ -47,7 +47,8 @@ pub(crate) fn numbered(
     ends: &[(u32, Terminal)],
 ) -> Result<Vec<(u32, u32)>, AllocError>
     requires { AreApart terminals.old.keys }
-    ensures numbers { IfOk result (λ numbers. AreNumbered terminals.new.keys numbers.items ends.now) }
+    ensures numbers { IfOk result
+        (λ numbers. AreNumbered terminals.new.keys numbers.items ends.now) }
     ensures apart { OnOk result (AreApart terminals.new.keys) }
 {
     let mut numbers = Vec::new(alloc);

@@ -70,7 +70,8 @@ impl ModuleExports {
         default_name: u32,
         name: u32,
     ) -> Result<Vec<(u32, u32)>, AllocError>
-        ensures { IfOk result (λ names. names.items ≡ names_in (module_targets default_name self.now name)) }
+        ensures { IfOk result (λ names. names.items
+            ≡ names_in (module_targets default_name self.now name)) }
     {
         match self.names.get(&name) {
             Some(Some(Target::Name(module, other))) => only(alloc, *module, *other),
@@ -100,7 +101,8 @@ impl SetExports {
         module: u32,
         name: u32,
     ) -> Result<Vec<(u32, u32)>, AllocError>
-        ensures { IfOk result (λ names. names.items ≡ names_in (targets_of self.now («module», name))) }
+        ensures { IfOk result (λ names. names.items
+            ≡ names_in (targets_of self.now («module», name))) }
     {
         if name as usize >= self.names {
             return Ok(Vec::new(alloc));

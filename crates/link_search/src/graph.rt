@@ -26,7 +26,8 @@ pub trait Ways {
     /// The pairs to which a pair leads.
     fn ways(&self, alloc: Global, pair: (u32, u32)) -> Result<Vec<(u32, u32)>, AllocError>
         ensures ways { IfOk result (λ ways. ways.items ≡ leads self.now pair) }
-        ensures within { IfOk result (λ ways. ArePairsWithin (firsts self.now) (seconds self.now) ways.items) };
+        ensures within { IfOk result
+            (λ ways. ArePairsWithin (firsts self.now) (seconds self.now) ways.items) };
 }
 
 /// The pairs that are reached, whose places are their numbers, and for each a row of the numbers to which it leads.
@@ -45,10 +46,13 @@ pub fn graph_of<W: Ways>(
 ) -> Result<PairGraph, AllocError>
     requires { ArePairsWithin (W.firsts ways.now) (W.seconds ways.now) starts.now }
     ensures starts { IfOk result (λ made. StartAmong made.pairs.keys starts.now) }
-    ensures only { IfOk result (λ made. (p : Pair) → Among p made.pairs.keys → IsReached (W.leads ways.now) starts.now p) }
+    ensures only { IfOk result (λ made. (p : Pair) → Among p made.pairs.keys
+        → IsReached (W.leads ways.now) starts.now p) }
     ensures distinct { IfOk result (λ made. AreDistinctPairs made.pairs.keys) }
-    ensures rows { IfOk result (λ made. AreRowsOf (W.leads ways.now) made.pairs.keys (lists made.rows.items)) }
-    ensures within { IfOk result (λ made. AreWithin (length made.rows.items) (lists made.rows.items)) }
+    ensures rows { IfOk result (λ made.
+        AreRowsOf (W.leads ways.now) made.pairs.keys (lists made.rows.items)) }
+    ensures within { IfOk result
+        (λ made. AreWithin (length made.rows.items) (lists made.rows.items)) }
 {
     let mut pairs = IndexSet::new(alloc);
     let _numbers = numbers_of(alloc, &mut pairs, starts)?;

@@ -6,10 +6,12 @@ ghost use Rattle.link_search.specs.Numbering.{Pair, with_pair, ArePairsWithin, A
 /// Distinct pairs of numbers below two bounds are at most as many as the product says. So a search that numbers the pairs that it
 /// meets ends.
 pub fn distinct_pairs_are_few()
-    ensures { (m n : ℕ) (ps : List Pair) → ArePairsWithin m n ps → AreDistinctPairs ps → length ps ≤ m * n }
+    ensures { (m n : ℕ) (ps : List Pair) → ArePairsWithin m n ps → AreDistinctPairs ps
+        → length ps ≤ m * n }
 {}
 
 /// Distinct pairs stay distinct where another is met.
 pub fn pairs_stay_distinct()
-    ensures { (ps : List Pair) (p : Pair) → AreDistinctPairs ps → AreDistinctPairs (with_pair ps p) }
+    ensures { (ps : List Pair) (p : Pair) → AreDistinctPairs ps
+        → AreDistinctPairs (with_pair ps p) }
 {}

@@ -95,7 +95,8 @@ impl Walk {
 
     // What is to be done next, if anything is.
     fn next(&mut self) -> Option<Task>
-        ensures some { IfSome result (λ task. self.old ≡ record self.new { tasks = task ∷ self.new.tasks }) }
+        ensures some { IfSome result
+            (λ task. self.old ≡ record self.new { tasks = task ∷ self.new.tasks }) }
         ensures none { IfNone result (self.old.tasks ≡ []) }
         ensures kept { IfNone result (self.new ≡ self.old) }
     {
@@ -112,7 +113,8 @@ impl Walk {
 
     // The numbers are to be entered, the last one next.
     fn go_to_all(&mut self, numbers: &[u32]) -> Result<(), AllocError>
-        ensures ok { OnOk result (self.new ≡ record self.old { tasks = entering numbers.now self.old.tasks }) }
+        ensures ok { OnOk result
+            (self.new ≡ record self.old { tasks = entering numbers.now self.old.tasks }) }
     {
         for b in numbers {
             self.go_to(*b)?;
@@ -159,8 +161,11 @@ impl Walk {
     // Does a task.
     fn turn(&mut self, rows: &[Vec<u32>], task: Task) -> Result<(), AllocError>
         requires rows { AreWithin (length rows.now) (lists rows.now) }
-        requires keeps { Keeps (lists rows.now) (length rows.now) (record self.old { tasks = task ∷ self.old.tasks }) }
-        ensures ok { OnOk result (Turned (lists rows.now) (length rows.now) (record self.old { tasks = task ∷ self.old.tasks }) self.new) }
+        requires keeps { Keeps (lists rows.now) (length rows.now)
+            (record self.old { tasks = task ∷ self.old.tasks }) }
+        ensures ok { OnOk result
+            (Turned (lists rows.now) (length rows.now)
+            (record self.old { tasks = task ∷ self.old.tasks }) self.new) }
     {
         match task {
             Task::Enter(a) => {
@@ -179,7 +184,8 @@ impl Walk {
         requires start { start < length rows.now }
         requires keeps { Keeps (lists rows.now) (length rows.now) self.old }
         requires done { self.old.tasks ≡ [] }
-        ensures ok { OnOk result (Finished (lists rows.now) (length rows.now) self.old start self.new) }
+        ensures ok { OnOk result
+            (Finished (lists rows.now) (length rows.now) self.old start self.new) }
     {
         self.go_to(start)?;
         while let Some(task) = self.next() {
@@ -206,8 +212,11 @@ pub fn leading_to_rings(alloc: Global, rows: &[Vec<u32>]) -> Result<Vec<bool>, A
     requires rows { AreWithin (length rows.now) (lists rows.now) }
     requires few { length rows.now ≤ 4294967295 }
     ensures length { IfOk result (λ flags. length flags.items ≡ length rows.now) }
-    ensures sound { IfOk result (λ flags. (a : ℕ) → is_marked flags.items a ≡ true → LeadsToRing (lists rows.now) a) }
-    ensures complete { IfOk result (λ flags. (a : ℕ) → a < length rows.now → LeadsToRing (lists rows.now) a → is_marked flags.items a ≡ true) }
+    ensures sound { IfOk result
+        (λ flags. (a : ℕ) → is_marked flags.items a ≡ true → LeadsToRing (lists rows.now) a) }
+    ensures complete { IfOk result
+        (λ flags. (a : ℕ) → a < length rows.now → LeadsToRing (lists rows.now) a
+        → is_marked flags.items a ≡ true) }
 {
     let mut walk = Walk::new(alloc, rows.len())?;
     for start in 0..rows.len() as u32 {

@@ -22,7 +22,8 @@ fn search_from(
     starts: &[(u32, u32)],
 ) -> Result<Search, AllocError>
     requires exports { StaysWithin exports.now }
-    requires starts { ArePairsWithin (length exports.now.modules.items) exports.now.names starts.now }
+    requires starts { ArePairsWithin
+        (length exports.now.modules.items) exports.now.names starts.now }
     ensures { IfOk result (IsSearched exports.now starts.now) }
 {
     let graph = graph_of(alloc, &NameWays { exports }, starts)?;
@@ -51,7 +52,8 @@ pub fn found_all(
     wanted: &[Target],
 ) -> Result<Vec<Found>, AllocError>
     requires exports { StaysWithin exports.now }
-    requires wanted { AreTargetsWithin (length exports.now.modules.items) exports.now.names wanted.now }
+    requires wanted { AreTargetsWithin
+        (length exports.now.modules.items) exports.now.names wanted.now }
     ensures { IfOk result (λ found. AreFound (leads_of exports.now) wanted.now found.items) }
 {
     let starts = names_in(alloc, wanted)?;

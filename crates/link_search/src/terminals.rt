@@ -69,7 +69,8 @@ impl Model for Spreading {
 impl Spreading {
     // Nothing is known.
     fn new(alloc: Global, bound: usize) -> Result<Spreading, AllocError>
-        ensures { IfOk result (λ made. made ≡ record { values = replicate bound Nowhere; news = [] }) }
+        ensures { IfOk result (λ made. made
+            ≡ record { values = replicate bound Nowhere; news = [] }) }
     {
         Ok(Spreading {
             values: vec![in alloc; Terminals::Nowhere; bound]?,
@@ -94,7 +95,8 @@ impl Spreading {
 
     // The number whose news are handed on next, if there is one.
     fn next(&mut self) -> Option<u32>
-        ensures some { IfSome result (λ a. self.old ≡ record self.new { news = a ∷ self.new.news }) }
+        ensures some { IfSome result
+            (λ a. self.old ≡ record self.new { news = a ∷ self.new.news }) }
         ensures none { IfNone result (self.old.news ≡ []) }
         ensures kept { IfNone result (self.new ≡ self.old) }
     {
@@ -171,7 +173,8 @@ pub fn reached_terminals(
     requires few { length rows.now ≤ 4294967295 }
     requires ends { All (λ end. end.0 < length rows.now) ends.now }
     ensures length { IfOk result (λ found. length found.items ≡ length rows.now) }
-    ensures tells { IfOk result (λ found. (a : ℕ) → Tells (lists rows.now) ends.now (value_of found.items a) a) }
+    ensures tells { IfOk result
+        (λ found. (a : ℕ) → Tells (lists rows.now) ends.now (value_of found.items a) a) }
 {
     let pairs = backward_pairs(alloc, rows)?;
     let back = rows_of(alloc, rows.len(), pairs.as_slice())?;

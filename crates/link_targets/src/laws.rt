@@ -18,13 +18,16 @@ ghost use Rattle.tree_json.specs.Written.{and_text};
 
 /// Where targets lead to what their ends lead to, what a target comes to is the outcome of its end.
 pub fn outcomes_follow()
-    ensures { (texts : List Name) (s : SetExports) (ms : List Analysed) → AreApart texts → Follow texts s ms
-        → (t : Target) (e : End) (f : Found) → denoted texts t ≡ Some e → ComesTo (leads_of s) t f → IsOutcome ms e (outcome_of f) }
+    ensures { (texts : List Name) (s : SetExports) (ms : List Analysed) → AreApart texts
+        → Follow texts s ms
+        → (t : Target) (e : End) (f : Found) → denoted texts t ≡ Some e → ComesTo (leads_of s) t f
+        → IsOutcome ms e (outcome_of f) }
 {}
 
 /// A target stands for one end alone, also once more texts have numbers.
 pub fn targets_keep_their_ends()
-    ensures { (old new : List Name) (t : Target) (e : End) → Grows old new → denoted old t ≡ Some e → denoted new t ≡ Some e }
+    ensures { (old new : List Name) (t : Target) (e : End) → Grows old new → denoted old t ≡ Some e
+        → denoted new t ≡ Some e }
 {}
 
 /// A text that gets a number leaves those of the others, and no text has two.
@@ -34,10 +37,12 @@ pub fn texts_keep_their_numbers()
 
 /// Exports in numbers lead where the names do.
 pub fn exports_follow()
-    ensures { (texts : List Name) (ms : List Analysed) (s : SetExports) → AreApart texts → AreSetExports texts ms s → Follow texts s ms }
+    ensures { (texts : List Name) (ms : List Analysed) (s : SetExports) → AreApart texts
+        → AreSetExports texts ms s → Follow texts s ms }
 {}
 
 /// Exports in numbers lead only to modules of the set, and to names that have numbers.
 pub fn exports_stay_within()
-    ensures { (texts : List Name) (ms : List Analysed) (s : SetExports) → AreApart texts → AreSetExports texts ms s → StaysWithin s }
+    ensures { (texts : List Name) (ms : List Analysed) (s : SetExports) → AreApart texts
+        → AreSetExports texts ms s → StaysWithin s }
 {}

@@ -177,9 +177,19 @@ fn program_of(
     root: Node,
 ) -> Program
     requires { first_fault (numbered_tree
-        (record { source = source; source_type = source_type; comments = comments.items; root = root })) ≡ None }
+        (record {
+          source = source;
+          source_type = source_type;
+          comments = comments.items;
+          root = root;
+        })) ≡ None }
     ensures { result ≡ numbered_tree
-        (record { source = source; source_type = source_type; comments = comments.items; root = root }) }
+        (record {
+          source = source;
+          source_type = source_type;
+          comments = comments.items;
+          root = root;
+        }) }
 {
     match Program::new(alloc, source, source_type, comments, root) {
         Ok(program) => program,

@@ -25,9 +25,13 @@ pub(crate) fn module_targets<'a>(
     module: &'a Module,
 ) -> Result<ModuleTargets, AllocError>
     ensures grows { OnOk result (Grows texts.old texts.new) }
-    ensures nodes { IfOk result (λ made. made.nodes.items ≡ nodes_of (imports (analysed «module».now))) }
-    ensures targets { IfOk result (λ made. AreDenoted texts.new made.targets.items (map (import_end names.now) (imports (analysed «module».now)))) }
-    ensures exports { IfOk result (λ made. IsModuleExports names.now texts.new number (analysed «module».now) made.exports) }
+    ensures nodes { IfOk result
+        (λ made. made.nodes.items ≡ nodes_of (imports (analysed «module».now))) }
+    ensures targets { IfOk result
+        (λ made. AreDenoted texts.new made.targets.items
+        (map (import_end names.now) (imports (analysed «module».now)))) }
+    ensures exports { IfOk result
+        (λ made. IsModuleExports names.now texts.new number (analysed «module».now) made.exports) }
 {
     let analysis = SemanticBuilder::new().build(alloc, &module.program)?;
     let semantic = &analysis.semantic;

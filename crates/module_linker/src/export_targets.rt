@@ -28,14 +28,16 @@ use std::alloc::{AllocError, Global};
 
 /// Where a name leads that a specifier without a source lists, if anywhere.
 fn listed_target(scope: &ModuleScope<'_, '_>, specifier: &Node) -> Option<Target>
-    ensures { result ≡ local_target scope.now.analysed.now.number (ties_in scope.now.analysed.now) (imported_in scope.now) (child_of role.Local specifier.now) }
+    ensures { result ≡ local_target scope.now.analysed.now.number (ties_in scope.now.analysed.now)
+        (imported_in scope.now) (child_of role.Local specifier.now) }
 {
     scope.local_target(&listed_local(specifier))
 }
 
 /// Where the default export of a statement leads.
 fn default_target(scope: &ModuleScope<'_, '_>, statement: &Node) -> Option<Target>
-    ensures { result ≡ default_target scope.now.analysed.now.number (ties_in scope.now.analysed.now) (default_name (child_of role.Declaration statement.now)) }
+    ensures { result ≡ default_target scope.now.analysed.now.number (ties_in scope.now.analysed.now)
+        (default_name (child_of role.Declaration statement.now)) }
 {
     scope.default_target(&default_id(statement))
 }
@@ -48,7 +50,9 @@ fn passed_target<'a>(
     wanted: &Wanted<'a>,
 ) -> Result<Option<Target>, AllocError>
     ensures grows { OnOk result (Grows texts.old texts.new) }
-    ensures stands { IfOk result (λ target. AreDenoted texts.new (if_any target) (wanted_end names.now (chars source.now) (shown_wanted wanted.now) ∷ [])) }
+    ensures stands { IfOk result
+        (λ target. AreDenoted texts.new (if_any target)
+        (wanted_end names.now (chars source.now) (shown_wanted wanted.now) ∷ [])) }
 {
     Ok(Some(wanted_target(names, texts, source, wanted)?))
 }
@@ -63,7 +67,10 @@ fn export_target<'a>(
 ) -> Result<Option<Target>, AllocError>
     requires { ScopeLeads names.now texts.old scope.now }
     ensures grows { OnOk result (Grows texts.old texts.new) }
-    ensures stands { IfOk result (λ target. AreDenoted texts.new (if_any target) (exported_ends names.now scope.now.analysed.now.number (ties_in scope.now.analysed.now) (imports (analysed_in scope.now.analysed.now)) (shown_way way.now))) }
+    ensures stands { IfOk result
+        (λ target. AreDenoted texts.new (if_any target)
+        (exported_ends names.now scope.now.analysed.now.number (ties_in scope.now.analysed.now)
+        (imports (analysed_in scope.now.analysed.now)) (shown_way way.now))) }
 {
     match *way {
         ExportWay::Listed(specifier) => Ok(listed_target(scope, specifier)),
@@ -85,7 +92,10 @@ fn entry_target<'a>(
 ) -> Result<(u32, Option<Target>), AllocError>
     requires { ScopeLeads names.now texts.old scope.now }
     ensures grows { OnOk result (Grows texts.old texts.new) }
-    ensures stands { IfOk result (λ target. IsExport names.now texts.new scope.now.analysed.now.number (ties_in scope.now.analysed.now) (imports (analysed_in scope.now.analysed.now)) target (shown_export export.now)) }
+    ensures stands { IfOk result
+        (λ target. IsExport names.now texts.new scope.now.analysed.now.number
+        (ties_in scope.now.analysed.now) (imports (analysed_in scope.now.analysed.now)) target
+        (shown_export export.now)) }
 {
     let target = export_target(names, texts, scope, &export.way())?;
     let name = texts.number_of(export.name())?;
@@ -103,7 +113,11 @@ pub(crate) fn export_targets<'a>(
 ) -> Result<Vec<(u32, Option<Target>)>, AllocError>
     requires { ScopeLeads names.now texts.old scope.now }
     ensures grows { OnOk result (Grows texts.old texts.new) }
-    ensures stand { IfOk result (λ targets. AreExports names.now texts.new scope.now.analysed.now.number (ties_in scope.now.analysed.now) (imports (analysed_in scope.now.analysed.now)) targets.items (map shown_export exports.now)) }
+    ensures stand { IfOk result
+        (λ targets. AreExports names.now texts.new scope.now.analysed.now.number
+        (ties_in scope.now.analysed.now)
+        (imports (analysed_in scope.now.analysed.now)) targets.items
+        (map shown_export exports.now)) }
 {
     let mut targets = Vec::new(alloc);
     for export in exports {

@@ -28,8 +28,10 @@ pub(crate) struct ImportTargets {
 impl ImportTargets {
     /// Adds where an import leads that binds this symbol, if it binds one.
     fn push(&mut self, symbol: Option<SymbolId>, target: &Target) -> Result<(), AllocError>
-        ensures targets { OnOk result (self.new.targets.items ≡ self.old.targets.items ++ target.now ∷ []) }
-        ensures bound { OnOk result (self.new.bound.items ≡ with_bound self.old.bound.items symbol target.now) }
+        ensures targets { OnOk result
+            (self.new.targets.items ≡ self.old.targets.items ++ target.now ∷ []) }
+        ensures bound { OnOk result
+            (self.new.bound.items ≡ with_bound self.old.bound.items symbol target.now) }
     {
         self.targets.push(*target)?;
         if let Some(symbol) = symbol {
@@ -47,7 +49,9 @@ impl ImportTargets {
         import: &ImportEntry<'a>,
     ) -> Result<(), AllocError>
         ensures grows { OnOk result (Grows texts.old texts.new) }
-        ensures added { OnOk result (AddsImport names.now texts.new (ties_in analysed.now) (shown_import import.now) self.old self.new) }
+        ensures added { OnOk result
+            (AddsImport names.now texts.new (ties_in analysed.now)
+            (shown_import import.now) self.old self.new) }
     {
         // The proof has to be told of all types that a target holds.
         let _end: Option<Terminal> = None;
@@ -67,8 +71,12 @@ pub(crate) fn import_targets<'a>(
     imports: &[ImportEntry<'a>],
 ) -> Result<ImportTargets, AllocError>
     ensures grows { OnOk result (Grows texts.old texts.new) }
-    ensures targets { IfOk result (λ made. AreDenoted texts.new made.targets.items (map (import_end names.now) (map shown_import imports.now))) }
-    ensures bound { IfOk result (λ made. ImportsLead names.now texts.new (ties_in analysed.now) (map shown_import imports.now) (λ s. lookup (nat_eq s) made.bound.items)) }
+    ensures targets { IfOk result
+        (λ made. AreDenoted texts.new made.targets.items
+        (map (import_end names.now) (map shown_import imports.now))) }
+    ensures bound { IfOk result
+        (λ made. ImportsLead names.now texts.new (ties_in analysed.now)
+        (map shown_import imports.now) (λ s. lookup (nat_eq s) made.bound.items)) }
 {
     let mut made = ImportTargets {
         targets: Vec::new(alloc),

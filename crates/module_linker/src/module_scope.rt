@@ -24,7 +24,8 @@ pub(crate) struct ModuleScope<'s, 'a> {
 impl ModuleScope<'_, '_> {
     /// Where a symbol leads: where its import does, if it has one.
     fn symbol_target(&self, symbol: SymbolId) -> Target
-        ensures { result ≡ symbol_target self.now.analysed.now.number symbol (imported_in self.now symbol) }
+        ensures { result ≡ symbol_target self.now.analysed.now.number symbol
+            (imported_in self.now symbol) }
     {
         let number = symbol.index() as u32;
         match self.imported.get(&number) {
@@ -35,7 +36,8 @@ impl ModuleScope<'_, '_> {
 
     /// Where a local leads: where its symbol does, if it is a reference that is tied to one.
     pub fn local_target(&self, local: &Option<AstKind<'_>>) -> Option<Target>
-        ensures { result ≡ local_target self.now.analysed.now.number (ties_in self.now.analysed.now) (imported_in self.now) (option_map shown local.now) }
+        ensures { result ≡ local_target self.now.analysed.now.number (ties_in self.now.analysed.now)
+            (imported_in self.now) (option_map shown local.now) }
     {
         match local {
             Some(local) if local.ty() == AstType::IdentifierReference => {
@@ -48,7 +50,8 @@ impl ModuleScope<'_, '_> {
 
     /// Where a declared name leads.
     pub fn declared_target(&self, name: NodeId) -> Option<Target>
-        ensures { result ≡ declared_target self.now.analysed.now.number ((ties_in self.now.analysed.now).declared name) }
+        ensures { result ≡ declared_target self.now.analysed.now.number
+            ((ties_in self.now.analysed.now).declared name) }
     {
         let symbol = self.analysed.declared(name)?;
         Some(Target::End(Terminal::Symbol(self.analysed.number, symbol)))
@@ -56,7 +59,8 @@ impl ModuleScope<'_, '_> {
 
     /// Where the default export leads, which may have a name.
     pub fn default_target(&self, name: &Option<AstKind<'_>>) -> Option<Target>
-        ensures { result ≡ default_target self.now.analysed.now.number (ties_in self.now.analysed.now) (option_map shown name.now) }
+        ensures { result ≡ default_target self.now.analysed.now.number
+            (ties_in self.now.analysed.now) (option_map shown name.now) }
     {
         match name {
             Some(name) => self.declared_target(name.node_id()),

@@ -51,7 +51,9 @@ fn exports_of<'a>(
     requires leads { ScopeLeads names.now texts.old scope.now }
     requires entries { AreEntriesOf (analysed_in scope.now.analysed.now) scope.now.entries.now }
     ensures grows { OnOk result (Grows texts.old texts.new) }
-    ensures exports { IfOk result (λ made. IsModuleExports names.now texts.new scope.now.analysed.now.number (analysed_in scope.now.analysed.now) made) }
+    ensures exports { IfOk result
+        (λ made. IsModuleExports names.now texts.new scope.now.analysed.now.number
+        (analysed_in scope.now.analysed.now) made) }
 {
     let exports = scope.entries.exports.as_slice();
     let targets = export_targets(alloc, names, texts, scope, exports)?;
@@ -73,9 +75,14 @@ fn entry_targets<'a>(
 ) -> Result<ModuleTargets, AllocError>
     requires { AreEntriesOf (analysed_in analysed.now) entries.now }
     ensures grows { OnOk result (Grows texts.old texts.new) }
-    ensures nodes { IfOk result (λ made. made.nodes.items ≡ nodes_of (imports (analysed_in analysed.now))) }
-    ensures targets { IfOk result (λ made. AreDenoted texts.new made.targets.items (map (import_end names.now) (imports (analysed_in analysed.now)))) }
-    ensures exports { IfOk result (λ made. IsModuleExports names.now texts.new analysed.now.number (analysed_in analysed.now) made.exports) }
+    ensures nodes { IfOk result
+        (λ made. made.nodes.items ≡ nodes_of (imports (analysed_in analysed.now))) }
+    ensures targets { IfOk result
+        (λ made. AreDenoted texts.new made.targets.items
+        (map (import_end names.now) (imports (analysed_in analysed.now)))) }
+    ensures exports { IfOk result
+        (λ made. IsModuleExports names.now texts.new analysed.now.number
+        (analysed_in analysed.now) made.exports) }
 {
     let imports = entries.imports.as_slice();
     let nodes = nodes_of(alloc, imports)?;
@@ -103,9 +110,14 @@ pub fn targets_of<'a>(
     analysed: &AnalysedModule<'_, 'a>,
 ) -> Result<ModuleTargets, AllocError>
     ensures grows { OnOk result (Grows texts.old texts.new) }
-    ensures nodes { IfOk result (λ made. made.nodes.items ≡ nodes_of (imports (analysed_in analysed.now))) }
-    ensures targets { IfOk result (λ made. AreDenoted texts.new made.targets.items (map (import_end names.now) (imports (analysed_in analysed.now)))) }
-    ensures exports { IfOk result (λ made. IsModuleExports names.now texts.new analysed.now.number (analysed_in analysed.now) made.exports) }
+    ensures nodes { IfOk result
+        (λ made. made.nodes.items ≡ nodes_of (imports (analysed_in analysed.now))) }
+    ensures targets { IfOk result
+        (λ made. AreDenoted texts.new made.targets.items
+        (map (import_end names.now) (imports (analysed_in analysed.now)))) }
+    ensures exports { IfOk result
+        (λ made. IsModuleExports names.now texts.new analysed.now.number
+        (analysed_in analysed.now) made.exports) }
 {
     let entries = entries_of(alloc, &analysed.module.program)?;
     entry_targets(alloc, names, texts, analysed, &entries)

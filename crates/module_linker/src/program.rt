@@ -46,12 +46,15 @@ fn status_for(links: &[Link]) -> LinkStatus
 
 /// Reads the whole input, and the set of modules that it stands for. Some bytes are gone from the source where it fails.
 fn read_modules_from<S: Source>(alloc: Global, source: &mut S) -> Result<Modules, LinkFailure>
-    ensures found { IfOk result (Finds StandsForSet (source_call S.left S.faults source.old source.new)) }
+    ensures found { IfOk result
+        (Finds StandsForSet (source_call S.left S.faults source.old source.new)) }
     ensures stopped { IfErr result (NotFound (source_call S.left S.faults source.old source.new)) }
     ensures kept { OnOk result (S.faults source.new ≡ S.faults source.old) }
     ensures failing { IfErr result (FailureKeeps (S.faults source.new ≡ S.faults source.old)) }
-    ensures same { (input : List ℕ) (ms : List Module) → S.left source.old ≡ Some input → StandsForSet input ms → IfOk result (λ modules. modules ≡ ms) }
-    ensures complete { (input : List ℕ) (ms : List Module) → S.left source.old ≡ Some input → StandsForSet input ms → IfErr result IsNotRefused }
+    ensures same { (input : List ℕ) (ms : List Module) → S.left source.old ≡ Some input
+        → StandsForSet input ms → IfOk result (λ modules. modules ≡ ms) }
+    ensures complete { (input : List ℕ) (ms : List Module) → S.left source.old ≡ Some input
+        → StandsForSet input ms → IfErr result IsNotRefused }
 {
     let input = read_input(alloc, source)?;
     let modules = read_modules(alloc, &input)?;
@@ -73,9 +76,12 @@ fn link_input<S: Source, K: Sink>(
     source: &mut S,
     out: &mut K,
 ) -> Result<LinkStatus, LinkFailure>
-    ensures ends { Ends (source_call S.left S.faults source.old source.new) (sink_call K.held K.faults out.old out.new) result }
-    ensures failing { FaultsEnd (source_call S.left S.faults source.old source.new) (sink_call K.held K.faults out.old out.new) (end_due result) }
-    ensures complete { (input : List ℕ) (ms : List Module) → S.left source.old ≡ Some input → StandsLinked input ms → IfErr result IsNotRefused }
+    ensures ends { Ends (source_call S.left S.faults source.old source.new)
+        (sink_call K.held K.faults out.old out.new) result }
+    ensures failing { FaultsEnd (source_call S.left S.faults source.old source.new)
+        (sink_call K.held K.faults out.old out.new) (end_due result) }
+    ensures complete { (input : List ℕ) (ms : List Module) → S.left source.old ≡ Some input
+        → StandsLinked input ms → IfErr result IsNotRefused }
 {
     let modules = read_modules_from(alloc, source)?;
     answer(alloc, &modules, out)
@@ -91,9 +97,11 @@ pub fn run_link<S: Source, K: Sink, E: Sink>(
     out: &mut K,
     errs: &mut E,
 ) -> LinkStatus
-    ensures means { Means (source_call S.left S.faults source.old source.new) (sink_call K.held K.faults out.old out.new)
+    ensures means { Means (source_call S.left S.faults source.old source.new)
+        (sink_call K.held K.faults out.old out.new)
         (sink_call E.held E.faults errs.old errs.new) words.now result }
-    ensures failing { FaultsEnd (source_call S.left S.faults source.old source.new) (sink_call K.held K.faults out.old out.new) (end_of result) }
+    ensures failing { FaultsEnd (source_call S.left S.faults source.old source.new)
+        (sink_call K.held K.faults out.old out.new) (end_of result) }
     ensures complete { words.now ≡ [] → IsClear (source_call S.left S.faults source.old source.new)
         (sink_call K.held K.faults out.old out.new) → IsDoneOrMemory (end_of result) }
     ensures usage { ¬ (words.now ≡ []) → IsUsageOrMemory (end_of result) }

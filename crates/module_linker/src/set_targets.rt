@@ -34,7 +34,8 @@ impl SetTargets {
     /// Adds the import specifiers of a module.
     fn add_places(&mut self, number: u32, nodes: &[NodeId]) -> Result<(), AllocError>
         ensures exports { OnOk result (self.new.exports ≡ self.old.exports) }
-        ensures places { OnOk result (self.new.places.items ≡ self.old.places.items ++ places_in number nodes.now) }
+        ensures places { OnOk result
+            (self.new.places.items ≡ self.old.places.items ++ places_in number nodes.now) }
         ensures targets { OnOk result (self.new.targets ≡ self.old.targets) }
     {
         for node in nodes {
@@ -48,9 +49,12 @@ impl SetTargets {
 
     /// Adds a module.
     fn add(&mut self, number: u32, made: ModuleTargets) -> Result<(), AllocError>
-        ensures exports { OnOk result (self.new.exports.items ≡ self.old.exports.items ++ made.exports ∷ []) }
-        ensures places { OnOk result (self.new.places.items ≡ self.old.places.items ++ places_in number made.nodes.items) }
-        ensures targets { OnOk result (self.new.targets.items ≡ self.old.targets.items ++ made.targets.items) }
+        ensures exports { OnOk result
+            (self.new.exports.items ≡ self.old.exports.items ++ made.exports ∷ []) }
+        ensures places { OnOk result
+            (self.new.places.items ≡ self.old.places.items ++ places_in number made.nodes.items) }
+        ensures targets { OnOk result
+            (self.new.targets.items ≡ self.old.targets.items ++ made.targets.items) }
     {
         self.add_places(number, &made.nodes)?;
         self.targets.extend_from_slice(&made.targets)?;

@@ -74,7 +74,8 @@ fn stop_of_refusal(error: &LinkError) -> Stop
 
 /// Tells a refusal's line.
 fn tell_refusal<E: Sink>(alloc: Global, error: &LinkError, errs: &mut E) -> LinkStatus
-    ensures { TellsEnd (sink_call E.held E.faults errs.old errs.new) (cause_line error.now) (stop_of_refusal error.now) (end_of result) }
+    ensures { TellsEnd (sink_call E.held E.faults errs.old errs.new) (cause_line error.now)
+        (stop_of_refusal error.now) (end_of result) }
 {
     match cause_line(alloc, error) {
         Ok(line) => LinkStatus::of_stop(tell_stop(&line, stop_of_refusal(error), errs)),
@@ -89,7 +90,8 @@ pub(crate) fn tell_failure<E: Sink>(
     failure: &LinkFailure,
     errs: &mut E,
 ) -> LinkStatus
-    ensures { TellsEnd (sink_call E.held E.faults errs.old errs.new) (failure_line failure.now) (failure_stop failure.now) (end_of result) }
+    ensures { TellsEnd (sink_call E.held E.faults errs.old errs.new) (failure_line failure.now)
+        (failure_stop failure.now) (end_of result) }
 {
     match failure {
         LinkFailure::Refused(error) => tell_refusal(alloc, error, errs),
@@ -102,7 +104,8 @@ pub const USAGE: &str = "usage: module_linker\n";
 
 /// Answers words, for which there is no use.
 pub(crate) fn refuse_words<E: Sink>(errs: &mut E) -> LinkStatus
-    ensures { TellsEnd (sink_call E.held E.faults errs.old errs.new) usage_line Stop.Usage (end_of result) }
+    ensures { TellsEnd (sink_call E.held E.faults errs.old errs.new) usage_line Stop.Usage
+        (end_of result) }
 {
     refuse(USAGE, errs)
 }

@@ -52,7 +52,8 @@ fn list_of(value: &Value) -> Option<&[Value]>
 
 /// The modules that a value says, each as its text.
 pub(crate) fn texts_of(alloc: Global, value: &Value) -> Result<Vec<ModuleText<'_>>, LinkError>
-    ensures said { Gives (λ texts. map written texts.items) result (ok_or (set_of_data (data_of value.now)) Shape) }
+    ensures said { Gives (λ texts. map written texts.items) result
+        (ok_or (set_of_data (data_of value.now)) Shape) }
     ensures few { IfOk result (λ texts. length texts.items ≤ 4294967294) }
 {
     let Some(list) = list_of(value) else {

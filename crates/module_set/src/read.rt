@@ -61,7 +61,8 @@ fn refusal(number: u32, cause: TreeError) -> LinkError
 /// The module with this number in a set.
 fn read_module(alloc: Global, number: u32, text: &ModuleText<'_>) -> Result<Module, LinkError>
     ensures read { IfOk result (λ m. IsRead (written text.now) m) }
-    ensures refused { IfErr result (λ e. ¬ IsWantOfMemory e → IsRefusedAt number (written text.now) e) }
+    ensures refused { IfErr result
+        (λ e. ¬ IsWantOfMemory e → IsRefusedAt number (written text.now) e) }
     ensures complete { (m : Module) → IsRead (written text.now) m → IsReadAs m result }
 {
     let name = Text::new(alloc, text.name)?;
@@ -75,8 +76,10 @@ fn read_module(alloc: Global, number: u32, text: &ModuleText<'_>) -> Result<Modu
 fn modules_of(alloc: Global, texts: &[ModuleText<'_>]) -> Result<Modules, LinkError>
     requires { length texts.now ≤ 4294967294 }
     ensures read { IfOk result (λ modules. AreRead (map written texts.now) modules) }
-    ensures refused { IfErr result (λ e. ¬ IsWantOfMemory e → RefusedFrom 0 (map written texts.now) e) }
-    ensures complete { (ms : List Module) → AreRead (map written texts.now) ms → IsReadAs ms result }
+    ensures refused { IfErr result
+        (λ e. ¬ IsWantOfMemory e → RefusedFrom 0 (map written texts.now) e) }
+    ensures complete { (ms : List Module) → AreRead (map written texts.now) ms
+        → IsReadAs ms result }
 {
     let mut list = Vec::new(alloc);
     for (number, text) in texts.iter().enumerate() {

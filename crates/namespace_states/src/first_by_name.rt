@@ -66,7 +66,8 @@ impl<'a> FirstByName<'a> {
     /// Adds a statement that declares the name, unless one is there.
     #[tactic(auto, using(crate::proofs::SpelledNames::names))]
     fn put(&mut self, name: &'a str, statement: AstKind<'a>) -> Result<(), AllocError>
-        ensures { OnOk result (self.new ≡ with_first self.old (chars name.now, statement.entry.node.now)) }
+        ensures { OnOk result (self.new
+            ≡ with_first self.old (chars name.now, statement.entry.node.now)) }
     {
         spell(name);
         if !self.statements.contains_key(&name) {
@@ -82,7 +83,8 @@ impl<'a> FirstByName<'a> {
         kind: AstKind<'a>,
         statement: AstKind<'a>,
     ) -> Result<(), AllocError>
-        ensures { OnOk result (self.new ≡ with_names self.old statement.entry.node.now (bound_names kind.entry.node.now)) }
+        ensures { OnOk result (self.new
+            ≡ with_names self.old statement.entry.node.now (bound_names kind.entry.node.now)) }
     {
         let names = bound_identifiers(alloc, kind)?;
         for name in names.iter() {
@@ -93,7 +95,8 @@ impl<'a> FirstByName<'a> {
 
     /// The statements of a block.
     pub(crate) fn of(alloc: Global, block: AstKind<'a>) -> Result<FirstByName<'a>, AllocError>
-        ensures { IfOk result (λ made. made ≡ with_statements [] (statements block.entry.node.now)) }
+        ensures { IfOk result (λ made. made
+            ≡ with_statements [] (statements block.entry.node.now)) }
     {
         let mut made = FirstByName::new(alloc);
         for statement in block.children(Role::Body) {

@@ -32,10 +32,13 @@ pub fn module_instance_state(
     p: &Program,
     n: NodeId,
 ) -> Result<ModuleInstanceState, AllocError>
-    ensures reached { (place : Place) → Among (entering place) (steps p.now) → place.node.node_id ≡ n →
+    ensures reached { (place : Place) → Among (entering place) (steps p.now)
+        → place.node.node_id ≡ n →
         IfOk result (λ s. IsGreatestReached (statement_at place) (state_of s)) }
-    ensures searched { (place : Place) → Among (entering place) (steps p.now) → place.node.node_id ≡ n →
-        IfOk result (λ s. state_of s ≡ instance_state place.node place.path (nodes_around place.node place.path)) }
+    ensures searched { (place : Place) → Among (entering place) (steps p.now)
+        → place.node.node_id ≡ n →
+        IfOk result (λ s. state_of s
+        ≡ instance_state place.node place.path (nodes_around place.node place.path)) }
 {
     let states = NamespaceStates::of(alloc, p)?;
     Ok(states.state(n))

@@ -11,10 +11,14 @@ ghost use Rattle.namespace_states.specs.Reaches.{IsGreatestReached, statement_at
 /// The search by rounds, bounded by the nodes of the program, finds the greatest state that is reached in any number
 /// of steps.
 pub fn searched_states_are_greatest()
-    ensures { (program : Tree) (p : Place) → IsNumbered program.root → Among (entering p) (steps program) → IsGreatestReached (statement_at p) (instance_state p.node p.path (nodes_around p.node p.path)) }
+    ensures { (program : Tree) (p : Place) → IsNumbered program.root
+        → Among (entering p) (steps program)
+        → IsGreatestReached (statement_at p)
+        (instance_state p.node p.path (nodes_around p.node p.path)) }
 {}
 
 /// Only one state is the greatest that is reached.
 pub fn greatest_states_are_equal()
-    ensures { (i : Item) (s t : InstanceState) → IsGreatestReached i s → IsGreatestReached i t → s ≡ t }
+    ensures { (i : Item) (s t : InstanceState) → IsGreatestReached i s → IsGreatestReached i t
+        → s ≡ t }
 {}

@@ -13,7 +13,9 @@ use semantic_tree::AstKind;
 /// A namespace, by its state: one that is nothing but types is no value (TypeScript's `ValueModuleExcludes` and
 /// `NamespaceModuleExcludes`).
 pub fn namespace_row(namespace: AstKind<'_>, state: ModuleInstanceState) -> Row
-    ensures { (p : Place) → p.node ≡ namespace.entry.node.now → binder.namespace_row (state_of state) p ≡ binder.declare_here p result.flags.bits result.excluded.bits (binder.ids p.node) }
+    ensures { (p : Place) → p.node ≡ namespace.entry.node.now
+        → binder.namespace_row (state_of state) p
+        ≡ binder.declare_here p result.flags.bits result.excluded.bits (binder.ids p.node) }
 {
     match state {
         ModuleInstanceState::NonInstantiated => Row {

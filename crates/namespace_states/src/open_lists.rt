@@ -47,7 +47,8 @@ impl<'a> Model for OpenLists<'a> {
 /// The statement that declares the name in the innermost of these lists, the last, that has one.
 fn target_in<'a>(lists: &[OpenList<'a>], name: Ident<'_>) -> Option<AstKind<'a>>
     requires { AllByRecursion HasNames lists.now }
-    ensures { option_map shown result ≡ option_map node_of (target_of (chars name.entry.text.now) (chain_of lists.entry.now)) }
+    ensures { option_map shown result
+        ≡ option_map node_of (target_of (chars name.entry.text.now) (chain_of lists.entry.now)) }
 {
     let mut left = lists.len();
     while left > 0 {
@@ -90,7 +91,8 @@ impl<'a> OpenLists<'a> {
 
     /// The statement that declares the name in the innermost list that has one.
     pub(crate) fn target(&self, name: Ident<'_>) -> Option<AstKind<'a>>
-        ensures { option_map shown result ≡ option_map node_of (target_of (chars name.entry.text.now) self.now) }
+        ensures { option_map shown result
+            ≡ option_map node_of (target_of (chars name.entry.text.now) self.now) }
     {
         target_in(self.lists.as_slice(), name)
     }

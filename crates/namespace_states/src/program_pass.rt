@@ -40,14 +40,23 @@ impl<'a> Model for ProgramPass<'a> {
 impl<'a> ProgramPass<'a> {
     /// A statement leads to another.
     fn lead(&mut self, from: NodeId, to: AstKind<'a>) -> Result<(), AllocError>
-        ensures { OnOk result (self.new ≡ record self.old { led = led_to self.old.led from to.entry.node.now.node_id }) }
+        ensures { OnOk result (self.new
+            ≡ record self.old { led = led_to self.old.led from to.entry.node.now.node_id }) }
     {
         self.leads.lead(from, to.node_id())
     }
 
     /// A statement leads to those of a block.
     fn follow_block(&mut self, from: NodeId, block: AstKind<'a>) -> Result<(), AllocError>
-        ensures { OnOk result (self.new ≡ record self.old { led = led_by self.old.led from (leads_to (map (λ x. record { node = x; lists = statements block.entry.node.now ∷ self.old.lists }) (statements block.entry.node.now))) }) }
+        ensures { OnOk result (self.new
+            ≡ record self.old {
+              led = led_by self.old.led from
+                  (leads_to (map
+                  (λ x. record {
+                    node = x;
+                    lists = statements block.entry.node.now ∷ self.old.lists;
+                  }) (statements block.entry.node.now)));
+            }) }
     {
         for statement in block.children(Role::Body) {
             self.lead(from, statement)?;
@@ -57,7 +66,11 @@ impl<'a> ProgramPass<'a> {
 
     /// A namespace or an external module leads to the statements of its body, or to the namespace that is its body.
     fn follow_body(&mut self, namespace: AstKind<'a>) -> Result<(), AllocError>
-        ensures { OnOk result (self.new ≡ record self.old { led = led_by self.old.led namespace.entry.node.now.node_id (body_items (child_of body_role namespace.entry.node.now) self.old.lists) }) }
+        ensures { OnOk result (self.new
+            ≡ record self.old {
+              led = led_by self.old.led namespace.entry.node.now.node_id
+                  (body_items (child_of body_role namespace.entry.node.now) self.old.lists);
+            }) }
     {
         let from = namespace.node_id();
         match namespace.child(Role::Body) {
@@ -69,7 +82,9 @@ impl<'a> ProgramPass<'a> {
 
     /// The statement that declares a name. An import may be a value.
     fn follow_target(&mut self, from: NodeId, target: AstKind<'a>) -> Result<(), AllocError>
-        ensures { (item : Item) → item.node ≡ target.entry.node.now → OnOk result (self.new ≡ record self.old { led = led_by self.old.led from (item_reached (Some item)) }) }
+        ensures { (item : Item) → item.node ≡ target.entry.node.now
+            → OnOk result (self.new
+            ≡ record self.old { led = led_by self.old.led from (item_reached (Some item)) }) }
     {
         if exported(target).ty() == AstType::TSImportEqualsDeclaration {
             self.leads.count_value(from)
@@ -80,7 +95,11 @@ impl<'a> ProgramPass<'a> {
 
     /// A name leads to the statement that declares it. One that isn't declared may be a value.
     fn follow_name(&mut self, from: NodeId, local: AstKind<'a>) -> Result<(), AllocError>
-        ensures { OnOk result (self.new ≡ record self.old { led = led_by self.old.led from (item_reached (target_of local.entry.node.now.text self.old.lists)) }) }
+        ensures { OnOk result (self.new
+            ≡ record self.old {
+              led = led_by self.old.led from
+                  (item_reached (target_of local.entry.node.now.text self.old.lists));
+            }) }
     {
         match self.lists.target(local.text()) {
             Some(target) => self.follow_target(from, target),
@@ -90,7 +109,11 @@ impl<'a> ProgramPass<'a> {
 
     /// Where an exported name leads.
     fn follow_specifier(&mut self, from: NodeId, specifier: AstKind<'a>) -> Result<(), AllocError>
-        ensures { OnOk result (self.new ≡ record self.old { led = led_by self.old.led from (specifier_reached self.old.lists specifier.entry.node.now) }) }
+        ensures { OnOk result (self.new
+            ≡ record self.old {
+              led = led_by self.old.led from
+                  (specifier_reached self.old.lists specifier.entry.node.now);
+            }) }
     {
         match specifier.child(Role::Local) {
             Some(local) if local.ty() == AstType::IdentifierReference => {
@@ -102,7 +125,13 @@ impl<'a> ProgramPass<'a> {
 
     /// Where the exported names lead.
     fn follow_specifiers(&mut self, statement: AstKind<'a>) -> Result<(), AllocError>
-        ensures { OnOk result (self.new ≡ record self.old { led = led_by self.old.led statement.entry.node.now.node_id (specifiers_reached (map (specifier_reached self.old.lists) (children_of specifiers_role statement.entry.node.now.children))) }) }
+        ensures { OnOk result (self.new
+            ≡ record self.old {
+              led = led_by self.old.led statement.entry.node.now.node_id
+                  (specifiers_reached
+                  (map (specifier_reached self.old.lists)
+                  (children_of specifiers_role statement.entry.node.now.children)));
+            }) }
     {
         let from = statement.node_id();
         for specifier in statement.children(Role::Specifiers) {
@@ -117,7 +146,11 @@ impl<'a> ProgramPass<'a> {
         from: NodeId,
         declaration: AstKind<'a>,
     ) -> Result<(), AllocError>
-        ensures { OnOk result (self.new ≡ record self.old { led = led_by self.old.led from (declaration_reached self.old.lists declaration.entry.node.now) }) }
+        ensures { OnOk result (self.new
+            ≡ record self.old {
+              led = led_by self.old.led from
+                  (declaration_reached self.old.lists declaration.entry.node.now);
+            }) }
     {
         match declaration.ty() {
             AstType::TSNamespaceDeclaration | AstType::TSExternalModuleDeclaration => {
@@ -130,7 +163,11 @@ impl<'a> ProgramPass<'a> {
 
     /// What a statement counts as, and where it leads.
     fn follow(&mut self, statement: AstKind<'a>) -> Result<(), AllocError>
-        ensures { OnOk result (self.new ≡ record self.old { led = led_by self.old.led statement.entry.node.now.node_id (reach (record { node = statement.entry.node.now; lists = self.old.lists })) }) }
+        ensures { OnOk result (self.new
+            ≡ record self.old {
+              led = led_by self.old.led statement.entry.node.now.node_id
+                  (reach (record { node = statement.entry.node.now; lists = self.old.lists }));
+            }) }
     {
         let from = statement.node_id();
         match statement.ty() {
@@ -153,7 +190,8 @@ impl<'a> ProgramPass<'a> {
 
     /// Goes into the node, if it is a statement list.
     fn open(&mut self, kind: AstKind<'a>) -> Result<(), AllocError>
-        ensures { OnOk result (self.new ≡ record self.old { lists = lists_inside kind.entry.node.now self.old.lists }) }
+        ensures { OnOk result (self.new
+            ≡ record self.old { lists = lists_inside kind.entry.node.now self.old.lists }) }
     {
         if is_statement_list(kind.ty()) {
             self.lists.open(kind)
@@ -164,7 +202,9 @@ impl<'a> ProgramPass<'a> {
 
     /// Goes out of the node.
     fn close(&mut self, kind: AstKind<'a>)
-        ensures { (lists : List (List Node)) → self.old.lists ≡ lists_inside kind.entry.node.now lists → self.new ≡ record self.old { lists = lists } }
+        ensures { (lists : List (List Node))
+            → self.old.lists ≡ lists_inside kind.entry.node.now lists
+            → self.new ≡ record self.old { lists = lists } }
     {
         if is_statement_list(kind.ty()) {
             self.lists.close();
@@ -174,7 +214,8 @@ impl<'a> ProgramPass<'a> {
     /// Notes a node and all below it.
     #[tactic(auto, using(semantic_tree::specs::Falls::below))]
     fn visit(&mut self, kind: AstKind<'a>) -> Result<(), AllocError>
-        ensures { OnOk result (self.new ≡ record self.old { led = led_from self.old.lists kind.entry.node.now self.old.led }) }
+        ensures { OnOk result (self.new
+            ≡ record self.old { led = led_from self.old.lists kind.entry.node.now self.old.led }) }
     {
         self.follow(kind)?;
         self.open(kind)?;

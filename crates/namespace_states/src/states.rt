@@ -64,7 +64,8 @@ fn states_by(
     const_enums: &[bool],
 ) -> Result<Vec<ModuleInstanceState>, AllocError>
     requires { length const_enums.now ≡ length values.now }
-    ensures { IfOk result (λ states. map state_of states.items ≡ states_by values.now const_enums.now) }
+    ensures { IfOk result (λ states. map state_of states.items
+        ≡ states_by values.now const_enums.now) }
 {
     let mut states = Vec::new(alloc);
     for id in 0..values.len() {
@@ -84,7 +85,8 @@ fn search_back(
     requires numbered { IsNumbered root.node.now }
     requires count { count ≡ node_count root.node.now }
     requires leads { leads.now ≡ led_from [] root.node.now nothing_led }
-    ensures { IfOk result (λ made. (i : Item) → Among i (items_from root.entry.node.now) → IsGreatestReached i (state_in made i.node.node_id)) }
+    ensures { IfOk result (λ made. (i : Item) → Among i (items_from root.entry.node.now)
+        → IsGreatestReached i (state_in made i.node.node_id)) }
 {
     let rows = rows_of(alloc, count as usize, leads.backward.as_slice())?;
     let values = reached(alloc, &rows, leads.values.as_slice())?;
@@ -106,8 +108,15 @@ impl NamespaceStates {
 
     /// The states of the namespaces of a program. Takes no memory where there are none.
     pub fn of_namespaces(alloc: Global, program: &Program) -> Result<NamespaceStates, AllocError>
-        ensures reached { IfOk result (λ made. (p : Place) → Among (entering p) (steps program.now) → is namespace_declaration p.node ≡ true → IsGreatestReached (statement_at p) (state_in made p.node.node_id)) }
-        ensures searched { IfOk result (λ made. (p : Place) → Among (entering p) (steps program.now) → is namespace_declaration p.node ≡ true → state_in made p.node.node_id ≡ instance_state p.node p.path (nodes_around p.node p.path)) }
+        ensures reached { IfOk result
+            (λ made. (p : Place) → Among (entering p) (steps program.now)
+            → is namespace_declaration p.node ≡ true
+            → IsGreatestReached (statement_at p) (state_in made p.node.node_id)) }
+        ensures searched { IfOk result
+            (λ made. (p : Place) → Among (entering p) (steps program.now)
+            → is namespace_declaration p.node ≡ true
+            → state_in made p.node.node_id
+            ≡ instance_state p.node p.path (nodes_around p.node p.path)) }
     {
         if 0 < program.count_of(AstType::TSNamespaceDeclaration) {
             NamespaceStates::of(alloc, program)

@@ -120,7 +120,8 @@ fn when(is: bool, flags: ReferenceFlags, cursor: ReferenceFlags) -> ReferenceFla
 
 /// Whether the operand of the unary operator is deleted from an object.
 fn is_deleted_member(parent: AstKind<'_>, argument: AstKind<'_>) -> bool
-    ensures { result ≡ (has_text (codes "delete") parent.entry.node.now && is_member_or_chain_node (inner_expression argument.entry.node.now)) }
+    ensures { result ≡ (has_text (codes "delete") parent.entry.node.now
+        && is_member_or_chain_node (inner_expression argument.entry.node.now)) }
 {
     reads(parent, "delete") && is_member_or_chain(argument.get_inner_expression())
 }
@@ -140,7 +141,8 @@ fn at_child(
     child: AstKind<'_>,
     cursor: ReferenceFlags,
 ) -> ReferenceFlags
-    ensures { result.bits ≡ bits_at_child parent.entry.node.now.kind parent.entry.node.now is_ambient role child.entry.node.now cursor.bits }
+    ensures { result.bits ≡ bits_at_child parent.entry.node.now.kind parent.entry.node.now
+        is_ambient role child.entry.node.now cursor.bits }
 {
     match (parent.ty(), role) {
         // A compound assignment reads what it writes (ECMAScript 13.15, Assignment Operators).
@@ -197,7 +199,8 @@ pub fn before_child(
     child: AstKind<'_>,
     cursor: ReferenceFlags,
 ) -> ReferenceFlags
-    ensures { result.bits ≡ cursor_before parent.entry.node.now is_ambient role child.entry.node.now cursor.bits }
+    ensures { result.bits ≡ cursor_before parent.entry.node.now is_ambient role child.entry.node.now
+        cursor.bits }
 {
     let there = at_child(parent, is_ambient, role, child, cursor);
     let is_written = is_write_place(parent.ty(), role) && is_simple_target(child.ty());

@@ -12,7 +12,8 @@ use semantic_tree::{AstKind, AstType, Mark, Role};
 
 /// Whether the expression is the name `eval`, maybe in parentheses or under a type.
 fn is_eval_name(callee: AstKind<'_>) -> bool
-    ensures { result ≡ (is identifier_reference (inner_expression callee.entry.node.now) && has_text (codes "eval") (inner_expression callee.entry.node.now)) }
+    ensures { result ≡ (is identifier_reference (inner_expression callee.entry.node.now)
+        && has_text (codes "eval") (inner_expression callee.entry.node.now)) }
 {
     let inner = callee.get_inner_expression();
     inner.ty() == AstType::IdentifierReference && reads(inner, "eval")
@@ -20,7 +21,9 @@ fn is_eval_name(callee: AstKind<'_>) -> bool
 
 /// Whether the callee of a node is the name `eval`.
 fn calls_eval(kind: AstKind<'_>) -> bool
-    ensures { result ≡ holds (λ callee. is identifier_reference (inner_expression callee) && has_text (codes "eval") (inner_expression callee)) (child_of callee_role kind.entry.node.now) }
+    ensures { result ≡ holds (λ callee. is identifier_reference (inner_expression callee)
+        && has_text (codes "eval") (inner_expression callee))
+        (child_of callee_role kind.entry.node.now) }
 {
     match kind.child(Role::Callee) {
         Some(callee) => is_eval_name(callee),

@@ -57,7 +57,9 @@ pub fn is_var_declaration(declaration: AstKind<'_>) -> bool
 /// Variables of a `var` declaration, which conflict with lexical ones (ECMAScript 14.2.1, 14.3.2, VarDeclaredNames;
 /// TypeScript's `FunctionScopedVariableExcludes`).
 pub fn var_row(declaration: AstKind<'_>) -> Row
-    ensures { IsRow result (union symbol.FunctionScopedVariable.bits (binder.marked_ambient declaration.entry.node.now)) symbol.FunctionScopedVariableExcludes.bits }
+    ensures { IsRow result (union symbol.FunctionScopedVariable.bits
+        (binder.marked_ambient declaration.entry.node.now))
+        symbol.FunctionScopedVariableExcludes.bits }
 {
     Row {
         flags: ambient(declaration, SymbolFlags::FunctionScopedVariable),
@@ -79,7 +81,9 @@ fn lexical_flags(declaration: AstKind<'_>) -> SymbolFlags
 /// Variables of a lexical declaration, which conflict with all that has a value (ECMAScript 14.2.1, 14.3.1.1, 16.1.1,
 /// LexicallyDeclaredNames; TypeScript 2451, `BlockScopedVariableExcludes`).
 pub fn lexical_row(declaration: AstKind<'_>) -> Row
-    ensures { IsRow result (union (binder.lexical_flags declaration.entry.node.now) (binder.marked_ambient declaration.entry.node.now)) symbol.BlockScopedVariableExcludes.bits }
+    ensures { IsRow result (union (binder.lexical_flags declaration.entry.node.now)
+        (binder.marked_ambient declaration.entry.node.now))
+        symbol.BlockScopedVariableExcludes.bits }
 {
     Row {
         flags: ambient(declaration, lexical_flags(declaration)),
@@ -150,7 +154,8 @@ fn function_excluded(
     source_type: SourceType,
     flags: ScopeFlags,
 ) -> SymbolFlags
-    ensures { result.bits ≡ binder.function_excluded (seen source_type function.entry parent.entry flags) }
+    ensures { result.bits ≡ binder.function_excluded
+        (seen source_type function.entry parent.entry flags) }
 {
     if source_type.is_typescript() {
         SymbolFlags::FunctionExcludes
@@ -168,7 +173,8 @@ pub fn function_row(
     source_type: SourceType,
     flags: ScopeFlags,
 ) -> Row
-    ensures { IsRow result (binder.function_flags function.entry.node.now) (binder.function_excluded (seen source_type function.entry parent.entry flags)) }
+    ensures { IsRow result (binder.function_flags function.entry.node.now)
+        (binder.function_excluded (seen source_type function.entry parent.entry flags)) }
 {
     Row {
         flags: function_flags(function),
@@ -190,7 +196,8 @@ fn is_block_function(function: AstKind<'_>, source_type: SourceType, flags: Scop
 /// Whether a function may move: a plain one that is a statement of a block of sloppy JavaScript (ECMAScript, Annex
 /// B.3.2).
 pub fn may_move(function: AstKind<'_>, source_type: SourceType, flags: ScopeFlags) -> bool
-    ensures { result ≡ (binder.is_statement function.entry.node.now && binder.is_block_function (seen source_type function.entry None flags)) }
+    ensures { result ≡ (binder.is_statement function.entry.node.now
+        && binder.is_block_function (seen source_type function.entry None flags)) }
 {
     is_statement(function) && is_block_function(function, source_type, flags)
 }
@@ -198,7 +205,8 @@ pub fn may_move(function: AstKind<'_>, source_type: SourceType, flags: ScopeFlag
 /// A class, which is declared as lexical variables are (ECMAScript 14.2.1, 15.7.14; TypeScript 2300,
 /// `ClassExcludes`).
 pub fn class_row(class: AstKind<'_>) -> Row
-    ensures { IsRow result (union symbol.Class.bits (binder.marked_ambient class.entry.node.now)) symbol.ClassExcludes.bits }
+    ensures { IsRow result (union symbol.Class.bits (binder.marked_ambient class.entry.node.now))
+        symbol.ClassExcludes.bits }
 {
     Row {
         flags: ambient(class, SymbolFlags::Class),
@@ -208,7 +216,8 @@ pub fn class_row(class: AstKind<'_>) -> Row
 
 /// Whether the list is an arrow's or a method's, whose names differ (ECMAScript 15.1.1, UniqueFormalParameters).
 fn is_unique_list(list: AstKind<'_>) -> bool
-    ensures { result ≡ (is_with_text formal_parameters (codes "arrow") list.entry.node.now || is_with_text formal_parameters (codes "unique") list.entry.node.now) }
+    ensures { result ≡ (is_with_text formal_parameters (codes "arrow") list.entry.node.now
+        || is_with_text formal_parameters (codes "unique") list.entry.node.now) }
 {
     list.ty() == AstType::FormalParameters && (reads(list, "arrow") || reads(list, "unique"))
 }
@@ -216,7 +225,9 @@ fn is_unique_list(list: AstKind<'_>) -> bool
 /// What a parameter of the list, which is simple or not, conflicts with. Two may not have one name in an arrow's or a
 /// method's list, in strict code, and in a list that isn't simple (ECMAScript 15.1.1).
 fn parameter_excluded(list: AstKind<'_>, is_simple: bool, flags: ScopeFlags) -> SymbolFlags
-    ensures { is_simple ≡ is_simple_parameter_list list.entry.node.now → result.bits ≡ binder.parameter_excluded list.entry.node.now (record no_scope { flags = flags.bits } ∷ []) }
+    ensures { is_simple ≡ is_simple_parameter_list list.entry.node.now
+        → result.bits ≡ binder.parameter_excluded list.entry.node.now
+        (record no_scope { flags = flags.bits } ∷ []) }
 {
     if is_unique_list(list) || flags.is_strict_mode() || !is_simple {
         SymbolFlags::FunctionScopedVariableExcludes.union(SymbolFlags::FunctionScopedVariable)
@@ -227,7 +238,10 @@ fn parameter_excluded(list: AstKind<'_>, is_simple: bool, flags: ScopeFlags) -> 
 
 /// A parameter of the list, which is simple or not, in a scope with the flags (ECMAScript 15.1.1, 15.2.1).
 pub fn parameter_row(list: AstKind<'_>, is_simple: bool, flags: ScopeFlags) -> Row
-    ensures { is_simple ≡ is_simple_parameter_list list.entry.node.now → IsRow result symbol.FunctionScopedVariable.bits (binder.parameter_excluded list.entry.node.now (record no_scope { flags = flags.bits } ∷ [])) }
+    ensures { is_simple ≡ is_simple_parameter_list list.entry.node.now
+        → IsRow result symbol.FunctionScopedVariable.bits
+        (binder.parameter_excluded list.entry.node.now
+        (record no_scope { flags = flags.bits } ∷ [])) }
 {
     Row {
         flags: SymbolFlags::FunctionScopedVariable,
@@ -238,7 +252,8 @@ pub fn parameter_row(list: AstKind<'_>, is_simple: bool, flags: ScopeFlags) -> R
 /// A rest element directly in a list of parameters, which isn't simple then, so that no name repeats (ECMAScript
 /// 15.1.1).
 pub fn rest_row() -> Row
-    ensures { IsRow result symbol.FunctionScopedVariable.bits (union symbol.FunctionScopedVariableExcludes.bits symbol.FunctionScopedVariable.bits) }
+    ensures { IsRow result symbol.FunctionScopedVariable.bits
+        (union symbol.FunctionScopedVariableExcludes.bits symbol.FunctionScopedVariable.bits) }
 {
     Row {
         flags: SymbolFlags::FunctionScopedVariable,
@@ -261,7 +276,8 @@ pub fn caught_row() -> Row
 
 /// A name of a catch pattern, which no other of the pattern has (ECMAScript 14.15.1).
 pub fn catch_pattern_row() -> Row
-    ensures { IsRow result (union symbol.BlockScopedVariable.bits symbol.CatchVariable.bits) symbol.BlockScopedVariableExcludes.bits }
+    ensures { IsRow result (union symbol.BlockScopedVariable.bits symbol.CatchVariable.bits)
+        symbol.BlockScopedVariableExcludes.bits }
 {
     Row {
         flags: SymbolFlags::BlockScopedVariable.union(SymbolFlags::CatchVariable),
@@ -294,7 +310,8 @@ fn import_flags(specifier: AstKind<'_>, declaration: Option<AstKind<'_>>) -> Sym
 /// An imported name, which is declared once (ECMAScript 16.2.2.1, 16.2.1.1; TypeScript 2300 and 2440,
 /// `AliasExcludes`).
 pub fn import_row(specifier: AstKind<'_>, declaration: Option<AstKind<'_>>) -> Row
-    ensures { IsRow result (binder.import_flags (under specifier.entry declaration.entry)) symbol.ImportBindingExcludes.bits }
+    ensures { IsRow result (binder.import_flags (under specifier.entry declaration.entry))
+        symbol.ImportBindingExcludes.bits }
 {
     Row {
         flags: import_flags(specifier, declaration),
@@ -314,7 +331,8 @@ pub fn import_equals_row() -> Row
 
 /// A type alias (TypeScript 2300, `TypeAliasExcludes`).
 pub fn type_alias_row(alias: AstKind<'_>) -> Row
-    ensures { IsRow result (union symbol.TypeAlias.bits (binder.marked_ambient alias.entry.node.now)) symbol.TypeAliasExcludes.bits }
+    ensures { IsRow result (union symbol.TypeAlias.bits
+        (binder.marked_ambient alias.entry.node.now)) symbol.TypeAliasExcludes.bits }
 {
     Row {
         flags: ambient(alias, SymbolFlags::TypeAlias),
@@ -324,7 +342,8 @@ pub fn type_alias_row(alias: AstKind<'_>) -> Row
 
 /// An interface (TypeScript 2300, `InterfaceExcludes`).
 pub fn interface_row(interface: AstKind<'_>) -> Row
-    ensures { IsRow result (union symbol.Interface.bits (binder.marked_ambient interface.entry.node.now)) symbol.InterfaceExcludes.bits }
+    ensures { IsRow result (union symbol.Interface.bits
+        (binder.marked_ambient interface.entry.node.now)) symbol.InterfaceExcludes.bits }
 {
     Row {
         flags: ambient(interface, SymbolFlags::Interface),
@@ -334,7 +353,9 @@ pub fn interface_row(interface: AstKind<'_>) -> Row
 
 /// An enum (TypeScript 2567, `RegularEnumExcludes` and `ConstEnumExcludes`).
 pub fn enum_row(declaration: AstKind<'_>) -> Row
-    ensures { (p : Place) → p.node ≡ declaration.entry.node.now → binder.enums p ≡ binder.declare_here p result.flags.bits result.excluded.bits (binder.ids p.node) }
+    ensures { (p : Place) → p.node ≡ declaration.entry.node.now
+        → binder.enums p ≡ binder.declare_here p result.flags.bits result.excluded.bits
+        (binder.ids p.node) }
 {
     if declaration.has_mark(Mark::Const) {
         Row {

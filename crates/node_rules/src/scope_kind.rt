@@ -69,7 +69,8 @@ fn accessor_flags(kind: AstKind<'_>) -> ScopeFlags
 
 /// What a function is as the value of a method or of an object's property.
 fn value_flags(parent: AstKind<'_>, function: AstKind<'_>) -> ScopeFlags
-    ensures { result.bits ≡ value_of parent.entry.node.now.kind parent.entry.node.now.text function.entry.node.now }
+    ensures { result.bits ≡ value_of parent.entry.node.now.kind parent.entry.node.now.text
+        function.entry.node.now }
 {
     match parent.ty() {
         AstType::MethodDefinition => {
@@ -92,7 +93,8 @@ fn value_flags(parent: AstKind<'_>, function: AstKind<'_>) -> ScopeFlags
 
 /// What a function in its role is as the value of its parent.
 fn method_flags(function: AstKind<'_>, role: Role, parent: Option<AstKind<'_>>) -> ScopeFlags
-    ensures { result.bits ≡ cond (same_role role value_role) (method_bits (path_of parent.entry) function.entry.node.now) 0 }
+    ensures { result.bits ≡ cond (same_role role value_role)
+        (method_bits (path_of parent.entry) function.entry.node.now) 0 }
 {
     match parent {
         Some(parent) if role == Role::Value => value_flags(parent, function),
@@ -107,7 +109,8 @@ fn function_flags(
     parent: Option<AstKind<'_>>,
     source_type: SourceType,
 ) -> ScopeFlags
-    ensures { result.bits ≡ flags_of_kind function_kind (in_role source_type role function.entry parent.entry) }
+    ensures { result.bits ≡ flags_of_kind function_kind
+        (in_role source_type role function.entry parent.entry) }
 {
     let method = method_flags(function, role, parent);
     ScopeFlags::Function.union(strict_by_body(function).union(method))
@@ -115,14 +118,16 @@ fn function_flags(
 
 /// The flags of an arrow's scope, which is strict by its directive (ECMAScript 11.2.2).
 fn arrow_flags(arrow: AstKind<'_>) -> ScopeFlags
-    ensures { result.bits ≡ union scope.Function.bits (union scope.Arrow.bits (body_bits arrow.entry.node.now)) }
+    ensures { result.bits ≡ union scope.Function.bits
+        (union scope.Arrow.bits (body_bits arrow.entry.node.now)) }
 {
     ScopeFlags::Function.union(ScopeFlags::Arrow.union(strict_by_body(arrow)))
 }
 
 /// The flags of the root's scope: a module is strict, and a script with the directive (ECMAScript 11.2.2).
 pub fn root_flags(root: AstKind<'_>, source_type: SourceType) -> ScopeFlags
-    ensures { result.bits ≡ flags_of_kind program_kind (in_role source_type root_role root.entry None) }
+    ensures { result.bits ≡ flags_of_kind program_kind
+        (in_role source_type root_role root.entry None) }
 {
     ScopeFlags::Top.union(strict_if(source_type.is_strict() || has_use_strict(root)))
 }
@@ -135,7 +140,8 @@ pub fn flags_of(
     parent: Option<AstKind<'_>>,
     source_type: SourceType,
 ) -> ScopeFlags
-    ensures { result.bits ≡ flags_of_kind kind.entry.node.now.kind (in_role source_type role kind.entry parent.entry) }
+    ensures { result.bits ≡ flags_of_kind kind.entry.node.now.kind
+        (in_role source_type role kind.entry parent.entry) }
 {
     match kind.ty() {
         AstType::Program => root_flags(kind, source_type),

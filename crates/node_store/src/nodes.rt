@@ -62,7 +62,8 @@ fn reserve_in<'a>(
     ensures parents { parents.new.items ≡ parents.old.items }
     ensures flags { flags.new.items ≡ flags.old.items }
     ensures room { OnOk result ((vec_len nodes.new + n ≤ vec_capacity nodes.new)
-        × (vec_len parents.new + n ≤ vec_capacity parents.new) × (vec_len flags.new + n ≤ vec_capacity flags.new)) }
+        × (vec_len parents.new + n ≤ vec_capacity parents.new)
+        × (vec_len flags.new + n ≤ vec_capacity flags.new)) }
 {
     nodes.reserve(n)?;
     parents.reserve(n)?;
@@ -134,7 +135,8 @@ impl<'a> AstNodes<'a> {
         requires { n ≤ length self.now.nodes - 1 }
         ensures parent { result ≡ slice_index self.now.parents n }
         ensures within { result ≤ length self.now.nodes - 1 }
-        ensures path { 1 < length (path_in self.now n) → path_in self.now result ≡ drop 1 (path_in self.now n) }
+        ensures path { 1 < length (path_in self.now n)
+            → path_in self.now result ≡ drop 1 (path_in self.now n) }
     {
         let _count = self.nodes.len();
         self.parent_or_root(n)
@@ -151,7 +153,8 @@ impl<'a> AstNodes<'a> {
     /// The parent of a node; that of the root is the root.
     pub fn parent_node(&self, n: NodeId) -> &AstNode<'a>
         requires { n < length self.now.nodes }
-        ensures { slice_get self.now.nodes (slice_index self.now.parents n) ≡ Some (seen result.now) }
+        ensures { slice_get self.now.nodes (slice_index self.now.parents n)
+            ≡ Some (seen result.now) }
     {
         self.get_node(self.parent_id(n))
     }
@@ -168,7 +171,8 @@ impl<'a> AstNodes<'a> {
     #[tactic(auto, using(crate::proofs::Rests::seen_set))]
     pub fn set_node(&mut self, n: NodeId, node: &AstNode<'a>)
         requires { n < length self.old.nodes }
-        ensures { self.new ≡ record self.old { nodes = slice_set self.old.nodes n (seen node.now) } }
+        ensures { self.new
+            ≡ record self.old { nodes = slice_set self.old.nodes n (seen node.now) } }
     {
         self.nodes[n.index()] = AstNode::new(node.kind(), node.id(), node.scope_id());
     }
@@ -285,7 +289,8 @@ impl<'a> AstNodes<'a> {
     ) -> Result<(), AllocError>
         requires empty { length self.old.nodes ≡ 0 }
         requires program { kind.node.now.kind ≡ Program }
-        ensures ok { OnOk result (self.new ≡ with_node self.old kind.entry.node.now 0 scope 0 flags) }
+        ensures ok { OnOk result
+            (self.new ≡ with_node self.old kind.entry.node.now 0 scope 0 flags) }
         ensures err { OnErr result (self.new ≡ self.old) }
     {
         self.push(NodeId::ROOT, kind, scope, NodeId::ROOT, flags)
@@ -302,7 +307,8 @@ impl<'a> AstNodes<'a> {
     ) -> Result<(), AllocError>
         requires next { n ≡ length self.old.nodes }
         requires below { parent < n }
-        ensures ok { OnOk result (self.new ≡ with_node self.old kind.entry.node.now n scope parent flags) }
+        ensures ok { OnOk result
+            (self.new ≡ with_node self.old kind.entry.node.now n scope parent flags) }
         ensures err { OnErr result (self.new ≡ self.old) }
     {
         self.push(n, kind, scope, parent, flags)
@@ -319,9 +325,11 @@ impl<'a> AstNodes<'a> {
     ) -> Result<(), AllocError>
         requires next { n ≡ length self.old.nodes }
         requires within { parent ≤ length self.old.nodes - 1 }
-        ensures ok { OnOk result (self.new ≡ with_node self.old kind.entry.node.now n scope parent no_flags) }
+        ensures ok { OnOk result
+            (self.new ≡ with_node self.old kind.entry.node.now n scope parent no_flags) }
         ensures err { OnErr result (self.new ≡ self.old) }
-        ensures path { OnOk result (path_in self.new n ≡ kind.entry.node.now ∷ path_in self.old parent) }
+        ensures path { OnOk result
+            (path_in self.new n ≡ kind.entry.node.now ∷ path_in self.old parent) }
     {
         let _count = self.nodes.len();
         self.push(n, kind, scope, parent, NodeFlags::empty())
@@ -338,7 +346,8 @@ impl<'a> AstNodes<'a> {
     ) -> Result<(), AllocError>
         requires next { n ≡ length self.old.nodes }
         requires before { parent ≤ n - 1 }
-        ensures ok { OnOk result (self.new ≡ with_node self.old kind.entry.node.now n scope parent flags) }
+        ensures ok { OnOk result
+            (self.new ≡ with_node self.old kind.entry.node.now n scope parent flags) }
         ensures err { OnErr result (self.new ≡ self.old) }
     {
         reserve_in(&mut self.nodes, &mut self.parents, &mut self.flags, 1)?;

@@ -50,9 +50,11 @@ impl<'a> AstNodeStoreKind<'a> {
         parent: NodeId,
     ) -> Result<(), AllocError>
         requires { IsCounted parent id self.old }
-        ensures ok { OnOk result (self.new ≡ kept_with self.old kind.entry.node.now id scope parent) }
+        ensures ok { OnOk result
+            (self.new ≡ kept_with self.old kind.entry.node.now id scope parent) }
         ensures err { OnErr result (self.new ≡ self.old) }
-        ensures path { OnOk result (path_kept id self.new ≡ kind.entry.node.now ∷ path_kept parent self.old) }
+        ensures path { OnOk result
+            (path_kept id self.new ≡ kind.entry.node.now ∷ path_kept parent self.old) }
     {
         match self {
             AstNodeStoreKind::Full(nodes) => nodes.push_below(id, kind, scope, parent),
@@ -65,7 +67,8 @@ impl<'a> AstNodeStoreKind<'a> {
         requires { IsCounted from count self.old }
         ensures back { result ≡ back_from from self.old }
         ensures kept { self.new ≡ kept_behind self.old }
-        ensures path { 1 < length (path_kept from self.old) → path_kept result self.new ≡ drop 1 (path_kept from self.old) }
+        ensures path { 1 < length (path_kept from self.old)
+            → path_kept result self.new ≡ drop 1 (path_kept from self.old) }
         ensures stands { IsCounted result count self.new }
     {
         match self {
@@ -81,7 +84,11 @@ impl<'a> AstNodeStoreKind<'a> {
 impl<'a> AstNodeStore<'a> {
     /// A store that keeps a path, on which no node is.
     pub fn new(alloc: Global) -> AstNodeStore<'a>
-        ensures { result ≡ record { current_node_id = 0; count = 0; kind = AstNodeStoreKind.Ancestry [] } }
+        ensures { result ≡ record {
+          current_node_id = 0;
+          count = 0;
+          kind = AstNodeStoreKind.Ancestry [];
+        } }
     {
         AstNodeStore {
             current_node_id: NodeId::ROOT,
@@ -138,7 +145,9 @@ impl<'a> AstNodeStore<'a> {
         ensures ok { OnOk result (self.new ≡ after_entering self.old kind.entry.node.now scope) }
         ensures err { OnErr result (self.new ≡ self.old) }
         ensures path { OnOk result (path_to self.new ≡ kind.entry.node.now ∷ path_to self.old) }
-        ensures entered { OnOk result (entered_in self.new ≡ option_map (λ e. entering e kind.entry.node.now scope) (entered_in self.old)) }
+        ensures entered { OnOk result
+            (entered_in self.new
+            ≡ option_map (λ e. entering e kind.entry.node.now scope) (entered_in self.old)) }
         ensures stands { Stands self.new }
     {
         if self.count == u32::MAX {
@@ -156,7 +165,8 @@ impl<'a> AstNodeStore<'a> {
     pub fn leave(&mut self)
         requires { Stands self.old }
         ensures left { self.new ≡ after_leaving self.old }
-        ensures path { 1 < length (path_to self.old) → path_to self.new ≡ drop 1 (path_to self.old) }
+        ensures path { 1 < length (path_to self.old)
+            → path_to self.new ≡ drop 1 (path_to self.old) }
         ensures entered { entered_in self.new ≡ option_map leaving (entered_in self.old) }
         ensures stands { Stands self.new }
     {

@@ -16,7 +16,8 @@ use tree_json::read_program;
 fn program_in(alloc: Global, input: &[u8]) -> Result<Program, ReportError>
     ensures stands { IfOk result (λ program. Stands input.now program) }
     ensures refused { IfErr result (InputCause input.now) }
-    ensures complete { (program : Tree) → Stands input.now program → IfErr result (λ error. error ≡ ReportError.Memory) }
+    ensures complete { (program : Tree) → Stands input.now program
+        → IfErr result (λ error. error ≡ ReportError.Memory) }
 {
     let program = read_program(alloc, input)?;
     Ok(program)
@@ -29,7 +30,8 @@ pub fn read_program_from<S: Source>(alloc: Global, source: &mut S) -> Result<Pro
     ensures found { IfOk result (Finds Stands (source_call S.left S.faults source.old source.new)) }
     ensures stopped { IfErr result (NotFound (source_call S.left S.faults source.old source.new)) }
     ensures kept { ReadKeeps (S.faults source.new ≡ S.faults source.old) result }
-    ensures complete { (input : List ℕ) (program : Tree) → S.left source.old ≡ Some input → Stands input program → IfErr result IsNotRefused }
+    ensures complete { (input : List ℕ) (program : Tree) → S.left source.old ≡ Some input
+        → Stands input program → IfErr result IsNotRefused }
 {
     let input = read_input(alloc, source)?;
     program_in(alloc, &input)

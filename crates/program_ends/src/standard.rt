@@ -63,7 +63,8 @@ where
         &mut Writing<Stderr>,
     ) -> S,
     requires { Run.IsAlwaysCallable run }
-    ensures { EndsRun S.end_of (λ status. (alloc : _) × (words : _) × (source : _) × (out : _) × (errs : _) × (source_then : _) × (out_then : _) × (errs_then : _)
+    ensures { EndsRun S.end_of (λ status. (alloc : _) × (words : _) × (source : _) × (out : _)
+        × (errs : _) × (source_then : _) × (out_then : _) × (errs_then : _)
         × Run.post run alloc words source out errs status source_then out_then errs_then) result }
 {
     let alloc = rt.alloc();

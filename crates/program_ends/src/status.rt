@@ -28,14 +28,16 @@ pub trait Status: Copy {
 /// Tells an error's line, and answers its status, or that memory is wanting. The sink has taken a prefix of the line
 /// then, and also where it failed.
 pub fn tell<S: Status, E: Sink>(alloc: Global, error: &ReportError, errs: &mut E) -> S
-    ensures { TellsEnd (sink_call E.held E.faults errs.old errs.new) (line_of error.now) (stop_of error.now) (S.end_of result) }
+    ensures { TellsEnd (sink_call E.held E.faults errs.old errs.new) (line_of error.now)
+        (stop_of error.now) (S.end_of result) }
 {
     S::of_stop(tell_error(alloc, error, errs))
 }
 
 /// Tells the line on words that are refused, and answers the status for that, or that memory is wanting.
 pub fn refuse<S: Status, E: Sink>(usage: &str, errs: &mut E) -> S
-    ensures { TellsEnd (sink_call E.held E.faults errs.old errs.new) usage.now Stop.Usage (S.end_of result) }
+    ensures { TellsEnd (sink_call E.held E.faults errs.old errs.new) usage.now Stop.Usage
+        (S.end_of result) }
 {
     S::of_stop(tell_stop(usage, Stop::Usage, errs))
 }
@@ -48,7 +50,8 @@ pub fn finish<S: Status, E: Sink>(
     flushed: Result<(), WriteFault>,
     errs: &mut E,
 ) -> S
-    ensures { Finishes (sink_call E.held E.faults errs.old errs.new) (S.end_of status) flushed (S.end_of result) }
+    ensures { Finishes (sink_call E.held E.faults errs.old errs.new) (S.end_of status) flushed
+        (S.end_of result) }
 {
     match flushed {
         Ok(()) => status,

@@ -107,7 +107,8 @@ fn error_line(alloc: Global, error: &ReportError) -> Result<String, AllocError>
 /// Tells an error's line, and answers its stop, or that memory is wanting. The sink has taken a prefix of the line
 /// then, and also where it failed.
 pub(crate) fn tell_error<E: Sink>(alloc: Global, error: &ReportError, errs: &mut E) -> Stop
-    ensures { Tells (sink_call E.held E.faults errs.old errs.new) (line_of error.now) (stop_of error.now) result }
+    ensures { Tells (sink_call E.held E.faults errs.old errs.new) (line_of error.now)
+        (stop_of error.now) result }
 {
     match error_line(alloc, error) {
         Ok(line) => tell_stop(&line, stop_of(error), errs),

@@ -16,5 +16,6 @@ pub fn marks_that_are_not_read_change_nothing()
 
 /// So it is where some nodes lose one mark that is not read, as `shorthand`.
 pub fn a_mark_that_is_not_read_may_go()
-    ensures { (test : Node → Bool) (m : Mark) (p : Tree) → is_read m ≡ false → HaveSameAnalysis (unmarked_tree test m p) p }
+    ensures { (test : Node → Bool) (m : Mark) (p : Tree) → is_read m ≡ false
+        → HaveSameAnalysis (unmarked_tree test m p) p }
 {}

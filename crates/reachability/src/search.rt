@@ -14,8 +14,10 @@ pub fn reached(alloc: Global, rows: &[Vec<u32>], seeds: &[u32]) -> Result<Vec<bo
     requires rows { AreWithin (length rows.now) (lists rows.now) }
     requires seeds { All (λ a. a < length rows.now) seeds.now }
     ensures length { IfOk result (λ marks. length marks.items ≡ length rows.now) }
-    ensures sound { IfOk result (λ marks. (a : ℕ) → is_marked marks.items a ≡ true → Reached (lists rows.now) seeds.now a) }
-    ensures complete { IfOk result (λ marks. (a : ℕ) → Reached (lists rows.now) seeds.now a → is_marked marks.items a ≡ true) }
+    ensures sound { IfOk result
+        (λ marks. (a : ℕ) → is_marked marks.items a ≡ true → Reached (lists rows.now) seeds.now a) }
+    ensures complete { IfOk result
+        (λ marks. (a : ℕ) → Reached (lists rows.now) seeds.now a → is_marked marks.items a ≡ true) }
 {
     let mut marking = Marking::new(alloc, rows.len())?;
     marking.mark_all(seeds)?;

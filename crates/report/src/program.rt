@@ -55,9 +55,12 @@ fn answer_read<S: Source, K: Sink>(
     out: &mut K,
 ) -> Result<ReportStatus, ReportError>
     requires { request.make ≡ None }
-    ensures ends { Ends request (source_call S.left S.faults source.old source.new) (sink_call K.held K.faults out.old out.new) result }
-    ensures failing { FaultsEnd (source_call S.left S.faults source.old source.new) (sink_call K.held K.faults out.old out.new) (end_due end_of result) }
-    ensures complete { (input : List ℕ) (program : Tree) → S.left source.old ≡ Some input → Stands input program → IfErr result IsNotRefused }
+    ensures ends { Ends request (source_call S.left S.faults source.old source.new)
+        (sink_call K.held K.faults out.old out.new) result }
+    ensures failing { FaultsEnd (source_call S.left S.faults source.old source.new)
+        (sink_call K.held K.faults out.old out.new) (end_due end_of result) }
+    ensures complete { (input : List ℕ) (program : Tree) → S.left source.old ≡ Some input
+        → Stands input program → IfErr result IsNotRefused }
 {
     let program = read_program_from(alloc, source)?;
     answer(alloc, request, &program, out)
@@ -85,9 +88,12 @@ fn answer_request<S: Source, K: Sink>(
     out: &mut K,
 ) -> Result<ReportStatus, ReportError>
     requires { IfSome request.make (λ functions. functions ≤ most_functions) }
-    ensures ends { Ends request (source_call S.left S.faults source.old source.new) (sink_call K.held K.faults out.old out.new) result }
-    ensures failing { FaultsEnd (source_call S.left S.faults source.old source.new) (sink_call K.held K.faults out.old out.new) (end_due end_of result) }
-    ensures complete { request.make ≡ None → (input : List ℕ) (program : Tree) → S.left source.old ≡ Some input → Stands input program → IfErr result IsNotRefused }
+    ensures ends { Ends request (source_call S.left S.faults source.old source.new)
+        (sink_call K.held K.faults out.old out.new) result }
+    ensures failing { FaultsEnd (source_call S.left S.faults source.old source.new)
+        (sink_call K.held K.faults out.old out.new) (end_due end_of result) }
+    ensures complete { request.make ≡ None → (input : List ℕ) (program : Tree)
+        → S.left source.old ≡ Some input → Stands input program → IfErr result IsNotRefused }
 {
     match request.make {
         None => answer_read(alloc, request, source, out),
@@ -100,7 +106,8 @@ pub const USAGE: &str = "usage: report [--check] [--nodes] [--classes] [--stats]
 
 /// Answers words that aren't known or can't be read.
 pub fn refuse_words<E: Sink>(errs: &mut E) -> ReportStatus
-    ensures { TellsEnd (sink_call E.held E.faults errs.old errs.new) usage_line Stop.Usage (end_of result) }
+    ensures { TellsEnd (sink_call E.held E.faults errs.old errs.new) usage_line Stop.Usage
+        (end_of result) }
 {
     refuse(USAGE, errs)
 }
@@ -116,10 +123,13 @@ pub fn run<S: Source, K: Sink, E: Sink>(
     out: &mut K,
     errs: &mut E,
 ) -> ReportStatus
-    ensures means { Means (source_call S.left S.faults source.old source.new) (sink_call K.held K.faults out.old out.new)
+    ensures means { Means (source_call S.left S.faults source.old source.new)
+        (sink_call K.held K.faults out.old out.new)
         (sink_call E.held E.faults errs.old errs.new) words.now result }
-    ensures failing { FaultsEnd (source_call S.left S.faults source.old source.new) (sink_call K.held K.faults out.old out.new) (end_of result) }
-    ensures complete { IsClearFor (request_of words.now) (source_call S.left S.faults source.old source.new)
+    ensures failing { FaultsEnd (source_call S.left S.faults source.old source.new)
+        (sink_call K.held K.faults out.old out.new) (end_of result) }
+    ensures complete { IsClearFor (request_of words.now)
+        (source_call S.left S.faults source.old source.new)
         (sink_call K.held K.faults out.old out.new) → IsDoneOrMemory (end_of result) }
     ensures usage { request_of words.now ≡ None → IsUsageOrMemory (end_of result) }
 {

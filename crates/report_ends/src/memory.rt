@@ -88,14 +88,18 @@ impl Source for MemorySource {
     #[tactic(auto, using(crate::proofs::Growth::front_and_rest))]
     fn read(&mut self, buf: &mut [u8]) -> Result<usize, Failed>
         ensures bound { ReadsAtMost result buf.new }
-        ensures bytes { ReadConsumes (Some (source_left self.old)) (Some (source_left self.new)) result buf.new }
+        ensures bytes { ReadConsumes (Some (source_left self.old))
+            (Some (source_left self.new)) result buf.new }
         ensures cause { ReadHasCause self.old.faults self.new.faults result }
         ensures calls { source_calls self.new ≡ next_call (source_calls self.old) }
         ensures steady { OnOk result (self.new.faults ≡ self.old.faults) }
-        ensures fails { IsErr result ↔ Contains (source_failing self.old) (next_call (source_calls self.old)) }
+        ensures fails { IsErr result
+            ↔ Contains (source_failing self.old) (next_call (source_calls self.old)) }
         ensures failing { source_failing self.new ≡ source_failing self.old }
         ensures most { source_most self.new ≡ source_most self.old }
-        ensures count { IfOk result (λ count. count ≡ min (min (length (source_left self.old)) (length buf.old)) (source_most self.old)) }
+        ensures count { IfOk result
+            (λ count. count ≡ min (min (length (source_left self.old)) (length buf.old))
+            (source_most self.old)) }
     {
         self.calls = self.calls.saturating_add(1);
         if self.failing.contains(&self.calls) {
@@ -160,11 +164,13 @@ impl Sink for MemorySink {
 
     fn write(&mut self, piece: &[u8]) -> Result<usize, WriteFault>
         ensures bound { WritesAtMost result piece.now }
-        ensures bytes { WriteAppends (Some (sink_held self.old)) (Some (sink_held self.new)) result piece.now }
+        ensures bytes { WriteAppends (Some (sink_held self.old))
+            (Some (sink_held self.new)) result piece.now }
         ensures cause { WriteHasCause self.old.faults self.new.faults piece.now result }
         ensures calls { sink_calls self.new ≡ next_call (sink_calls self.old) }
         ensures steady { OnOk result (self.new.faults ≡ self.old.faults) }
-        ensures fails { IsErrOf result WriteFault.Failed ↔ Contains (sink_failing self.old) (next_call (sink_calls self.old)) }
+        ensures fails { IsErrOf result WriteFault.Failed
+            ↔ Contains (sink_failing self.old) (next_call (sink_calls self.old)) }
         ensures failing { sink_failing self.new ≡ sink_failing self.old }
         ensures most { sink_most self.new ≡ sink_most self.old }
         ensures count { IfOk result (λ count. count ≡ min (length piece.now) (sink_most self.old)) }

@@ -16,9 +16,12 @@ const PIECE: usize = 8192;
 /// Reads the whole input. It answers `Read` where a call on the source failed, `TooLong` where the input is longer than
 /// `INPUT_LIMIT` bytes, and `Memory`. Some bytes are gone from the source then.
 pub fn read_input<S: Source>(alloc: Global, source: &mut S) -> Result<Vec<u8>, ReportError>
-    ensures whole { IfOk result (λ bytes. IsReadWhole (S.left source.old) (S.left source.new) bytes.items) }
+    ensures whole { IfOk result
+        (λ bytes. IsReadWhole (S.left source.old) (S.left source.new) bytes.items) }
     ensures fits { OnOk result (HadAtMost INPUT_LIMIT (S.left source.old)) }
-    ensures cause { IfErr result (ReadCause (Rose (S.faults source.old) (S.faults source.new)) (HadMoreThan INPUT_LIMIT (S.left source.old))) }
+    ensures cause { IfErr result
+        (ReadCause (Rose (S.faults source.old) (S.faults source.new))
+        (HadMoreThan INPUT_LIMIT (S.left source.old))) }
     ensures kept { ReadKeeps (S.faults source.new ≡ S.faults source.old) result }
 {
     let mut bytes = Vec::new(alloc);

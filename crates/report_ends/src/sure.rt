@@ -37,10 +37,12 @@ impl Source for SureSource {
     #[tactic(auto, using(crate::proofs::Growth::front_and_rest))]
     fn read(&mut self, buf: &mut [u8]) -> Result<usize, Failed>
         ensures bound { ReadsAtMost result buf.new }
-        ensures bytes { ReadConsumes (Some (sure_left self.old)) (Some (sure_left self.new)) result buf.new }
+        ensures bytes { ReadConsumes (Some (sure_left self.old))
+            (Some (sure_left self.new)) result buf.new }
         ensures cause { ReadHasCause 0 0 result }
         ensures sure { IsOk result }
-        ensures count { IfOk result (λ count. count ≡ min (length (sure_left self.old)) (length buf.old)) }
+        ensures count { IfOk result
+            (λ count. count ≡ min (length (sure_left self.old)) (length buf.old)) }
     {
         let count = move_front(&self.bytes[self.place..], buf, usize::MAX);
         self.place += count;
@@ -86,7 +88,8 @@ impl Sink for SureSink {
 
     fn write(&mut self, piece: &[u8]) -> Result<usize, WriteFault>
         ensures bound { WritesAtMost result piece.now }
-        ensures bytes { WriteAppends (Some (sure_held self.old)) (Some (sure_held self.new)) result piece.now }
+        ensures bytes { WriteAppends (Some (sure_held self.old))
+            (Some (sure_held self.new)) result piece.now }
         ensures cause { WriteHasCause 0 0 piece.now result }
         ensures sure { ¬ (IsErrOf result WriteFault.Failed) }
         ensures count { IfOk result (λ count. count ≡ length piece.now) }

@@ -48,7 +48,8 @@ fn tied_in<L, B: BindingSource<L>>(
     steps: &mut Steps<L>,
 ) -> Option<SymbolId>
     requires scope { scope < (B.meaning source.now).scopes }
-    requires place { B.is_place source.now (chars name.text.now) place.now.table.now place.now.number }
+    requires place { B.is_place source.now
+        (chars name.text.now) place.now.table.now place.now.number }
     ensures tie { IsTied (B.meaning source.now) (chars name.entry.text.now) way.bits scope result }
     ensures step { steps.new ≡ raised steps.old 1 }
 {
@@ -69,7 +70,8 @@ fn is_barrier<L, B: BindingSource<L>>(
     source: &B,
 ) -> bool
     requires { scope < (B.meaning source.now).scopes }
-    ensures { result ≡ ends_after (chars name.entry.text.now) way.bits ((B.meaning source.now).scope_flags scope) }
+    ensures { result ≡ ends_after (chars name.entry.text.now) way.bits
+        ((B.meaning source.now).scope_flags scope) }
 {
     let flags = source.flags_of_scope(scope);
     means_arguments(name, way) && flags.is_function() && !flags.is_arrow()
@@ -95,8 +97,12 @@ pub fn look_up<L, B: BindingSource<L>>(
 ) -> Option<Outcome>
     requires scope { pending.now.lookup_scope_id < (B.meaning source.now).scopes }
     requires reference { pending.now.reference_id < (B.meaning source.now).references }
-    ensures answer { option_map outcome_of result ≡ answered (lookup_along (B.meaning source.now) (pending_of pending.now) (scopes_from (B.meaning source.now) last pending.now.lookup_scope_id)) }
-    ensures cost { steps.new ≡ raised steps.old (probes_along (B.meaning source.now) (pending_of pending.now) (scopes_from (B.meaning source.now) last pending.now.lookup_scope_id)) }
+    ensures answer { option_map outcome_of result
+        ≡ answered (lookup_along (B.meaning source.now) (pending_of pending.now)
+        (scopes_from (B.meaning source.now) last pending.now.lookup_scope_id)) }
+    ensures cost { steps.new ≡ raised steps.old
+        (probes_along (B.meaning source.now) (pending_of pending.now)
+        (scopes_from (B.meaning source.now) last pending.now.lookup_scope_id)) }
 {
     let way = source.way(pending.reference_id);
     let place = source.place_of(pending.name);

@@ -35,8 +35,10 @@ fn resolve_in_header<L, B: BindingSource<L>>(
     requires scope { scope < (B.meaning source.now).scopes }
     requires lookup_scope { entry.now.lookup_scope_id < (B.meaning source.now).scopes }
     requires reference { entry.now.reference_id < (B.meaning source.now).references }
-    ensures outcome { outcome_of result ≡ header_outcome (B.meaning source.now) scope (pending_of entry.now) }
-    ensures cost { steps.new ≡ raised steps.old (header_probes (B.meaning source.now) scope (pending_of entry.now)) }
+    ensures outcome { outcome_of result
+        ≡ header_outcome (B.meaning source.now) scope (pending_of entry.now) }
+    ensures cost { steps.new ≡ raised steps.old
+        (header_probes (B.meaning source.now) scope (pending_of entry.now)) }
 {
     if !is_within(entry.lookup_scope_id, scope, source) {
         return Outcome::Pending(entry.lookup_scope_id);
@@ -55,8 +57,10 @@ fn resolve_last<L, B: BindingSource<L>>(
 ) -> Outcome
     requires lookup_scope { entry.now.lookup_scope_id < (B.meaning source.now).scopes }
     requires reference { entry.now.reference_id < (B.meaning source.now).references }
-    ensures outcome { outcome_of result ≡ last_outcome (B.meaning source.now) (pending_of entry.now) }
-    ensures cost { steps.new ≡ raised steps.old (last_probes (B.meaning source.now) (pending_of entry.now)) }
+    ensures outcome { outcome_of result
+        ≡ last_outcome (B.meaning source.now) (pending_of entry.now) }
+    ensures cost { steps.new ≡ raised steps.old
+        (last_probes (B.meaning source.now) (pending_of entry.now)) }
 {
     match look_up(entry, None, source, steps) {
         Some(outcome) => outcome,
@@ -78,12 +82,21 @@ pub fn resolve_header<L, B: BindingSource<L>>(
     steps: &mut Steps<L>,
 ) -> Result<Outcomes, AllocError>
     requires scope { scope < (B.meaning source.now).scopes }
-    requires lookup_scopes { All (λ u. u.lookup_scope_id < (B.meaning source.now).scopes) (drop start pending.now) }
-    requires references { All (λ u. u.reference_id < (B.meaning source.now).references) (drop start pending.now) }
-    ensures outcomes { IfOk result (λ v. map outcome_of v ≡ map (header_outcome (B.meaning source.now) scope) (map pending_of (drop start pending.now))) }
-    ensures cost { OnOk result (steps.new ≡ raised steps.old (sum_by (header_probes (B.meaning source.now) scope) (map pending_of (drop start pending.now)))) }
+    requires lookup_scopes { All (λ u. u.lookup_scope_id < (B.meaning source.now).scopes)
+        (drop start pending.now) }
+    requires references { All (λ u. u.reference_id < (B.meaning source.now).references)
+        (drop start pending.now) }
+    ensures outcomes { IfOk result
+        (λ v. map outcome_of v ≡ map (header_outcome (B.meaning source.now) scope)
+        (map pending_of (drop start pending.now))) }
+    ensures cost { OnOk result (steps.new
+        ≡ raised steps.old (sum_by (header_probes (B.meaning source.now) scope)
+        (map pending_of (drop start pending.now)))) }
     ensures risen { steps.old ≤ steps.new }
-    ensures given_up { OnErr result (steps.new ≤ raised steps.old (sum_by (header_probes (B.meaning source.now) scope) (map pending_of (drop start pending.now)))) }
+    ensures given_up { OnErr result
+        (steps.new ≤ raised steps.old
+        (sum_by (header_probes (B.meaning source.now) scope)
+        (map pending_of (drop start pending.now)))) }
 {
     let mut outcomes = Outcomes::new(alloc);
     for entry in pending.entries_from(start) {
@@ -103,13 +116,21 @@ pub fn resolve_all<L, B: BindingSource<L>>(
     source: &B,
     steps: &mut Steps<L>,
 ) -> Result<Outcomes, AllocError>
-    requires lookup_scopes { All (λ u. u.lookup_scope_id < (B.meaning source.now).scopes) pending.now }
-    requires references { All (λ u. u.reference_id < (B.meaning source.now).references) pending.now }
-    ensures outcomes { IfOk result (λ v. map outcome_of v ≡ map (last_outcome (B.meaning source.now)) (map pending_of pending.now)) }
+    requires lookup_scopes { All (λ u. u.lookup_scope_id < (B.meaning source.now).scopes)
+        pending.now }
+    requires references { All (λ u. u.reference_id < (B.meaning source.now).references)
+        pending.now }
+    ensures outcomes { IfOk result
+        (λ v. map outcome_of v ≡ map (last_outcome (B.meaning source.now))
+        (map pending_of pending.now)) }
     ensures settled { IfOk result (All (λ o. IsTrue (is_settled o))) }
-    ensures cost { OnOk result (steps.new ≡ raised steps.old (sum_by (last_probes (B.meaning source.now)) (map pending_of pending.now))) }
+    ensures cost { OnOk result (steps.new
+        ≡ raised steps.old (sum_by (last_probes (B.meaning source.now))
+        (map pending_of pending.now))) }
     ensures risen { steps.old ≤ steps.new }
-    ensures given_up { OnErr result (steps.new ≤ raised steps.old (sum_by (last_probes (B.meaning source.now)) (map pending_of pending.now))) }
+    ensures given_up { OnErr result
+        (steps.new ≤ raised steps.old
+        (sum_by (last_probes (B.meaning source.now)) (map pending_of pending.now))) }
 {
     let mut outcomes = Outcomes::new(alloc);
     for entry in pending.entries_from(0) {

@@ -47,7 +47,8 @@ fn bind(
     requires { HasPositions positions.old.entries scope slots.old }
     ensures positions { HasPositions positions.new.entries scope slots.new }
     ensures elsewhere { KeepsElsewhere positions.old.entries positions.new.entries scope }
-    ensures ok { OnOk result (filled slots.new ≡ insert_entry nat_eq (filled slots.old) number symbol) }
+    ensures ok { OnOk result (filled slots.new
+        ≡ insert_entry nat_eq (filled slots.old) number symbol) }
     ensures err { OnErr result (filled slots.new ≡ filled slots.old) }
 {
     if let Some(position) = positions.get(&(scope, number)) {
@@ -77,7 +78,8 @@ fn settle(
     ensures positions { HasPositions positions.new.entries scope slots.new }
     ensures elsewhere { KeepsElsewhere positions.old.entries positions.new.entries scope }
     ensures count { length slots.new ≡ length slots.old }
-    ensures kept { rows_without_types rows.now (filled slots.new) ≡ rows_without_types rows.now (filled slots.old) }
+    ensures kept { rows_without_types rows.now (filled slots.new)
+        ≡ rows_without_types rows.now (filled slots.old) }
     ensures packed { IsPacked rows.now slots.new result (position + 1) }
 {
     let (number, symbol) = match slots.get(position) {
@@ -123,7 +125,8 @@ fn pack_each(
     requires positions { HasAllPositions positions.old.entries scopes.old.items }
     requires fits { length scopes.old.items < 4294967296 }
     ensures positions { HasAllPositions positions.new.entries scopes.new.items }
-    ensures kept { map filled scopes.new.items ≡ map (rows_without_types rows.now) (map filled scopes.old.items) }
+    ensures kept { map filled scopes.new.items
+        ≡ map (rows_without_types rows.now) (map filled scopes.old.items) }
 {
     for scope in 0..scopes.len() {
         pack(
@@ -168,7 +171,8 @@ fn rekey(
     requires apart { (from == to) ≡ false }
     requires from { HasPositions positions.old.entries from slots.now }
     requires to { HasPositions positions.old.entries to [] }
-    ensures { IsRekeyed positions.old.entries positions.new.entries from to slots.now (length slots.now) }
+    ensures { IsRekeyed positions.old.entries positions.new.entries from to slots.now
+        (length slots.now) }
 {
     for position in 0..slots.len() {
         if let Some((number, _)) = slots.get(position) {
@@ -237,7 +241,9 @@ impl BindingTable {
         symbol: SymbolId,
     ) -> Result<(), AllocError>
         requires { scope < length self.old }
-        ensures ok { OnOk result (self.new ≡ slice_set self.old scope (insert_entry nat_eq (slice_index_or self.old scope []) number symbol)) }
+        ensures ok { OnOk result
+            (self.new ≡ slice_set self.old scope
+            (insert_entry nat_eq (slice_index_or self.old scope []) number symbol)) }
         ensures err { OnErr result (self.new ≡ self.old) }
     {
         bind(
@@ -252,7 +258,8 @@ impl BindingTable {
     /// Unbinds the number. The others keep their order.
     pub fn remove(&mut self, scope: ScopeId, number: usize)
         requires { scope < length self.old }
-        ensures { self.new ≡ slice_set self.old scope (shift_remove_entry (nat_eq number) (slice_index_or self.old scope [])) }
+        ensures { self.new ≡ slice_set self.old scope
+            (shift_remove_entry (nat_eq number) (slice_index_or self.old scope [])) }
     {
         unbind(
             &mut self.positions,
@@ -307,7 +314,9 @@ impl BindingTable {
         requires to { to < length self.old }
         requires apart { (from == to) ≡ false }
         requires empty { slice_index_or self.old to [] ≡ [] }
-        ensures ok { OnOk result (self.new ≡ slice_set (slice_set self.old from []) to (slice_index_or self.old from [])) }
+        ensures ok { OnOk result
+            (self.new ≡ slice_set (slice_set self.old from []) to
+            (slice_index_or self.old from [])) }
         ensures err { OnErr result (self.new ≡ self.old) }
     {
         self.positions.reserve(self.scopes[from.index()].len())?;

@@ -37,7 +37,8 @@ impl<'s> Model for Bindings<'s> {
 impl<'s> Bindings<'s> {
     pub(crate) fn new(names: &'s NameTable, table: &'s BindingTable, scope: ScopeId) -> Bindings<'s>
         requires scope { scope < length table.now }
-        requires known { AllByRecursion (λ (e : ℕ × ℕ). e.0 < length names.now) (slice_index_or table.now scope []) }
+        requires known { AllByRecursion (λ (e : ℕ × ℕ). e.0 < length names.now)
+            (slice_index_or table.now scope []) }
         ensures { result ≡ named names.now (slice_index_or table.now scope []) }
     {
         Bindings {
@@ -190,7 +191,8 @@ impl<'s> AllBindings<'s> {
     ) -> AllBindings<'s>
         requires count { count ≡ length table.now }
         requires fits { count < 4294967296 }
-        requires known { AllByRecursion (AllByRecursion (λ (e : ℕ × ℕ). e.0 < length names.now)) table.now }
+        requires known { AllByRecursion
+            (AllByRecursion (λ (e : ℕ × ℕ). e.0 < length names.now)) table.now }
         ensures { result ≡ numbered_from 0 (map (named names.now) table.now) }
     {
         AllBindings {

@@ -40,7 +40,9 @@ impl FreeTable {
 
     /// Adds the reference to the list of the number, last.
     pub fn push(&mut self, number: usize, reference: ReferenceId) -> Result<(), AllocError>
-        ensures ok { OnOk result (self.new ≡ insert_entry nat_eq self.old number (unwrap_or (lookup (nat_eq number) self.old) [] ++ reference ∷ [])) }
+        ensures ok { OnOk result
+            (self.new ≡ insert_entry nat_eq self.old number
+            (unwrap_or (lookup (nat_eq number) self.old) [] ++ reference ∷ [])) }
         ensures err { OnErr result (self.new ≡ self.old) }
     {
         if let Some(list) = self.lists.get_mut(&number) {

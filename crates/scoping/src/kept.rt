@@ -70,7 +70,8 @@ pub(crate) fn retain_values(list: &mut Vec<ReferenceId>, references: &[Reference
 
 /// Drops the marked references from each of the lists.
 pub(crate) fn retain_unmarked_in_each(lists: &mut Vec<Vec<ReferenceId>>, excluded: &[bool])
-    ensures { map (λ v. v.items) lists.new.items ≡ map (without_marked excluded.now) (map (λ v. v.items) lists.old.items) }
+    ensures { map (λ v. v.items) lists.new.items
+        ≡ map (without_marked excluded.now) (map (λ v. v.items) lists.old.items) }
 {
     for list in lists.iter_mut() {
         retain_unmarked(list, excluded);
@@ -79,7 +80,8 @@ pub(crate) fn retain_unmarked_in_each(lists: &mut Vec<Vec<ReferenceId>>, exclude
 
 /// Drops the references of types alone from each of the lists.
 pub(crate) fn retain_values_in_each(lists: &mut Vec<Vec<ReferenceId>>, references: &[Reference])
-    ensures { map (λ v. v.items) lists.new.items ≡ map (without_type_uses references.now) (map (λ v. v.items) lists.old.items) }
+    ensures { map (λ v. v.items) lists.new.items
+        ≡ map (without_type_uses references.now) (map (λ v. v.items) lists.old.items) }
 {
     for list in lists.iter_mut() {
         retain_values(list, references);

@@ -37,7 +37,8 @@ impl NameTable {
 
     /// The number of the name, where it has one.
     pub fn find(&self, name: Ident<'_>) -> Option<usize>
-        ensures { MatchOption result (IsUnknown self.now (name_of name.entry)) (λ n. IsNumberOf self.now (name_of name.entry) n) }
+        ensures { MatchOption result (IsUnknown self.now (name_of name.entry))
+            (λ n. IsNumberOf self.now (name_of name.entry) n) }
     {
         let _count = self.texts.len();
         self.texts.get_index_of(name.as_str())

@@ -87,7 +87,9 @@ impl NodeTables {
 
     /// Notes the scope that the node opens.
     pub fn set_scope(&mut self, node: NodeId, scope: ScopeId) -> Result<(), AllocError>
-        ensures ok { OnOk result (self.new ≡ record self.old { scopes = insert_entry nat_eq self.old.scopes node scope }) }
+        ensures ok { OnOk result
+            (self.new
+            ≡ record self.old { scopes = insert_entry nat_eq self.old.scopes node scope }) }
         ensures err { OnErr result (self.new ≡ self.old) }
     {
         self.scopes.insert(node, scope)
@@ -95,7 +97,9 @@ impl NodeTables {
 
     /// Notes the symbol that the node declares.
     pub fn set_symbol(&mut self, node: NodeId, symbol: SymbolId) -> Result<(), AllocError>
-        ensures ok { OnOk result (self.new ≡ record self.old { symbols = insert_entry nat_eq self.old.symbols node symbol }) }
+        ensures ok { OnOk result
+            (self.new
+            ≡ record self.old { symbols = insert_entry nat_eq self.old.symbols node symbol }) }
         ensures err { OnErr result (self.new ≡ self.old) }
     {
         self.symbols.insert(node, symbol)
@@ -103,7 +107,11 @@ impl NodeTables {
 
     /// Notes the reference that the node is.
     pub fn set_reference(&mut self, node: NodeId, reference: ReferenceId) -> Result<(), AllocError>
-        ensures ok { OnOk result (self.new ≡ record self.old { references = insert_entry nat_eq self.old.references node reference }) }
+        ensures ok { OnOk result
+            (self.new
+            ≡ record self.old {
+              references = insert_entry nat_eq self.old.references node reference;
+            }) }
         ensures err { OnErr result (self.new ≡ self.old) }
     {
         self.references.insert(node, reference)

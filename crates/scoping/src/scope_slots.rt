@@ -171,7 +171,8 @@ impl<'s> BoundIter<'s> {
 
 /// What the first filled slot binds. The slots behind it are left.
 fn next_bound(slots: &mut Iter<'_, Option<(usize, SymbolId)>>) -> Option<(usize, SymbolId)>
-    ensures { TakesFirst (λ p. p) (filled (iter_rest slots.old)) result (filled (iter_rest slots.new)) }
+    ensures { TakesFirst (λ p. p) (filled (iter_rest slots.old)) result
+        (filled (iter_rest slots.new)) }
 {
     while let Some(slot) = slots.next() {
         if slot.is_some() {

@@ -76,7 +76,15 @@ impl Model for Scoping {
 impl Scoping {
     /// Empty tables.
     pub fn new(alloc: Global) -> Scoping
-        ensures { result ≡ record { scopes = []; bindings = []; symbols = []; references = []; uses = []; free = []; pure_symbols = [] } }
+        ensures { result ≡ record {
+          scopes = [];
+          bindings = [];
+          symbols = [];
+          references = [];
+          uses = [];
+          free = [];
+          pure_symbols = [];
+        } }
     {
         Scoping {
             alloc,
@@ -146,7 +154,9 @@ impl Scoping {
 
     /// Notes that the symbol is without side effects.
     pub fn mark_no_side_effects(&mut self, symbol: SymbolId) -> Result<(), AllocError>
-        ensures ok { OnOk result (self.new ≡ record self.old { pure_symbols = insert_key nat_cmp self.old.pure_symbols symbol }) }
+        ensures ok { OnOk result
+            (self.new
+            ≡ record self.old { pure_symbols = insert_key nat_cmp self.old.pure_symbols symbol }) }
         ensures err { OnErr result (self.new ≡ self.old) }
     {
         self.pure_symbols.insert(symbol)?;

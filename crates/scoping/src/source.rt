@@ -47,7 +47,8 @@ pub trait BindingSource<L> {
         steps: &mut Steps<L>,
     ) -> Option<SymbolId>
         requires scope { scope < (meaning self.now).scopes }
-        requires place { is_place self.now (chars name.text.now) place.now.table.now place.now.number }
+        requires place { is_place self.now
+            (chars name.text.now) place.now.table.now place.now.number }
         ensures bound { result ≡ (meaning self.now).bound scope (chars name.entry.text.now) }
         ensures step { steps.new ≡ raised steps.old 1 }
         ensures law { IsSource (meaning self.now) };

@@ -50,7 +50,14 @@ impl SymbolRow {
         scope: ScopeId,
         node: NodeId,
     ) -> SymbolRow
-        ensures { result ≡ record { name = name; span = span; flags = flags; scope = scope; node = node; redeclarations = None } }
+        ensures { result ≡ record {
+          name = name;
+          span = span;
+          flags = flags;
+          scope = scope;
+          node = node;
+          redeclarations = None;
+        } }
     {
         SymbolRow {
             name,
@@ -159,7 +166,13 @@ impl SymbolRow {
         alloc: Global,
         added: Redeclaration,
     ) -> Result<(), AllocError>
-        ensures ok { OnOk result (self.new ≡ record self.old { redeclarations = Some (unwrap_or self.old.redeclarations (own_entry_of_row self.old ∷ []) ++ added ∷ []) }) }
+        ensures ok { OnOk result
+            (self.new
+            ≡ record self.old {
+              redeclarations = Some
+                  (unwrap_or self.old.redeclarations (own_entry_of_row self.old ∷ []) ++ added
+                  ∷ []);
+            }) }
         ensures err { OnErr result (self.new ≡ self.old) }
     {
         if let Some(list) = &mut self.redeclarations {

@@ -43,7 +43,8 @@ impl<'s> UnresolvedReferences<'s> {
 
     /// The free references of the name, if it has a list.
     pub fn get(&self, name: Ident<'_>) -> Option<&'s [ReferenceId]>
-        ensures { option_map (λ list. list.now) result ≡ lookup (bytes_eq (name_of name.entry)) self.now }
+        ensures { option_map (λ list. list.now) result
+            ≡ lookup (bytes_eq (name_of name.entry)) self.now }
     {
         let number = self.names.find(name)?;
         self.lists.get(number)

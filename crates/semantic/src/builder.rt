@@ -56,7 +56,13 @@ fn room_within(limit: u32, stats: Stats) -> Room
 impl SemanticBuilder {
     /// All settings off.
     pub fn new() -> SemanticBuilder
-        ensures { result ≡ record { build_nodes = false; class_table = false; check_syntax_error = false; stats = None; excess_capacity = 0 } }
+        ensures { result ≡ record {
+          build_nodes = false;
+          class_table = false;
+          check_syntax_error = false;
+          stats = None;
+          excess_capacity = 0;
+        } }
     {
         SemanticBuilder {
             build_nodes: false,
@@ -69,14 +75,26 @@ impl SemanticBuilder {
 
     /// What a compiler needs: early errors are told.
     pub fn new_compiler() -> SemanticBuilder
-        ensures { result ≡ record { build_nodes = false; class_table = false; check_syntax_error = true; stats = None; excess_capacity = 0 } }
+        ensures { result ≡ record {
+          build_nodes = false;
+          class_table = false;
+          check_syntax_error = true;
+          stats = None;
+          excess_capacity = 0;
+        } }
     {
         SemanticBuilder::new().with_check_syntax_error(true)
     }
 
     /// What a linter needs: the nodes are kept, the classes noted, and early errors are told.
     pub fn new_linter() -> SemanticBuilder
-        ensures { result ≡ record { build_nodes = true; class_table = true; check_syntax_error = true; stats = None; excess_capacity = 0 } }
+        ensures { result ≡ record {
+          build_nodes = true;
+          class_table = true;
+          check_syntax_error = true;
+          stats = None;
+          excess_capacity = 0;
+        } }
     {
         SemanticBuilder::new()
             .with_build_nodes(true)
@@ -152,7 +170,8 @@ impl SemanticBuilder {
         ensures build_nodes { result.build_nodes ≡ self.now.build_nodes }
         ensures class_table { result.class_table ≡ self.now.class_table }
         ensures checks { result.checks ≡ self.now.check_syntax_error }
-        ensures room { result.room ≡ room_within (node_count program.now.root) (expected self.now program.now) }
+        ensures room { result.room
+            ≡ room_within (node_count program.now.root) (expected self.now program.now) }
     {
         Settings {
             build_nodes: self.build_nodes,
@@ -171,14 +190,21 @@ impl SemanticBuilder {
         program: &'a Program,
     ) -> Result<SemanticBuilderReturn<'a>, AllocError>
         ensures program { IfOk result (λ ret. ret.semantic.program.now ≡ program.now) }
-        ensures analysis { IfOk result (λ ret. IsAnalysis self.check_syntax_error program.now ret.semantic.scoping ret.diagnostics) }
+        ensures analysis { IfOk result
+            (λ ret. IsAnalysis self.check_syntax_error program.now ret.semantic.scoping
+            ret.diagnostics) }
         ensures nodes { IfOk result (λ ret. BelongsToNodes program.now ret.semantic.tables) }
-        ensures node_list { IfOk result (λ ret. ret.semantic.nodes ≡ kept_nodes self.build_nodes program.now) }
-        ensures classes { IfOk result (λ ret. ret.semantic.classes ≡ classes_noted (self.class_table || self.check_syntax_error) program.now) }
-        ensures labels { IfOk result (λ ret. ret.semantic.unused_labels.items ≡ unused_labels program.now.root) }
+        ensures node_list { IfOk result
+            (λ ret. ret.semantic.nodes ≡ kept_nodes self.build_nodes program.now) }
+        ensures classes { IfOk result
+            (λ ret. ret.semantic.classes
+            ≡ classes_noted (self.class_table || self.check_syntax_error) program.now) }
+        ensures labels { IfOk result
+            (λ ret. ret.semantic.unused_labels.items ≡ unused_labels program.now.root) }
         ensures comments { IfOk result (λ ret. ret.semantic.comments.now ≡ program.now.comments) }
         ensures whitespace { IfOk result (λ ret. ret.semantic.irregular_whitespaces.items ≡ []) }
-        ensures names { IfOk result (λ ret. ComparesNames program.now ret.semantic.scoping ret.semantic.tables) }
+        ensures names { IfOk result
+            (λ ret. ComparesNames program.now ret.semantic.scoping ret.semantic.tables) }
     {
         let mut steps = Steps::new(());
         self.build_counted(alloc, program, &mut steps)
@@ -196,14 +222,21 @@ impl SemanticBuilder {
         steps: &mut Steps<L>,
     ) -> Result<SemanticBuilderReturn<'a>, AllocError>
         ensures program { IfOk result (λ ret. ret.semantic.program.now ≡ program.now) }
-        ensures analysis { IfOk result (λ ret. IsAnalysis self.check_syntax_error program.now ret.semantic.scoping ret.diagnostics) }
+        ensures analysis { IfOk result
+            (λ ret. IsAnalysis self.check_syntax_error program.now ret.semantic.scoping
+            ret.diagnostics) }
         ensures nodes { IfOk result (λ ret. BelongsToNodes program.now ret.semantic.tables) }
-        ensures node_list { IfOk result (λ ret. ret.semantic.nodes ≡ kept_nodes self.build_nodes program.now) }
-        ensures classes { IfOk result (λ ret. ret.semantic.classes ≡ classes_noted (self.class_table || self.check_syntax_error) program.now) }
-        ensures labels { IfOk result (λ ret. ret.semantic.unused_labels.items ≡ unused_labels program.now.root) }
+        ensures node_list { IfOk result
+            (λ ret. ret.semantic.nodes ≡ kept_nodes self.build_nodes program.now) }
+        ensures classes { IfOk result
+            (λ ret. ret.semantic.classes
+            ≡ classes_noted (self.class_table || self.check_syntax_error) program.now) }
+        ensures labels { IfOk result
+            (λ ret. ret.semantic.unused_labels.items ≡ unused_labels program.now.root) }
         ensures comments { IfOk result (λ ret. ret.semantic.comments.now ≡ program.now.comments) }
         ensures whitespace { IfOk result (λ ret. ret.semantic.irregular_whitespaces.items ≡ []) }
-        ensures names { IfOk result (λ ret. ComparesNames program.now ret.semantic.scoping ret.semantic.tables) }
+        ensures names { IfOk result
+            (λ ret. ComparesNames program.now ret.semantic.scoping ret.semantic.tables) }
         ensures cost { OnOk result (steps.new ≡ raised steps.old (probes program.now)) }
         ensures risen { steps.old ≤ steps.new }
         ensures given_up { OnErr result (steps.new ≤ raised steps.old (probes program.now)) }

@@ -13,7 +13,10 @@ ghost use Rattle.semantic_walk.specs.Begun.{IsAnalysis};
 /// The tables are the same whether early errors are told or not. The diagnostics depend on nothing else than that, and
 /// without early errors they are the conflicts of declarations, each as a redeclaration, in order.
 pub fn early_errors_change_no_table()
-    ensures tables { (checks others : Bool) (p : Tree) (t u : Tables) (ds es : List Diagnostic) → IsAnalysis checks p t ds → IsAnalysis others p u es → t ≡ u }
-    ensures diagnostics { (checks : Bool) (p : Tree) (t u : Tables) (ds es : List Diagnostic) → IsAnalysis checks p t ds → IsAnalysis checks p u es → ds ≡ es }
-    ensures unchecked { (p : Tree) (t : Tables) (ds : List Diagnostic) → IsAnalysis false p t ds → ds ≡ map told (run start (events (steps p))).conflicts }
+    ensures tables { (checks others : Bool) (p : Tree) (t u : Tables) (ds es : List Diagnostic)
+        → IsAnalysis checks p t ds → IsAnalysis others p u es → t ≡ u }
+    ensures diagnostics { (checks : Bool) (p : Tree) (t u : Tables) (ds es : List Diagnostic)
+        → IsAnalysis checks p t ds → IsAnalysis checks p u es → ds ≡ es }
+    ensures unchecked { (p : Tree) (t : Tables) (ds : List Diagnostic) → IsAnalysis false p t ds
+        → ds ≡ map told (run start (events (steps p))).conflicts }
 {}

@@ -80,7 +80,8 @@ pub fn redeclared(
     second: Span,
 ) -> Result<Diagnostic, AllocError>
     requires { IsTrue (is_ascii opening.now) }
-    ensures { IfOk result (λ made. made ≡ parts.redeclared message opening.now (chars name.now) first second) }
+    ensures { IfOk result (λ made. made
+        ≡ parts.redeclared message opening.now (chars name.now) first second) }
 {
     let first_text = around(alloc, opening, name, "` has already been declared here")?;
     let second_text = fixed(alloc, "It can not be redeclared here")?;

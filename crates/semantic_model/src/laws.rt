@@ -24,22 +24,33 @@ ghost use Rattle.semantic_model.specs.Moment.{UsesAreTies, StandsInOneList, Bind
 
 /// Running the steps of one list and then those of another is running both.
 pub fn steps_compose()
-    ensures { (ds : List Declaration) (first rest : List Step) (st : State) → run st (flat_map (events_of ds) (first ++ rest)) ≡ run (run st (flat_map (events_of ds) first)) (flat_map (events_of ds) rest) }
+    ensures { (ds : List Declaration) (first rest : List Step) (st : State)
+        → run st (flat_map (events_of ds) (first ++ rest))
+        ≡ run (run st (flat_map (events_of ds) first)) (flat_map (events_of ds) rest) }
 {}
 
 /// The steps of the children from the i-th on: its scope may open, its own steps, a header or the scope may end,
 /// and then the steps of the children behind it.
 pub fn children_take_turns()
-    ensures { (p : Place) (own : Option OpenScope) (n cursor : ℕ) (items : List (Role × Node)) (i : ℕ) (child : Role × Node) → i < length items → child ≡ get_or items i child
+    ensures { (p : Place) (own : Option OpenScope) (n cursor : ℕ) (items : List (Role × Node))
+        (i : ℕ) (child : Role × Node) → i < length items → child ≡ get_or items i child
         → steps_below p own n cursor (forest_of (drop i items))
-        ≡ opening_at p child.0 own n ++ steps_of (child_place p (scope_at p child.0 own n) cursor child.0 child.1) (next_at p child.0 own n)
+        ≡ opening_at p child.0 own n
+        ++ steps_of (child_place p (scope_at p child.0 own n) cursor child.0 child.1)
+        (next_at p child.0 own n)
         ++ ending_after p child.0 (scope_at p child.0 own n) (forest_of (drop (i + 1) items))
-        ++ steps_below p (scope_at p child.0 own n) (next_at p child.0 own n + cond (opens child.1.kind) 1 0 + scopes_in child.1.children) (cursor_past p child.0 cursor (child_place p (scope_at p child.0 own n) cursor child.0 child.1)) (forest_of (drop (i + 1) items)) }
+        ++ steps_below p (scope_at p child.0 own n)
+        (next_at p child.0 own n + cond (opens child.1.kind) 1 0 + scopes_in child.1.children)
+        (cursor_past p child.0 cursor
+        (child_place p (scope_at p child.0 own n) cursor child.0 child.1))
+        (forest_of (drop (i + 1) items)) }
 {}
 
 /// After the last child a scope that is still to open opens and closes.
 pub fn children_end()
-    ensures { (p : Place) (own : Option OpenScope) (n cursor : ℕ) (items : List (Role × Node)) (i : ℕ) → length items ≤ i → steps_below p own n cursor (forest_of (drop i items)) ≡ opening_last p own n }
+    ensures { (p : Place) (own : Option OpenScope) (n cursor : ℕ) (items : List (Role × Node))
+        (i : ℕ) → length items ≤ i
+        → steps_below p own n cursor (forest_of (drop i items)) ≡ opening_last p own n }
 {}
 
 /// The tables of a program fit it, by five facts.
@@ -74,27 +85,33 @@ pub fn redeclarations_begin_with_own()
 /// Names are only compared where scopes are opened: with two names swapped, neither of them `arguments` or `eval`, a
 /// program has the same scopes.
 pub fn swapped_names_leave_scopes()
-    ensures { (a b : Name) (p : Tree) → IsSwappable a → IsSwappable b → scopes (steps (swapped_tree a b p)) ≡ scopes (steps p) }
+    ensures { (a b : Name) (p : Tree) → IsSwappable a → IsSwappable b
+        → scopes (steps (swapped_tree a b p)) ≡ scopes (steps p) }
 {}
 
 /// With two names swapped, a program has the same references in the same ways and scopes, with swapped names.
 pub fn swapped_names_swap_references()
-    ensures { (a b : Name) (p : Tree) → references (steps (swapped_tree a b p)) ≡ map (renamed_occurrence (swap a b)) (references (steps p)) }
+    ensures { (a b : Name) (p : Tree)
+        → references (steps (swapped_tree a b p))
+        ≡ map (renamed_occurrence (swap a b)) (references (steps p)) }
 {}
 
 /// With two names swapped, neither of them `arguments` or `eval`, a program has namespaces of the same states.
 pub fn swapped_names_leave_namespace_states()
-    ensures { (a b : Name) (p : Tree) → IsSwappable a → IsSwappable b → namespace_states (steps (swapped_tree a b p)) ≡ namespace_states (steps p) }
+    ensures { (a b : Name) (p : Tree) → IsSwappable a → IsSwappable b
+        → namespace_states (steps (swapped_tree a b p)) ≡ namespace_states (steps p) }
 {}
 
 /// With two names swapped, neither of them `arguments` or `eval`, the same scopes, symbols and references belong to the
 /// nodes of a program.
 pub fn swapped_names_leave_node_tables()
-    ensures { (a b : Name) (p : Tree) → IsSwappable a → IsSwappable b → node_tables (steps (swapped_tree a b p)) ≡ node_tables (steps p) }
+    ensures { (a b : Name) (p : Tree) → IsSwappable a → IsSwappable b
+        → node_tables (steps (swapped_tree a b p)) ≡ node_tables (steps p) }
 {}
 
 /// Names are only compared: with two names swapped, neither of them `arguments` or `eval`, a program has the same
 /// tables, with the names of symbols, bindings and free references swapped.
 pub fn swapped_names_swap_tables()
-    ensures { (a b : Name) (p : Tree) → IsSwappable a → IsSwappable b → tables_of (swapped_tree a b p) ≡ swapped_tables a b (tables_of p) }
+    ensures { (a b : Name) (p : Tree) → IsSwappable a → IsSwappable b
+        → tables_of (swapped_tree a b p) ≡ swapped_tables a b (tables_of p) }
 {}

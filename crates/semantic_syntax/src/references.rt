@@ -22,7 +22,12 @@ pub struct Reference {
 impl Reference {
     /// A reference without a symbol.
     pub fn new(node_id: NodeId, scope_id: ScopeId, flags: ReferenceFlags) -> Reference
-        ensures { result ≡ record { node_id = node_id; scope_id = scope_id; flags = flags; symbol_id = None } }
+        ensures { result ≡ record {
+          node_id = node_id;
+          scope_id = scope_id;
+          flags = flags;
+          symbol_id = None;
+        } }
     {
         Reference {
             node_id,

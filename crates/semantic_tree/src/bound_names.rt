@@ -118,7 +118,8 @@ impl<'a> AstKind<'a> {
     #[tactic(auto, using(crate::proofs::Preorder::names_rise))]
     pub fn bound_names(self) -> BoundNames<'a>
         ensures rising { names_left result ≡ rising 0 (bound_names self.entry.node.now) }
-        ensures in_order { IsPreorder self.entry.node.now → names_left result ≡ bound_names self.entry.node.now }
+        ensures in_order { IsPreorder self.entry.node.now
+            → names_left result ≡ bound_names self.entry.node.now }
     {
         if self.ty() == AstType::BindingIdentifier {
             return BoundNames {

@@ -38,7 +38,9 @@ impl<'a> AstKind<'a> {
 
     /// The text of a template's only piece, if it has no expressions.
     fn template_name(self) -> Option<StaticPropertyName<'a>>
-        ensures { option_map name_shown result ≡ whole_template (all_in Role.Quasis self.entry.node.now) (all_in Role.Expressions self.entry.node.now) }
+        ensures { option_map name_shown result
+            ≡ whole_template (all_in Role.Quasis self.entry.node.now)
+            (all_in Role.Expressions self.entry.node.now) }
     {
         match self.child(Role::Expressions) {
             Some(_) => None,

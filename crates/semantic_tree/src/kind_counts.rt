@@ -24,7 +24,8 @@ impl KindCounts {
     /// Counts one node of the kind.
     pub fn add(&mut self, kind: AstType)
         requires room { counted self.old kind < 2 ^ 32 - 1 }
-        ensures added { (k : AstType) → counted self.new k ≡ counted self.old k + cond (same_kind k kind) 1 0 }
+        ensures added { (k : AstType)
+            → counted self.new k ≡ counted self.old k + cond (same_kind k kind) 1 0 }
     {
         self.counts[kind as usize] += 1;
     }

@@ -20,11 +20,13 @@ pub fn faultless_where_shaped()
 /// The nodes of a numbered tree are numbered from their own ids on.
 pub fn numbers_go_down()
     ensures root { (node : Node) → IsNumbered node → IsPreorder node }
-    ensures children { (node : Node) (i : ℕ) (d : Role × Node) → IsPreorder node → i < length (trees node.children) →
+    ensures children { (node : Node) (i : ℕ) (d : Role × Node) → IsPreorder node
+        → i < length (trees node.children) →
         IsPreorder (slice_index_or (trees node.children) i d).1 }
 {}
 
 /// The counts of all kinds that pass a test make up the count of the nodes that pass it.
 pub fn kinds_make_up_counts()
-    ensures { (test : AstType → Bool) (f : Forest) → among_kinds test f all_kinds ≡ how_many test f }
+    ensures { (test : AstType → Bool) (f : Forest)
+        → among_kinds test f all_kinds ≡ how_many test f }
 {}

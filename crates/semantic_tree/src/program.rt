@@ -100,7 +100,8 @@ fn is_too_large(source: &str, comments: &[Comment], root: &Node) -> bool
 /// The fault of the first bad comment.
 fn comment_fault(source: &str, comments: &[Comment]) -> Option<TreeError>
     requires { length comments.now ≤ comment_limit }
-    ensures { result ≡ option_map (λ i. Span (span.Comment i)) (first_bad_comment source.now 0 0 comments.now) }
+    ensures { result ≡ option_map (λ i. Span (span.Comment i))
+        (first_bad_comment source.now 0 0 comments.now) }
 {
     let place = first_bad_comment(source, comments)?;
     Some(TreeError::Span(SpanFault::Comment(place)))
@@ -141,11 +142,30 @@ impl Program {
         root: Node,
     ) -> Result<Program, TreeError>
         ensures ok { IfOk result (λ made.
-            made ≡ numbered_tree (record { source = source; source_type = source_type; comments = comments.items; root = root })) }
+            made ≡ numbered_tree
+            (record {
+              source = source;
+              source_type = source_type;
+              comments = comments.items;
+              root = root;
+            })) }
         ensures fits { IfOk result (λ made. first_fault made ≡ None) }
-        ensures complete { IsShaped (numbered_tree (record { source = source; source_type = source_type; comments = comments.items; root = root })) → IsOk result }
+        ensures complete { IsShaped
+            (numbered_tree
+            (record {
+              source = source;
+              source_type = source_type;
+              comments = comments.items;
+              root = root;
+            })) → IsOk result }
         ensures err { IfErr result (λ error.
-            first_fault (numbered_tree (record { source = source; source_type = source_type; comments = comments.items; root = root })) ≡ Some error) }
+            first_fault (numbered_tree
+            (record {
+              source = source;
+              source_type = source_type;
+              comments = comments.items;
+              root = root;
+            })) ≡ Some error) }
     {
         let mut root = root;
         if is_too_large(source.as_str(), comments.as_slice(), &root) {

@@ -84,7 +84,9 @@ fn swapped<'a>(name: &'a str, a: &'a str, b: &'a str) -> &'a str
 impl Node {
     /// The text of the node in a role and a setting, with the two names swapped.
     fn swapped_text<'a>(&'a self, setting: Setting, role: Role, a: &'a str, b: &'a str) -> &'a str
-        ensures { chars result.now ≡ renamed_text (swap (chars a.now) (chars b.now)) setting role self.now.kind self.now.text }
+        ensures { chars result.now
+            ≡ renamed_text (swap (chars a.now) (chars b.now)) setting role self.now.kind
+            self.now.text }
     {
         if setting.is_named(role, self.kind) {
             swapped(self.text.as_str(), a, b)
@@ -102,7 +104,8 @@ impl Node {
         a: &str,
         b: &str,
     ) -> Result<Node, AllocError>
-        ensures { IfOk result (λ made. made ≡ renamed_node (swap (chars a.now) (chars b.now)) setting role self.now) }
+        ensures { IfOk result (λ made. made
+            ≡ renamed_node (swap (chars a.now) (chars b.now)) setting role self.now) }
     {
         let text = self.swapped_text(setting, role, a, b);
         let mut made = Node::new(alloc, self.kind, self.span, text, self.marks)?;

@@ -415,7 +415,9 @@ impl<'a> Walk<'a> {
     fn tell<R: Rules>(&mut self, kind: AstKind<'a>, rules: &R) -> Result<(), AllocError>
         requires { self.old.checks ≡ true → IsFit self.old kind.node.now }
         ensures made { (p : Place) → p.node ≡ kind.entry.node.now → ShowsRows self.old p →
-            OnOk result (let t = telling_left self.old.checks self.old.source (telling_of self.old) p in self.new ≡ record self.old { said = t.said; counted = t.counted }) }
+            OnOk result
+            (let t = telling_left self.old.checks self.old.source (telling_of self.old) p in
+            self.new ≡ record self.old { said = t.said; counted = t.counted }) }
         ensures goes { OnOk result (Goes self.old.made self.new.made) }
     {
         if !self.checks {

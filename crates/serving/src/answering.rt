@@ -23,5 +23,6 @@ pub trait Answering {
     ) -> u8
         requires out_empty { sure_held out.old ≡ [] }
         requires errs_empty { sure_held errs.old ≡ [] }
-        ensures { Answers self.now words.now input.items record { status = result; out = sure_held out.new; errs = sure_held errs.new } };
+        ensures { Answers self.now words.now input.items
+            record { status = result; out = sure_held out.new; errs = sure_held errs.new } };
 }

@@ -23,8 +23,10 @@ pub struct Request {
 
 /// Reads so many bytes, or all that are left where these are fewer. Some are gone from the source after a fault.
 fn read_up_to<S: Source>(alloc: Global, count: usize, source: &mut S) -> Result<Vec<u8>, ServeFault>
-    ensures read { IfOk result (λ bytes. ReadUpTo count (S.left source.old) (S.left source.new) bytes.items) }
-    ensures cause { IfErr result (ReadCause (Rose (S.faults source.old) (S.faults source.new)) ⊥ ⊥) }
+    ensures read { IfOk result (λ bytes.
+        ReadUpTo count (S.left source.old) (S.left source.new) bytes.items) }
+    ensures cause { IfErr result
+        (ReadCause (Rose (S.faults source.old) (S.faults source.new)) ⊥ ⊥) }
     ensures kept { OnOk result (S.faults source.new ≡ S.faults source.old) }
 {
     let mut bytes = Vec::new(alloc);
@@ -42,8 +44,12 @@ fn read_up_to<S: Source>(alloc: Global, count: usize, source: &mut S) -> Result<
 
 /// Reads just so many bytes: `TooLong` where these are more than an input may have, `Cut` where fewer are left.
 fn read_just<S: Source>(alloc: Global, count: u64, source: &mut S) -> Result<Vec<u8>, ServeFault>
-    ensures read { IfOk result (λ bytes. ReadJust count (S.left source.old) (S.left source.new) bytes.items) }
-    ensures cause { IfErr result (ReadCause (Rose (S.faults source.old) (S.faults source.new)) (IsShort count (S.left source.old) (S.left source.new)) (IsTooMuch count (S.left source.old) (S.left source.new))) }
+    ensures read { IfOk result (λ bytes.
+        ReadJust count (S.left source.old) (S.left source.new) bytes.items) }
+    ensures cause { IfErr result
+        (ReadCause (Rose (S.faults source.old) (S.faults source.new))
+        (IsShort count (S.left source.old) (S.left source.new))
+        (IsTooMuch count (S.left source.old) (S.left source.new))) }
     ensures kept { OnOk result (S.faults source.new ≡ S.faults source.old) }
 {
     if count > INPUT_LIMIT as u64 {
@@ -69,7 +75,9 @@ fn number_in(bytes: &[u8]) -> Option<u64>
 /// Reads a number, if anything is left.
 fn read_number<S: Source>(alloc: Global, source: &mut S) -> Result<Option<u64>, ServeFault>
     ensures read { IfOk result (NumberRead (S.left source.old) (S.left source.new)) }
-    ensures cause { IfErr result (ReadCause (Rose (S.faults source.old) (S.faults source.new)) (IsCutNumber (S.left source.old) (S.left source.new)) ⊥) }
+    ensures cause { IfErr result
+        (ReadCause (Rose (S.faults source.old) (S.faults source.new))
+        (IsCutNumber (S.left source.old) (S.left source.new)) ⊥) }
     ensures kept { OnOk result (S.faults source.new ≡ S.faults source.old) }
 {
     let bytes = read_up_to(alloc, NUMBER, source)?;
@@ -88,8 +96,13 @@ fn read_behind<S: Source>(
     text_length: u64,
     source: &mut S,
 ) -> Result<Request, ServeFault>
-    ensures read { IfOk result (λ request. ReadBehind text_length (S.left source.old) (S.left source.new) request.text.items request.input.items) }
-    ensures cause { IfErr result (ReadCause (Rose (S.faults source.old) (S.faults source.new)) (IsCutBehind text_length (S.left source.old) (S.left source.new)) (IsTooLongBehind text_length (S.left source.old) (S.left source.new))) }
+    ensures read { IfOk result (λ request.
+        ReadBehind text_length (S.left source.old)
+        (S.left source.new) request.text.items request.input.items) }
+    ensures cause { IfErr result
+        (ReadCause (Rose (S.faults source.old) (S.faults source.new))
+        (IsCutBehind text_length (S.left source.old) (S.left source.new))
+        (IsTooLongBehind text_length (S.left source.old) (S.left source.new))) }
     ensures kept { OnOk result (S.faults source.new ≡ S.faults source.old) }
 {
     let Some(input_length) = read_number(alloc, source)? else {
@@ -103,7 +116,10 @@ fn read_behind<S: Source>(
 /// Reads a request, if anything is left.
 pub fn read_request<S: Source>(alloc: Global, source: &mut S) -> Result<Option<Request>, ServeFault>
     ensures read { IfOk result (MayBeRead (S.left source.old) (S.left source.new)) }
-    ensures cause { IfErr result (ReadCause (Rose (S.faults source.old) (S.faults source.new)) (IsCut (S.left source.old) (S.left source.new)) (IsTooLong (S.left source.old) (S.left source.new))) }
+    ensures cause { IfErr result
+        (ReadCause (Rose (S.faults source.old) (S.faults source.new))
+        (IsCut (S.left source.old) (S.left source.new))
+        (IsTooLong (S.left source.old) (S.left source.new))) }
     ensures kept { OnOk result (S.faults source.new ≡ S.faults source.old) }
 {
     let Some(text_length) = read_number(alloc, source)? else {

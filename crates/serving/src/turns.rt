@@ -28,7 +28,9 @@ fn answer_on<A: Answering>(
 ) -> Result<u8, ServeFault>
     requires out_empty { sure_held out.old ≡ [] }
     requires errs_empty { sure_held errs.old ≡ [] }
-    ensures answer { IfOk result (λ status. IsAnswerTo (A.Answers answering.now) request.text.items request.input.items record { status = status; out = sure_held out.new; errs = sure_held errs.new }) }
+    ensures answer { IfOk result
+        (λ status. IsAnswerTo (A.Answers answering.now) request.text.items request.input.items
+        record { status = status; out = sure_held out.new; errs = sure_held errs.new }) }
     ensures fault { IfErr result (AnswerCause request.text.items) }
 {
     let Request { text, input } = request;
@@ -41,7 +43,8 @@ fn answer_on<A: Answering>(
 
 /// The bytes of an answer.
 fn bytes_of(alloc: Global, status: u8, out: &[u8], errs: &[u8]) -> Result<Vec<u8>, AllocError>
-    ensures { IfOk result (λ bytes. bytes.items ≡ answer_bytes record { status = status; out = out.now; errs = errs.now }) }
+    ensures { IfOk result (λ bytes. bytes.items
+        ≡ answer_bytes record { status = status; out = out.now; errs = errs.now }) }
 {
     let mut bytes = Vec::new(alloc);
     bytes.extend_from_slice(&u64::from(status).to_le_bytes())?;
@@ -58,7 +61,10 @@ fn answer_of<A: Answering>(
     answering: &A,
     request: Request,
 ) -> Result<Vec<u8>, ServeFault>
-    ensures answer { IfOk result (λ bytes. (answer : Answer) × IsAnswerTo (A.Answers answering.now) request.text.items request.input.items answer × (answer_bytes answer ≡ bytes.items)) }
+    ensures answer { IfOk result
+        (λ bytes. (answer : Answer)
+        × IsAnswerTo (A.Answers answering.now) request.text.items request.input.items answer
+        × (answer_bytes answer ≡ bytes.items)) }
     ensures fault { IfErr result (AnswerCause request.text.items) }
 {
     let mut out = SureSink::new(alloc);
@@ -90,9 +96,13 @@ fn serve_one<S: Source, K: Sink, A: Answering>(
     source: &mut S,
     out: &mut K,
 ) -> Result<Option<()>, ServeFault>
-    ensures turn { IfOk result (Turn (A.Answers answering.now) (S.left source.old) (S.left source.new) (K.held out.old) (K.held out.new)) }
-    ensures part { OnErr result (TookPart (A.Answers answering.now) (K.held out.old) (K.held out.new)) }
-    ensures fault { IfErr result (FaultCause (Rose (S.faults source.old) (S.faults source.new)) (Rose (K.faults out.old) (K.faults out.new)) ⊥ (S.left source.old) (S.left source.new)) }
+    ensures turn { IfOk result (Turn (A.Answers answering.now) (S.left source.old)
+        (S.left source.new) (K.held out.old) (K.held out.new)) }
+    ensures part { OnErr result
+        (TookPart (A.Answers answering.now) (K.held out.old) (K.held out.new)) }
+    ensures fault { IfErr result
+        (FaultCause (Rose (S.faults source.old) (S.faults source.new))
+        (Rose (K.faults out.old) (K.faults out.new)) ⊥ (S.left source.old) (S.left source.new)) }
     ensures read_kept { OnOk result (S.faults source.new ≡ S.faults source.old) }
     ensures write_kept { OnOk result (K.faults out.new ≡ K.faults out.old) }
     ensures pieces { OffersAnswer K.Offered (A.Answers answering.now) out.old out.new result }
@@ -119,14 +129,21 @@ pub fn serve<S: Source, K: Sink, A: Answering>(
     source: &mut S,
     out: &mut K,
 ) -> Result<(), ServeFault>
-    ensures served { OnOk result (ServedAll (A.Answers answering.now) (S.left source.old) (S.left source.new) (K.held out.old) (K.held out.new)) }
-    ensures stopped { IfErr result (ServedSome (A.Answers answering.now) (Rose (S.faults source.old) (S.faults source.new)) (Rose (K.faults out.old) (K.faults out.new))
+    ensures served { OnOk result
+        (ServedAll (A.Answers answering.now) (S.left source.old) (S.left source.new)
+        (K.held out.old) (K.held out.new)) }
+    ensures stopped { IfErr result
+        (ServedSome (A.Answers answering.now) (Rose (S.faults source.old) (S.faults source.new))
+        (Rose (K.faults out.old) (K.faults out.new))
         (S.left source.old) (S.left source.new) (K.held out.old) (K.held out.new)) }
     // Each answer is offered as one piece.
     ensures pieces { OffersAnswers K.Offered (A.Answers answering.now) out.old out.new result }
     // Where the input is fewer whole requests than `MOST_REQUESTS`, and no end fails, all are answered, but for want of memory.
-    ensures complete { (count : ℕ) (input : List ℕ) → count < 2 ^ 32 - 1 → S.left source.old ≡ Some input → AreWhole count input
-        → ¬ (Rose (S.faults source.old) (S.faults source.new)) → ¬ (Rose (K.faults out.old) (K.faults out.new)) → IfErr result (λ fault. fault ≡ ServeFault.Memory) }
+    ensures complete { (count : ℕ) (input : List ℕ) → count < 2 ^ 32 - 1
+        → S.left source.old ≡ Some input → AreWhole count input
+        → ¬ (Rose (S.faults source.old) (S.faults source.new))
+        → ¬ (Rose (K.faults out.old) (K.faults out.new))
+        → IfErr result (λ fault. fault ≡ ServeFault.Memory) }
 {
     for _ in 0..MOST_REQUESTS {
         let Some(()) = serve_one(alloc, answering, source, out)? else {

@@ -11,7 +11,8 @@ fn lines_of(alloc: Global, text: &str) -> Result<Vec<&str>, AllocError>
 }
 
 fn owned(alloc: Global, lines: &[&str]) -> Result<Vec<String>, AllocError>
-    ensures { IfOk result (λ words. map string_bytes words.items ≡ map (λ line. line.now) lines.now) }
+    ensures { IfOk result (λ words. map string_bytes words.items
+        ≡ map (λ line. line.now) lines.now) }
 {
     let mut words = Vec::with_capacity(alloc, lines.len())?;
     for line in lines {

@@ -23,7 +23,8 @@ pub fn check_function_declaration<'a>(
     out: &mut Diagnostics,
 ) -> Result<(), AllocError>
     requires { IsContext ctx.now }
-    ensures { Tells result (rows.check_function_declaration kind.entry.node.now under_if (around ctx.now)) out.old out.new }
+    ensures { Tells result (rows.check_function_declaration kind.entry.node.now under_if
+        (around ctx.now)) out.old out.new }
 {
     if !is_declared_function(kind) {
         return Ok(());
@@ -69,7 +70,8 @@ pub fn check_function_declaration_in_labeled_statement<'a>(
     out: &mut Diagnostics,
 ) -> Result<(), AllocError>
     requires { IsContext ctx.now }
-    ensures { Tells result (rows.check_function_declaration_in_labeled_statement kind.entry.node.now (around ctx.now)) out.old out.new }
+    ensures { Tells result (rows.check_function_declaration_in_labeled_statement kind.entry.node.now
+        (around ctx.now)) out.old out.new }
 {
     if !is_declared_function(kind) {
         return Ok(());
@@ -92,7 +94,8 @@ pub fn check_with_statement<'a>(
     out: &mut Diagnostics,
 ) -> Result<(), AllocError>
     requires { IsHanded kind.node.now ctx.now }
-    ensures { Tells result (rows.check_with_statement (sight kind.entry.node.now ctx.now)) out.old out.new }
+    ensures { Tells result (rows.check_with_statement (sight kind.entry.node.now ctx.now)) out.old
+        out.new }
 {
     if ctx.is_strict() || ctx.source_type.is_typescript() {
         tell(with_statement(alloc, first_bytes(4, kind.span())), out)

@@ -39,7 +39,8 @@ fn tell_specifier(
     ctx: &CheckContext<'_, '_>,
     out: &mut Diagnostics,
 ) -> Result<(), AllocError>
-    ensures { Tells result (rows_of_some (rows.local_rows (around ctx.now)) (child_of roles.Local specifier.entry.node.now)) out.old out.new }
+    ensures { Tells result (rows_of_some (rows.local_rows (around ctx.now))
+        (child_of roles.Local specifier.entry.node.now)) out.old out.new }
 {
     match specifier.child(Role::Local) {
         Some(local) => tell_local(alloc, local, ctx, out),
@@ -55,7 +56,10 @@ fn tell_specifiers(
     ctx: &CheckContext<'_, '_>,
     out: &mut Diagnostics,
 ) -> Result<(), AllocError>
-    ensures { Tells result (flat_map (λ specifier. rows_of_some (rows.local_rows (around ctx.now)) (child_of roles.Local specifier)) (all_in roles.Specifiers statement.entry.node.now)) out.old out.new }
+    ensures { Tells result (flat_map
+        (λ specifier. rows_of_some (rows.local_rows (around ctx.now))
+        (child_of roles.Local specifier)) (all_in roles.Specifiers statement.entry.node.now))
+        out.old out.new }
 {
     for specifier in statement.children(Role::Specifiers) {
         tell_specifier(alloc, specifier, ctx, out)?;
@@ -71,7 +75,8 @@ fn tell_export(
     ctx: &CheckContext<'_, '_>,
     out: &mut Diagnostics,
 ) -> Result<(), AllocError>
-    ensures { Tells result (rows.export_rows (around ctx.now) statement.entry.node.now) out.old out.new }
+    ensures { Tells result (rows.export_rows (around ctx.now) statement.entry.node.now) out.old
+        out.new }
 {
     if statement.ty() == AstType::ExportNamedDeclaration {
         tell_specifiers(alloc, statement, ctx, out)
@@ -88,7 +93,8 @@ fn tell_exports(
     ctx: &CheckContext<'_, '_>,
     out: &mut Diagnostics,
 ) -> Result<(), AllocError>
-    ensures { Tells result (flat_map (rows.export_rows (around ctx.now)) (all_in roles.Body program.entry.node.now)) out.old out.new }
+    ensures { Tells result (flat_map (rows.export_rows (around ctx.now))
+        (all_in roles.Body program.entry.node.now)) out.old out.new }
 {
     for statement in program.children(Role::Body) {
         tell_export(alloc, statement, ctx, out)?;
@@ -106,7 +112,8 @@ pub fn check_unresolved_exports<'a>(
     out: &mut Diagnostics,
 ) -> Result<(), AllocError>
     requires { IsContext ctx.now }
-    ensures { Tells result (rows.check_unresolved_exports (sight kind.entry.node.now ctx.now)) out.old out.new }
+    ensures { Tells result (rows.check_unresolved_exports (sight kind.entry.node.now ctx.now))
+        out.old out.new }
 {
     if ctx.source_type.is_typescript() || !ctx.source_type.is_module() {
         return Ok(());

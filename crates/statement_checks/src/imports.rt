@@ -70,7 +70,8 @@ fn tell_repeatedly(
     out: &mut Diagnostics,
 ) -> Result<(), AllocError>
     requires { symbol < length scoping.now.symbols }
-    ensures { Tells result (repeated times (rows.import_rows (symbol_of scoping.now symbol))) out.old out.new }
+    ensures { Tells result (repeated times (rows.import_rows (symbol_of scoping.now symbol)))
+        out.old out.new }
 {
     for turn in 0..times {
         let _turn = turn;
@@ -82,7 +83,8 @@ fn tell_repeatedly(
 /// How often the root scope binds each symbol.
 fn counts_of_bound(alloc: Global, scoping: &Scoping) -> Result<Vec<usize>, AllocError>
     requires { 0 < length scoping.now.scopes }
-    ensures { IfOk result (λ counts. AreCounts (bound_in scoping.now) (length scoping.now.symbols) counts.items) }
+    ensures { IfOk result (λ counts.
+        AreCounts (bound_in scoping.now) (length scoping.now.symbols) counts.items) }
 {
     let mut counts = vec![in alloc; 0usize; scoping.symbols_len()]?;
     let bound = scoping.iter_bindings_in(scoping.root_scope_id());
@@ -104,7 +106,8 @@ fn tell_imports(
     out: &mut Diagnostics,
 ) -> Result<(), AllocError>
     requires { AreCounts (bound_in scoping.now) (length scoping.now.symbols) counts.now }
-    ensures { Tells result (rows.bound_rows (bound_in scoping.now) 0 scoping.now.symbols) out.old out.new }
+    ensures { Tells result (rows.bound_rows (bound_in scoping.now) 0 scoping.now.symbols) out.old
+        out.new }
 {
     for number in 0..scoping.symbols_len() {
         let symbol = SymbolId::new(number as u32);
@@ -122,7 +125,8 @@ pub fn check_import_value_redeclarations<'a>(
     out: &mut Diagnostics,
 ) -> Result<(), AllocError>
     requires { IsContext ctx.now }
-    ensures { Tells result (rows.check_import_value_redeclarations (around ctx.now)) out.old out.new }
+    ensures { Tells result (rows.check_import_value_redeclarations (around ctx.now)) out.old
+        out.new }
 {
     if ctx.source_type.is_typescript() || !ctx.source_type.is_module() {
         return Ok(());

@@ -36,7 +36,8 @@ fn is_loop_or_switch(kind: AstKind<'_>) -> bool
 /// The first node outward that a `break` without label meets: its target, or where the search ends.
 fn met_by_break<'a>(ctx: &CheckContext<'a, '_>) -> Option<AstKind<'a>>
     requires { IsContext ctx.now }
-    ensures { option_map shown result ≡ find (λ node. rows.is_end node || rows.is_loop_or_switch node) (around ctx.now).path }
+    ensures { option_map shown result
+        ≡ find (λ node. rows.is_end node || rows.is_loop_or_switch node) (around ctx.now).path }
 {
     let mut left = ctx.above();
     while let Some(kind) = left.next() {
@@ -50,7 +51,8 @@ fn met_by_break<'a>(ctx: &CheckContext<'a, '_>) -> Option<AstKind<'a>>
 /// The first node outward that a `continue` without label meets: its target, or where the search ends.
 fn met_by_continue<'a>(ctx: &CheckContext<'a, '_>) -> Option<AstKind<'a>>
     requires { IsContext ctx.now }
-    ensures { option_map shown result ≡ find (λ node. rows.is_end node || rows.is_loop_node node) (around ctx.now).path }
+    ensures { option_map shown result
+        ≡ find (λ node. rows.is_end node || rows.is_loop_node node) (around ctx.now).path }
 {
     let mut left = ctx.above();
     while let Some(kind) = left.next() {
@@ -64,7 +66,9 @@ fn met_by_continue<'a>(ctx: &CheckContext<'a, '_>) -> Option<AstKind<'a>>
 /// The first node outward that a jump to a label meets: its target, or where the search ends.
 fn met_by_label<'a>(label: AstKind<'_>, ctx: &CheckContext<'a, '_>) -> Option<AstKind<'a>>
     requires { IsContext ctx.now }
-    ensures { option_map shown result ≡ find (λ node. rows.is_end node || rows.is_labelled_by label.entry.node.now node) (around ctx.now).path }
+    ensures { option_map shown result
+        ≡ find (λ node. rows.is_end node || rows.is_labelled_by label.entry.node.now node)
+        (around ctx.now).path }
 {
     let mut left = ctx.above();
     while let Some(kind) = left.next() {
@@ -84,7 +88,8 @@ fn tell_plain_break(
     out: &mut Diagnostics,
 ) -> Result<(), AllocError>
     requires { IsContext ctx.now }
-    ensures { Tells result (rows.unlabelled_rows rows.is_loop_or_switch (tell.invalid_break span) (around ctx.now).path) out.old out.new }
+    ensures { Tells result (rows.unlabelled_rows rows.is_loop_or_switch (tell.invalid_break span)
+        (around ctx.now).path) out.old out.new }
 {
     let Some(met) = met_by_break(ctx) else {
         return Ok(());
@@ -104,7 +109,8 @@ fn tell_plain_continue(
     out: &mut Diagnostics,
 ) -> Result<(), AllocError>
     requires { IsContext ctx.now }
-    ensures { Tells result (rows.unlabelled_rows rows.is_loop_node (tell.invalid_continue span) (around ctx.now).path) out.old out.new }
+    ensures { Tells result (rows.unlabelled_rows rows.is_loop_node (tell.invalid_continue span)
+        (around ctx.now).path) out.old out.new }
 {
     let Some(met) = met_by_continue(ctx) else {
         return Ok(());
@@ -123,7 +129,8 @@ fn tell_unmet(
     met: AstKind<'_>,
     out: &mut Diagnostics,
 ) -> Result<(), AllocError>
-    ensures { Tells result (rows.met_rows (λ target. []) label.entry.node.now met.entry.node.now) out.old out.new }
+    ensures { Tells result (rows.met_rows (λ target. []) label.entry.node.now met.entry.node.now)
+        out.old out.new }
 {
     if is_boundary(met) {
         return tell(invalid_label_jump_target(alloc, label.span()), out);
@@ -143,7 +150,8 @@ pub fn check_break_statement<'a>(
     out: &mut Diagnostics,
 ) -> Result<(), AllocError>
     requires { IsContext ctx.now }
-    ensures { Tells result (rows.check_break_statement (sight kind.entry.node.now ctx.now)) out.old out.new }
+    ensures { Tells result (rows.check_break_statement (sight kind.entry.node.now ctx.now)) out.old
+        out.new }
 {
     let Some(label) = kind.child(Role::Label) else {
         return tell_plain_break(alloc, kind.span(), ctx, out);
@@ -177,7 +185,8 @@ fn tell_no_loop(
     target: AstKind<'_>,
     out: &mut Diagnostics,
 ) -> Result<(), AllocError>
-    ensures { Tells result (rows.continue_rows label.entry.node.now target.entry.node.now) out.old out.new }
+    ensures { Tells result (rows.continue_rows label.entry.node.now target.entry.node.now) out.old
+        out.new }
 {
     if under_labels(target).is_iteration_statement() {
         return Ok(());
@@ -199,7 +208,9 @@ fn tell_met_by_continue(
     met: AstKind<'_>,
     out: &mut Diagnostics,
 ) -> Result<(), AllocError>
-    ensures { Tells result (rows.met_rows (rows.continue_rows label.entry.node.now) label.entry.node.now met.entry.node.now) out.old out.new }
+    ensures { Tells result (rows.met_rows
+        (rows.continue_rows label.entry.node.now) label.entry.node.now met.entry.node.now) out.old
+        out.new }
 {
     if is_end(met) {
         tell_unmet(alloc, label, met, out)
@@ -217,7 +228,8 @@ pub fn check_continue_statement<'a>(
     out: &mut Diagnostics,
 ) -> Result<(), AllocError>
     requires { IsContext ctx.now }
-    ensures { Tells result (rows.check_continue_statement (sight kind.entry.node.now ctx.now)) out.old out.new }
+    ensures { Tells result (rows.check_continue_statement (sight kind.entry.node.now ctx.now))
+        out.old out.new }
 {
     let Some(label) = kind.child(Role::Label) else {
         return tell_plain_continue(alloc, kind.span(), ctx, out);

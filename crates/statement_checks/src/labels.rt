@@ -39,7 +39,8 @@ pub(crate) fn is_labelled_by(label: AstKind<'_>, kind: AstKind<'_>) -> bool
 /// The innermost statement around, in the same function, that has the label too.
 fn same_label_around<'a>(label: AstKind<'_>, ctx: &CheckContext<'a, '_>) -> Option<AstKind<'a>>
     requires { IsContext ctx.now }
-    ensures { option_map shown result ≡ rows.same_label_around label.entry.node.now (around ctx.now).path }
+    ensures { option_map shown result
+        ≡ rows.same_label_around label.entry.node.now (around ctx.now).path }
 {
     let mut left = ctx.above();
     while let Some(kind) = left.next() {
@@ -62,7 +63,8 @@ fn tell_same_label(
     out: &mut Diagnostics,
 ) -> Result<(), AllocError>
     requires { IsContext ctx.now }
-    ensures { Tells result (rows.own_label_rows (around ctx.now).path label.entry.node.now) out.old out.new }
+    ensures { Tells result (rows.own_label_rows (around ctx.now).path label.entry.node.now) out.old
+        out.new }
 {
     let Some(outer) = same_label_around(label, ctx) else {
         return Ok(());
@@ -86,7 +88,8 @@ pub fn check_labeled_statement<'a>(
     out: &mut Diagnostics,
 ) -> Result<(), AllocError>
     requires { IsContext ctx.now }
-    ensures { Tells result (rows.check_labeled_statement (sight kind.entry.node.now ctx.now)) out.old out.new }
+    ensures { Tells result (rows.check_labeled_statement (sight kind.entry.node.now ctx.now))
+        out.old out.new }
 {
     match kind.child(Role::Label) {
         Some(label) => tell_same_label(alloc, label, ctx, out),

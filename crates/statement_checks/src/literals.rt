@@ -44,7 +44,8 @@ fn has_leading_zero(spelling: &[u8]) -> bool
 /// Tells of a number with a leading zero in the octal base (ECMAScript 12.9.3, LegacyOctalIntegerLiteral).
 #[tactic(auto, using(check_context::proofs::Telling::made))]
 fn tell_octal(alloc: Global, kind: AstKind<'_>, out: &mut Diagnostics) -> Result<(), AllocError>
-    ensures { Tells result (row_if (has mark.Octal kind.entry.node.now) (tell.legacy_octal kind.entry.node.now.span)) out.old out.new }
+    ensures { Tells result (row_if (has mark.Octal kind.entry.node.now)
+        (tell.legacy_octal kind.entry.node.now.span)) out.old out.new }
 {
     if kind.has_mark(Mark::Octal) {
         tell(legacy_octal(alloc, kind.span()), out)
@@ -56,7 +57,9 @@ fn tell_octal(alloc: Global, kind: AstKind<'_>, out: &mut Diagnostics) -> Result
 /// Tells of a number with a leading zero in base ten (ECMAScript 12.9.3, NonOctalDecimalIntegerLiteral).
 #[tactic(auto, using(check_context::proofs::Telling::made))]
 fn tell_decimal(alloc: Global, kind: AstKind<'_>, out: &mut Diagnostics) -> Result<(), AllocError>
-    ensures { Tells result (row_if (has mark.Decimal kind.entry.node.now || has mark.Float kind.entry.node.now) (tell.leading_zero_decimal kind.entry.node.now.span)) out.old out.new }
+    ensures { Tells result (row_if
+        (has mark.Decimal kind.entry.node.now || has mark.Float kind.entry.node.now)
+        (tell.leading_zero_decimal kind.entry.node.now.span)) out.old out.new }
 {
     if kind.has_mark(Mark::Decimal) || kind.has_mark(Mark::Float) {
         tell(leading_zero_decimal(alloc, kind.span()), out)
@@ -87,7 +90,8 @@ pub fn check_number_literal<'a>(
     out: &mut Diagnostics,
 ) -> Result<(), AllocError>
     requires { IsContext ctx.now }
-    ensures { Tells result (rows.check_number_literal (sight kind.entry.node.now ctx.now)) out.old out.new }
+    ensures { Tells result (rows.check_number_literal (sight kind.entry.node.now ctx.now)) out.old
+        out.new }
 {
     if ctx.is_strict() && has_leading_zero(kind.node().text.as_str().as_bytes()) {
         tell_leading_zero(alloc, kind, out)
@@ -104,7 +108,8 @@ fn tell_escapes(
     span: Span,
     out: &mut Diagnostics,
 ) -> Result<(), AllocError>
-    ensures { Tells result (rows_of_some (rows.escape_rows span) (rows.first_bad_escape raw.now)) out.old out.new }
+    ensures { Tells result (rows_of_some (rows.escape_rows span) (rows.first_bad_escape raw.now))
+        out.old out.new }
 {
     match first_bad(raw) {
         Some(BadEscape::Octal) => tell(legacy_octal(alloc, span), out),
@@ -123,7 +128,8 @@ pub fn check_string_literal<'a>(
     out: &mut Diagnostics,
 ) -> Result<(), AllocError>
     requires { IsHanded kind.node.now ctx.now }
-    ensures { Tells result (rows.check_string_literal (sight kind.entry.node.now ctx.now)) out.old out.new }
+    ensures { Tells result (rows.check_string_literal (sight kind.entry.node.now ctx.now)) out.old
+        out.new }
 {
     if !ctx.is_strict() || ctx.is_under(AstType::JSXAttribute) {
         return Ok(());
@@ -137,7 +143,8 @@ pub fn check_string_literal<'a>(
 
 /// Whether the node has parameters that are not simple (ECMAScript 15.1.3, IsSimpleParameterList).
 fn is_complex(opener: AstKind<'_>) -> bool
-    ensures { result ≡ whose roles.Params (λ params. not (is_simple_parameter_list params)) opener.entry.node.now }
+    ensures { result ≡ whose roles.Params
+        (λ params. not (is_simple_parameter_list params)) opener.entry.node.now }
 {
     match opener.child(Role::Params) {
         Some(params) => !params.is_simple_parameter_list(),
@@ -166,7 +173,8 @@ pub fn check_directive<'a>(
     out: &mut Diagnostics,
 ) -> Result<(), AllocError>
     requires { IsContext ctx.now }
-    ensures { Tells result (rows.check_directive (sight kind.entry.node.now ctx.now)) out.old out.new }
+    ensures { Tells result (rows.check_directive (sight kind.entry.node.now ctx.now)) out.old
+        out.new }
 {
     if reads(kind, "use strict") && ctx.is_in_function() && has_complex_parameters(kind, ctx) {
         tell(illegal_use_strict(alloc, kind.span()), out)

@@ -63,7 +63,8 @@ fn tell_await(
     out: &mut Diagnostics,
 ) -> Result<(), AllocError>
     requires { IsContext ctx.now }
-    ensures { Tells result (rows.await_rows (chars name.entry.text.now) span (around ctx.now)) out.old out.new }
+    ensures { Tells result (rows.await_rows (chars name.entry.text.now) span (around ctx.now))
+        out.old out.new }
 {
     if ctx.source_type.is_module() {
         let context = ReservedKeywordContext::ModuleAwait;
@@ -86,7 +87,8 @@ pub fn check_identifier<'a>(
     out: &mut Diagnostics,
 ) -> Result<(), AllocError>
     requires { IsContext ctx.now }
-    ensures { Tells result (rows.check_identifier (chars name.entry.text.now) span (around ctx.now)) out.old out.new }
+    ensures { Tells result (rows.check_identifier (chars name.entry.text.now) span (around ctx.now))
+        out.old out.new }
 {
     if ctx.in_ambient {
         return Ok(());
@@ -131,7 +133,9 @@ pub(crate) fn tell_assignment(
     out: &mut Diagnostics,
 ) -> Result<(), AllocError>
     requires { IsContext ctx.now }
-    ensures { let node = kind.entry.node.now in Tells result (tell.unexpected_identifier_assign node.text node.span (rows.not_assigned_because (around ctx.now)) ∷ []) out.old out.new }
+    ensures { let node = kind.entry.node.now in
+        Tells result (tell.unexpected_identifier_assign node.text node.span
+        (rows.not_assigned_because (around ctx.now)) ∷ []) out.old out.new }
 {
     let context = not_assigned_because(ctx);
     let name = kind.text();
@@ -192,7 +196,8 @@ fn tell_eval_binding(
     out: &mut Diagnostics,
 ) -> Result<(), AllocError>
     requires { IsContext ctx.now }
-    ensures { Tells result (rows.eval_binding_rows (sight kind.entry.node.now ctx.now)) out.old out.new }
+    ensures { Tells result (rows.eval_binding_rows (sight kind.entry.node.now ctx.now)) out.old
+        out.new }
 {
     if !is_eval_or_arguments(kind) || !ctx.is_strict() {
         return Ok(());
@@ -206,7 +211,8 @@ fn tell_eval_binding(
 /// The innermost variable declaration around, before any function.
 fn declaration_around<'a>(ctx: &CheckContext<'a, '_>) -> Option<AstKind<'a>>
     requires { IsContext ctx.now }
-    ensures { option_map shown result ≡ find_before (is kinds.Function) (is kinds.VariableDeclaration) (around ctx.now).path }
+    ensures { option_map shown result
+        ≡ find_before (is kinds.Function) (is kinds.VariableDeclaration) (around ctx.now).path }
 {
     let mut left = ctx.above();
     while let Some(kind) = left.next() {
@@ -257,7 +263,8 @@ pub fn check_binding_identifier<'a>(
     out: &mut Diagnostics,
 ) -> Result<(), AllocError>
     requires { IsContext ctx.now }
-    ensures { Tells result (rows.check_binding_identifier (sight kind.entry.node.now ctx.now)) out.old out.new }
+    ensures { Tells result (rows.check_binding_identifier (sight kind.entry.node.now ctx.now))
+        out.old out.new }
 {
     if ctx.source_type.is_typescript_definition() {
         return Ok(());
@@ -275,7 +282,8 @@ pub fn check_private_identifier_outside_class<'a>(
     out: &mut Diagnostics,
 ) -> Result<(), AllocError>
     requires { IsContext ctx.now }
-    ensures { Tells result (rows.check_private_identifier_outside_class (sight kind.entry.node.now ctx.now)) out.old out.new }
+    ensures { Tells result (rows.check_private_identifier_outside_class
+        (sight kind.entry.node.now ctx.now)) out.old out.new }
 {
     if ctx.has_class() {
         return Ok(());

@@ -59,7 +59,9 @@ fn writes_to(name: AstKind<'_>, node: AstKind<'_>) -> bool
 /// The first node around that is a member expression or writes to the name.
 fn met_by_write<'a>(name: AstKind<'_>, ctx: &CheckContext<'a, '_>) -> Option<AstKind<'a>>
     requires { IsContext ctx.now }
-    ensures { option_map shown result ≡ find (λ node. is_member node.kind || rows.writes_to name.entry.node.now.text node) (around ctx.now).path }
+    ensures { option_map shown result
+        ≡ find (λ node. is_member node.kind || rows.writes_to name.entry.node.now.text node)
+        (around ctx.now).path }
 {
     let mut left = ctx.above();
     while let Some(node) = left.next() {
@@ -91,7 +93,8 @@ fn is_bad_write(name: AstKind<'_>, ctx: &CheckContext<'_, '_>) -> bool
 
 /// Whether the child is the value of a property of a class.
 fn is_field_value(child: AstKind<'_>, parent: AstKind<'_>) -> bool
-    ensures { let link : Node × Node = (child.entry.node.now, parent.entry.node.now) in result ≡ rows.is_field_value link }
+    ensures { let link : Node × Node = (child.entry.node.now, parent.entry.node.now) in
+        result ≡ rows.is_field_value link }
 {
     parent.ty() == AstType::PropertyDefinition && is_child_in(Role::Value, parent, child)
 }
@@ -99,7 +102,9 @@ fn is_field_value(child: AstKind<'_>, parent: AstKind<'_>) -> bool
 /// Whether `arguments` belongs to the parent, as far as it is reached from the child (ECMAScript 15.7.1,
 /// ContainsArguments).
 fn owns_arguments(child: AstKind<'_>, parent: AstKind<'_>) -> bool
-    ensures { let link : Node × Node = (child.entry.node.now, parent.entry.node.now) in result ≡ (is kinds.Function link.1 || (rows.is_field_value link || rows.is_static_block link)) }
+    ensures { let link : Node × Node = (child.entry.node.now, parent.entry.node.now) in
+        result ≡ (is kinds.Function link.1
+        || (rows.is_field_value link || rows.is_static_block link)) }
 {
     parent.ty() == AstType::Function
         || is_field_value(child, parent)
@@ -112,7 +117,8 @@ fn owner_of_arguments<'a>(
     ctx: &CheckContext<'a, '_>,
 ) -> Option<(AstKind<'a>, AstKind<'a>)>
     requires { IsContext ctx.now }
-    ensures { option_map link_shown result ≡ rows.owner_of_arguments (sight kind.entry.node.now ctx.now) }
+    ensures { option_map link_shown result
+        ≡ rows.owner_of_arguments (sight kind.entry.node.now ctx.now) }
 {
     let mut left = Links::new(kind, ctx.above());
     while let Some((child, parent)) = left.next() {
@@ -132,7 +138,11 @@ fn tell_arguments(
     parent: AstKind<'_>,
     out: &mut Diagnostics,
 ) -> Result<(), AllocError>
-    ensures { let link : Node × Node = (child.entry.node.now, parent.entry.node.now) in Tells result (row_if (rows.is_field_value link) (tell.unexpected_arguments (codes "class field initializer") span) ++ row_if (rows.is_static_block link) (tell.unexpected_arguments (codes "static initialization block") span)) out.old out.new }
+    ensures { let link : Node × Node = (child.entry.node.now, parent.entry.node.now) in
+        Tells result (row_if (rows.is_field_value link)
+        (tell.unexpected_arguments (codes "class field initializer") span)
+        ++ row_if (rows.is_static_block link)
+        (tell.unexpected_arguments (codes "static initialization block") span)) out.old out.new }
 {
     if is_field_value(child, parent) {
         let place = "class field initializer";
@@ -154,7 +164,9 @@ fn tell_if_arguments<'a>(
     out: &mut Diagnostics,
 ) -> Result<(), AllocError>
     requires { IsContext ctx.now }
-    ensures { let s = sight kind.entry.node.now ctx.now in Tells result (rows_if (bytes_eq s.node.text (codes "arguments")) (rows.arguments_rows s)) out.old out.new }
+    ensures { let s = sight kind.entry.node.now ctx.now in
+        Tells result (rows_if (bytes_eq s.node.text (codes "arguments")) (rows.arguments_rows s))
+        out.old out.new }
 {
     if !reads(kind, "arguments") {
         return Ok(());
@@ -175,7 +187,8 @@ pub fn check_identifier_reference<'a>(
     out: &mut Diagnostics,
 ) -> Result<(), AllocError>
     requires { IsContext ctx.now }
-    ensures { Tells result (rows.check_identifier_reference (sight kind.entry.node.now ctx.now)) out.old out.new }
+    ensures { Tells result (rows.check_identifier_reference (sight kind.entry.node.now ctx.now))
+        out.old out.new }
 {
     if ctx.source_type.is_typescript_definition() {
         Ok(())

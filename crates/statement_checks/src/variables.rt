@@ -34,7 +34,8 @@ pub fn check_for_of_statement<'a>(
     out: &mut Diagnostics,
 ) -> Result<(), AllocError>
     requires { IsContext ctx.now }
-    ensures { Tells result (rows.check_for_of_statement (sight kind.entry.node.now ctx.now)) out.old out.new }
+    ensures { Tells result (rows.check_for_of_statement (sight kind.entry.node.now ctx.now)) out.old
+        out.new }
 {
     if kind.has_mark(Mark::Await) && ctx.is_in_static_block() {
         tell(class_static_block_for_await(alloc, kind.span()), out)
@@ -74,7 +75,8 @@ fn is_bad_initializer(
     ctx: &CheckContext<'_, '_>,
 ) -> bool
     requires { IsContext ctx.now }
-    ensures { result ≡ rows.is_bad_initializer (around ctx.now) left.entry.node.now for_in declarator.entry.node.now }
+    ensures { result ≡ rows.is_bad_initializer
+        (around ctx.now) left.entry.node.now for_in declarator.entry.node.now }
 {
     has_child(declarator, Role::Init)
         && ((ctx.is_strict() && reads(left, "var")) || !for_in || !is_plain_name(declarator))
@@ -98,7 +100,11 @@ fn tell_declarator(
     out: &mut Diagnostics,
 ) -> Result<(), AllocError>
     requires { IsContext ctx.now }
-    ensures { Tells result (row_if (rows.is_bad_initializer (around ctx.now) left.entry.node.now for_in declarator.entry.node.now) (tell.unexpected_initializer_in_for_loop_head (rows.loop_name for_in) left.entry.node.now.span)) out.old out.new }
+    ensures { Tells result (row_if
+        (rows.is_bad_initializer
+        (around ctx.now) left.entry.node.now for_in declarator.entry.node.now)
+        (tell.unexpected_initializer_in_for_loop_head
+        (rows.loop_name for_in) left.entry.node.now.span)) out.old out.new }
 {
     if !is_bad_initializer(left, for_in, declarator, ctx) {
         return Ok(());
@@ -122,7 +128,8 @@ pub fn check_for_statement_left<'a>(
     out: &mut Diagnostics,
 ) -> Result<(), AllocError>
     requires { IsContext ctx.now }
-    ensures { Tells result (rows.check_for_statement_left kind.entry.node.now for_in (around ctx.now)) out.old out.new }
+    ensures { Tells result (rows.check_for_statement_left kind.entry.node.now for_in
+        (around ctx.now)) out.old out.new }
 {
     if kind.ty() == AstType::VariableDeclaration {
         match only_child(kind.children(Role::Declarators)) {
@@ -150,7 +157,9 @@ fn tell_using(
     out: &mut Diagnostics,
 ) -> Result<(), AllocError>
     requires { IsContext ctx.now }
-    ensures { let s = sight kind.entry.node.now ctx.now in Tells result (row_if (rows.is_using s.node && (is_script s && is_at_top s)) (tell.using_declaration_not_allowed_in_script s.node.span)) out.old out.new }
+    ensures { let s = sight kind.entry.node.now ctx.now in
+        Tells result (row_if (rows.is_using s.node && (is_script s && is_at_top s))
+        (tell.using_declaration_not_allowed_in_script s.node.span)) out.old out.new }
 {
     if is_using(kind) && ctx.source_type.is_script() && ctx.is_at_top() {
         tell(
@@ -171,7 +180,9 @@ fn tell_await_using(
     out: &mut Diagnostics,
 ) -> Result<(), AllocError>
     requires { IsContext ctx.now }
-    ensures { let s = sight kind.entry.node.now ctx.now in Tells result (row_if (has_text (codes "await using") s.node && is_in_static_block s) (tell_of.class_static_block_await_using s.node.span)) out.old out.new }
+    ensures { let s = sight kind.entry.node.now ctx.now in
+        Tells result (row_if (has_text (codes "await using") s.node && is_in_static_block s)
+        (tell_of.class_static_block_await_using s.node.span)) out.old out.new }
 {
     if reads(kind, "await using") && ctx.is_in_static_block() {
         tell(class_static_block_await_using(alloc, kind.span()), out)
@@ -189,7 +200,8 @@ pub fn check_variable_declaration<'a>(
     out: &mut Diagnostics,
 ) -> Result<(), AllocError>
     requires { IsContext ctx.now }
-    ensures { Tells result (rows.check_variable_declaration (sight kind.entry.node.now ctx.now)) out.old out.new }
+    ensures { Tells result (rows.check_variable_declaration (sight kind.entry.node.now ctx.now))
+        out.old out.new }
 {
     tell_using(alloc, kind, ctx, out)?;
     tell_await_using(alloc, kind, ctx, out)
@@ -224,7 +236,8 @@ fn tell_name(
     out: &mut Diagnostics,
 ) -> Result<(), AllocError>
     requires { IsContext ctx.now }
-    ensures { Tells result (rows.name_rows (sight kind.entry.node.now ctx.now) name.entry.node.now) out.old out.new }
+    ensures { Tells result (rows.name_rows (sight kind.entry.node.now ctx.now) name.entry.node.now)
+        out.old out.new }
 {
     let Some(before) = one_before_last(ctx.entries_of(name)) else {
         return Ok(());
@@ -248,7 +261,8 @@ fn tell_names(
     out: &mut Diagnostics,
 ) -> Result<(), AllocError>
     requires { IsContext ctx.now }
-    ensures { let s = sight kind.entry.node.now ctx.now in Tells result (flat_map (rows.name_rows s) (bound_names s.node)) out.old out.new }
+    ensures { let s = sight kind.entry.node.now ctx.now in
+        Tells result (flat_map (rows.name_rows s) (bound_names s.node)) out.old out.new }
 {
     let names = identifiers_by_role(alloc, kind)?;
     for name in names.iter() {
@@ -267,7 +281,8 @@ pub fn check_variable_declarator_redeclaration<'a>(
     out: &mut Diagnostics,
 ) -> Result<(), AllocError>
     requires { IsContext ctx.now }
-    ensures { Tells result (rows.check_variable_declarator_redeclaration (sight kind.entry.node.now ctx.now)) out.old out.new }
+    ensures { Tells result (rows.check_variable_declarator_redeclaration
+        (sight kind.entry.node.now ctx.now)) out.old out.new }
 {
     if ctx.source_type.is_typescript() || !is_in_var(ctx) || lets_var_redeclare(ctx) {
         return Ok(());

@@ -47,7 +47,9 @@ impl<'a> Conflicts<'a> {
 
     /// Notes a conflict as the last one. After want of memory all is as before.
     pub fn push(&mut self, name: &'a str, earlier: Span, later: Span) -> Result<(), AllocError>
-        ensures ok { OnOk result (self.new ≡ self.old ++ record { name = chars name.now; earlier = earlier; later = later } ∷ []) }
+        ensures ok { OnOk result
+            (self.new ≡ self.old
+            ++ record { name = chars name.now; earlier = earlier; later = later } ∷ []) }
         ensures err { OnErr result (self.new ≡ self.old) }
     {
         let conflict = Conflict {

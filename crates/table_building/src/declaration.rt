@@ -30,7 +30,8 @@ impl<'a> Declaration<'a> {
         row: Row,
         is_pure: bool,
     ) -> Declaration<'a>
-        ensures { naming result ≡ named_by node.entry.node.now row is_pure identifier.entry.node.now }
+        ensures { naming result
+            ≡ named_by node.entry.node.now row is_pure identifier.entry.node.now }
     {
         Declaration {
             node: node.node_id(),
@@ -49,7 +50,9 @@ impl<'a> Declaration<'a> {
         named: AstKind<'a>,
         row: Row,
     ) -> Declaration<'a>
-        ensures { naming result ≡ named_by member.entry.node.now row false (named_member member.entry.node.now id.entry.node.now named.entry.node.now) }
+        ensures { naming result
+            ≡ named_by member.entry.node.now row false
+            (named_member member.entry.node.now id.entry.node.now named.entry.node.now) }
     {
         Declaration {
             node: member.node_id(),

@@ -59,7 +59,8 @@ impl<'a> Declared<'a> {
         root: AstKind<'_>,
         flags: ScopeFlags,
     ) -> Result<Declared<'a>, AllocError>
-        ensures { IfOk result (λ made. made ≡ open_in nothing_made None root.entry.node.now.node_id 0 flags.bits) }
+        ensures { IfOk result (λ made. made
+            ≡ open_in nothing_made None root.entry.node.now.node_id 0 flags.bits) }
     {
         let mut declared = Declared::empty(alloc);
         match declared.open_root(root, flags) {
@@ -177,7 +178,8 @@ impl<'a> Declared<'a> {
     /// The symbol that the scope binds to the name, else the one that it remembers.
     fn known(&self, scope: ScopeId, name: Ident<'_>) -> Option<SymbolId>
         requires { scope < length self.now.tables.scopes }
-        ensures value { result ≡ or_else (bound_in self.now.tables scope (name_of name.entry)) (get self.now.remembered scope (name_of name.entry)) }
+        ensures value { result ≡ or_else (bound_in self.now.tables scope (name_of name.entry))
+            (get self.now.remembered scope (name_of name.entry)) }
         ensures within { IfSome result (λ y. y < length self.now.tables.symbols) }
     {
         if let Some(symbol) = self.bound(scope, name) {
@@ -209,7 +211,8 @@ impl<'a> Declared<'a> {
         declaration: &Declaration<'a>,
     ) -> Result<(), AllocError>
         requires { symbol < length self.old.tables.symbols }
-        ensures made { OnOk result (self.new ≡ walked.against self.old (naming declaration.now) symbol) }
+        ensures made { OnOk result
+            (self.new ≡ walked.against self.old (naming declaration.now) symbol) }
         ensures symbols { length self.new.tables.symbols ≡ length self.old.tables.symbols }
         ensures goes { Goes self.old self.new }
     {
@@ -230,7 +233,8 @@ impl<'a> Declared<'a> {
     ) -> Result<SymbolId, AllocError>
         requires scope { scope < length self.old.tables.scopes }
         requires room { length self.old.tables.symbols < u32.MAX }
-        ensures made { OnOk result (self.new ≡ walked.make self.old scope (naming declaration.now)) }
+        ensures made { OnOk result
+            (self.new ≡ walked.make self.old scope (naming declaration.now)) }
         ensures symbol { IfOk result (λ y. y ≡ length self.old.tables.symbols) }
         ensures goes { Goes self.old self.new }
         ensures within { IfOk result (λ y. y < length self.new.tables.symbols) }
@@ -252,7 +256,8 @@ impl<'a> Declared<'a> {
         declaration: &Declaration<'a>,
     ) -> Result<(), AllocError>
         requires { symbol < length self.old.tables.symbols }
-        ensures made { OnOk result (self.new ≡ walked.redeclare self.old symbol (naming declaration.now)) }
+        ensures made { OnOk result
+            (self.new ≡ walked.redeclare self.old symbol (naming declaration.now)) }
         ensures goes { Goes self.old self.new }
     {
         self.scoping.add_symbol_redeclaration(
@@ -269,7 +274,8 @@ impl<'a> Declared<'a> {
         symbol: SymbolId,
         declaration: &Declaration<'a>,
     ) -> Result<(), AllocError>
-        ensures made { OnOk result (self.new ≡ walked.note_symbol self.old symbol (naming declaration.now)) }
+        ensures made { OnOk result
+            (self.new ≡ walked.note_symbol self.old symbol (naming declaration.now)) }
         ensures goes { Goes self.old self.new }
     {
         self.tables.set_symbol(declaration.identifier, symbol)?;
@@ -291,7 +297,8 @@ impl<'a> Declared<'a> {
     /// The symbol is declared once more, with the flags of the declaration.
     fn unite(&mut self, symbol: SymbolId, declaration: &Declaration<'a>) -> Result<(), AllocError>
         requires { symbol < length self.old.tables.symbols }
-        ensures made { OnOk result (self.new ≡ walked.unite self.old symbol (naming declaration.now)) }
+        ensures made { OnOk result
+            (self.new ≡ walked.unite self.old symbol (naming declaration.now)) }
         ensures goes { Goes self.old self.new }
     {
         self.note_conflict(symbol, declaration)?;
@@ -309,8 +316,10 @@ impl<'a> Declared<'a> {
     ) -> Result<SymbolId, AllocError>
         requires scope { scope < length self.old.tables.scopes }
         requires room { length self.old.tables.symbols < u32.MAX }
-        ensures made { OnOk result (self.new ≡ walked.with_symbol_in self.old scope (naming declaration.now)) }
-        ensures symbol { IfOk result (λ y. y ≡ walked.symbol_in self.old scope (naming declaration.now)) }
+        ensures made { OnOk result
+            (self.new ≡ walked.with_symbol_in self.old scope (naming declaration.now)) }
+        ensures symbol { IfOk result
+            (λ y. y ≡ walked.symbol_in self.old scope (naming declaration.now)) }
         ensures goes { Goes self.old self.new }
         ensures within { IfOk result (λ y. y < length self.new.tables.symbols) }
     {
@@ -331,7 +340,8 @@ impl<'a> Declared<'a> {
     ) -> Result<(), AllocError>
         requires scope { scope < length self.old.tables.scopes }
         requires room { length self.old.tables.symbols < u32.MAX }
-        ensures made { OnOk result (self.new ≡ walked.declare self.old scope (naming declaration.now)) }
+        ensures made { OnOk result
+            (self.new ≡ walked.declare self.old scope (naming declaration.now)) }
         ensures goes { Goes self.old self.new }
     {
         let symbol = self.symbol_in(scope, declaration)?;
@@ -346,7 +356,8 @@ impl<'a> Declared<'a> {
     ) -> Result<(), AllocError>
         requires scope { scope < length self.old.tables.scopes }
         requires room { length self.old.tables.symbols < u32.MAX }
-        ensures made { OnOk result (self.new ≡ walked.declare_anew self.old scope (naming declaration.now)) }
+        ensures made { OnOk result
+            (self.new ≡ walked.declare_anew self.old scope (naming declaration.now)) }
         ensures goes { Goes self.old self.new }
     {
         let symbol = self.make(scope, declaration)?;
@@ -364,7 +375,9 @@ impl<'a> Declared<'a> {
     ) -> Result<(), AllocError>
         requires scope { scope < length self.old.tables.scopes }
         requires room { length self.old.tables.symbols < u32.MAX }
-        ensures made { OnOk result (self.new ≡ walked.declare self.old scope (named_by node.entry.node.now row is_pure name.entry.node.now)) }
+        ensures made { OnOk result
+            (self.new ≡ walked.declare self.old scope
+            (named_by node.entry.node.now row is_pure name.entry.node.now)) }
         ensures goes { Goes self.old self.new }
     {
         let declaration = Declaration::new(node, name, row, is_pure);

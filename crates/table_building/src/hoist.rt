@@ -48,8 +48,12 @@ impl<'a> Declared<'a> {
         declaration: &Declaration<'a>,
     ) -> Result<Option<SymbolId>, AllocError>
         requires { scope < length self.old.tables.scopes }
-        ensures noted { OnOk result (self.new ≡ walked.against_found self.old (naming declaration.now) (found self.old scope (naming declaration.now).name)) }
-        ensures symbol { IfOk result (λ o. o ≡ walked.value_symbol self.old.tables (found self.old scope (naming declaration.now).name)) }
+        ensures noted { OnOk result
+            (self.new ≡ walked.against_found self.old (naming declaration.now)
+            (found self.old scope (naming declaration.now).name)) }
+        ensures symbol { IfOk result
+            (λ o. o ≡ walked.value_symbol self.old.tables
+            (found self.old scope (naming declaration.now).name)) }
         ensures symbols { length self.new.tables.symbols ≡ length self.old.tables.symbols }
         ensures goes { Goes self.old self.new }
         ensures within { IfOk result (λ o. IfSome o (λ y. y < length self.new.tables.symbols)) }
@@ -71,11 +75,17 @@ impl<'a> Declared<'a> {
         declaration: &Declaration<'a>,
     ) -> Result<Option<PassedSymbol>, AllocError>
         requires { IsRoute (length self.old.tables.scopes) route.now }
-        ensures noted { OnOk result (self.new ≡ walked.against_way self.old (naming declaration.now) route.now.passed.items) }
-        ensures passed_symbol { IfOk result (λ o. option_map passed_symbol_of o ≡ walked.passed_symbol self.old route.now.passed.items (naming declaration.now).name) }
+        ensures noted { OnOk result
+            (self.new ≡ walked.against_way self.old
+            (naming declaration.now) route.now.passed.items) }
+        ensures passed_symbol { IfOk result
+            (λ o. option_map passed_symbol_of o
+            ≡ walked.passed_symbol self.old route.now.passed.items (naming declaration.now).name) }
         ensures symbols { length self.new.tables.symbols ≡ length self.old.tables.symbols }
         ensures goes { Goes self.old self.new }
-        ensures within { IfOk result (λ o. IfSome o (λ h. (h.scope < length self.new.tables.scopes) × (h.symbol < length self.new.tables.symbols))) }
+        ensures within { IfOk result
+            (λ o. IfSome o (λ h. (h.scope < length self.new.tables.scopes)
+            × (h.symbol < length self.new.tables.symbols))) }
     {
         for scope in route.passed.as_slice() {
             if let Some(symbol) = self.value_symbol_in(scope.id(), declaration)? {
@@ -108,7 +118,8 @@ impl<'a> Declared<'a> {
         requires from { from < length self.old.tables.scopes }
         requires to { to < length self.old.tables.scopes }
         requires symbol { symbol < length self.old.tables.symbols }
-        ensures made { OnOk result (self.new ≡ walked.rebind self.old (name_of name.entry) symbol from to) }
+        ensures made { OnOk result
+            (self.new ≡ walked.rebind self.old (name_of name.entry) symbol from to) }
         ensures goes { Goes self.old self.new }
     {
         self.scoping.add_binding(to, name, symbol)?;
@@ -128,7 +139,8 @@ impl<'a> Declared<'a> {
         requires from { from < length self.old.tables.scopes }
         requires target { target < length self.old.tables.scopes }
         requires symbol { symbol < length self.old.tables.symbols }
-        ensures made { OnOk result (self.new ≡ walked.move_symbol self.old from target symbol (name_of name.entry)) }
+        ensures made { OnOk result
+            (self.new ≡ walked.move_symbol self.old from target symbol (name_of name.entry)) }
         ensures goes { Goes self.old self.new }
     {
         match self.bound(target, name) {
@@ -145,7 +157,8 @@ impl<'a> Declared<'a> {
         symbol: SymbolId,
     ) -> Result<(), AllocError>
         requires { symbol < length self.old.tables.symbols }
-        ensures made { OnOk result (self.new ≡ walked.remember self.old scope (name_of name.entry) symbol) }
+        ensures made { OnOk result
+            (self.new ≡ walked.remember self.old scope (name_of name.entry) symbol) }
         ensures goes { Goes self.old self.new }
     {
         self.hoisting_variables.put(scope, name, symbol)?;
@@ -161,7 +174,9 @@ impl<'a> Declared<'a> {
         symbol: SymbolId,
     ) -> Result<(), AllocError>
         requires { symbol < length self.old.tables.symbols }
-        ensures made { OnOk result (self.new ≡ walked.remember_all self.old route.now.passed.items (name_of name.entry) symbol) }
+        ensures made { OnOk result
+            (self.new ≡ walked.remember_all self.old route.now.passed.items
+            (name_of name.entry) symbol) }
         ensures goes { Goes self.old self.new }
     {
         for scope in route.passed.as_slice() {
@@ -180,7 +195,9 @@ impl<'a> Declared<'a> {
         requires target { target < length self.old.tables.scopes }
         requires scope { passed_symbol.now.scope < length self.old.tables.scopes }
         requires symbol { passed_symbol.now.symbol < length self.old.tables.symbols }
-        ensures made { OnOk result (self.new ≡ walked.hoisted_by self.old target (naming declaration.now) (Some (passed_symbol_of passed_symbol.now))) }
+        ensures made { OnOk result
+            (self.new ≡ walked.hoisted_by self.old target (naming declaration.now)
+            (Some (passed_symbol_of passed_symbol.now))) }
         ensures goes { Goes self.old self.new }
     {
         self.redeclare(passed_symbol.symbol, declaration)?;
@@ -201,8 +218,12 @@ impl<'a> Declared<'a> {
     ) -> Result<SymbolId, AllocError>
         requires route { IsRoute (length self.old.tables.scopes) route.now }
         requires room { length self.old.tables.symbols < u32.MAX }
-        ensures made { OnOk result (self.new ≡ hoisted self.old route.now.passed.items route.now.target (naming declaration.now)) }
-        ensures symbol { IfOk result (λ y. y ≡ symbol_hoisted self.old route.now.passed.items route.now.target (naming declaration.now)) }
+        ensures made { OnOk result
+            (self.new ≡ hoisted self.old route.now.passed.items route.now.target
+            (naming declaration.now)) }
+        ensures symbol { IfOk result
+            (λ y. y ≡ symbol_hoisted self.old route.now.passed.items route.now.target
+            (naming declaration.now)) }
         ensures goes { Goes self.old self.new }
         ensures within { IfOk result (λ y. y < length self.new.tables.symbols) }
     {
@@ -220,7 +241,9 @@ impl<'a> Declared<'a> {
     fn hoist(&mut self, route: &Route, declaration: &Declaration<'a>) -> Result<(), AllocError>
         requires route { IsRoute (length self.old.tables.scopes) route.now }
         requires room { length self.old.tables.symbols < u32.MAX }
-        ensures made { OnOk result (self.new ≡ walked.hoist self.old route.now.passed.items route.now.target (naming declaration.now)) }
+        ensures made { OnOk result
+            (self.new ≡ walked.hoist self.old route.now.passed.items route.now.target
+            (naming declaration.now)) }
         ensures goes { Goes self.old self.new }
     {
         let symbol = self.hoisted_symbol(route, declaration)?;
@@ -232,7 +255,8 @@ impl<'a> Declared<'a> {
     fn move_name(&mut self, name: Ident<'_>, from: ScopeId, to: ScopeId) -> Result<(), AllocError>
         requires from { from < length self.old.tables.scopes }
         requires to { to < length self.old.tables.scopes }
-        ensures made { OnOk result (self.new ≡ walked.move_name self.old (name_of name.entry) from to) }
+        ensures made { OnOk result
+            (self.new ≡ walked.move_name self.old (name_of name.entry) from to) }
         ensures goes { Goes self.old self.new }
     {
         match self.bound(from, name) {
@@ -252,7 +276,8 @@ impl<'a> Declared<'a> {
         requires block { block < length self.old.tables.scopes }
         requires target { target < length self.old.tables.scopes }
         requires symbol { symbol < length self.old.tables.symbols }
-        ensures made { OnOk result (self.new ≡ walked.move_out self.old block target symbol (name_of name.entry)) }
+        ensures made { OnOk result
+            (self.new ≡ walked.move_out self.old block target symbol (name_of name.entry)) }
         ensures goes { Goes self.old self.new }
     {
         match self.bound(target, name) {
@@ -277,7 +302,8 @@ impl<'a> Declared<'a> {
         requires block { block < length self.old.tables.scopes }
         requires target { target < length self.old.tables.scopes }
         requires room { length self.old.tables.symbols < u32.MAX }
-        ensures made { OnOk result (self.new ≡ walked.declare_and_move self.old block target (naming declaration.now)) }
+        ensures made { OnOk result
+            (self.new ≡ walked.declare_and_move self.old block target (naming declaration.now)) }
         ensures goes { Goes self.old self.new }
     {
         let symbol = self.symbol_in(block, declaration)?;
@@ -296,7 +322,9 @@ impl<'a> Declared<'a> {
     ) -> Result<(), AllocError>
         requires route { IsRoute (length self.old.tables.scopes) route.now }
         requires room { length self.old.tables.symbols < u32.MAX }
-        ensures made { OnOk result (self.new ≡ walked.hoist self.old route.now.passed.items route.now.target (named_by node.entry.node.now row is_pure name.entry.node.now)) }
+        ensures made { OnOk result
+            (self.new ≡ walked.hoist self.old route.now.passed.items route.now.target
+            (named_by node.entry.node.now row is_pure name.entry.node.now)) }
         ensures goes { Goes self.old self.new }
     {
         let declaration = Declaration::new(node, name, row, is_pure);
@@ -316,7 +344,9 @@ impl<'a> Declared<'a> {
         requires block { block < length self.old.tables.scopes }
         requires target { target < length self.old.tables.scopes }
         requires room { length self.old.tables.symbols < u32.MAX }
-        ensures made { OnOk result (self.new ≡ walked.declare_and_move self.old block target (named_by node.entry.node.now row is_pure name.entry.node.now)) }
+        ensures made { OnOk result
+            (self.new ≡ walked.declare_and_move self.old block target
+            (named_by node.entry.node.now row is_pure name.entry.node.now)) }
         ensures goes { Goes self.old self.new }
     {
         let declaration = Declaration::new(node, name, row, is_pure);

@@ -35,8 +35,11 @@ impl<'a> Declared<'a> {
         is_pure: bool,
     ) -> Result<(), AllocError>
         requires scope { scope < length self.old.tables.scopes }
-        requires room { length self.old.tables.symbols + length (bound_names part.node.now) ≤ u32.MAX }
-        ensures made { OnOk result (self.new ≡ each.declare_each self.old scope (map (named_by node.entry.node.now row is_pure) (bound_names part.entry.node.now))) }
+        requires room { length self.old.tables.symbols + length (bound_names part.node.now)
+            ≤ u32.MAX }
+        ensures made { OnOk result
+            (self.new ≡ each.declare_each self.old scope
+            (map (named_by node.entry.node.now row is_pure) (bound_names part.entry.node.now))) }
         ensures goes { Goes self.old self.new }
     {
         let names = bound_identifiers(self.alloc, part)?;
@@ -54,7 +57,9 @@ impl<'a> Declared<'a> {
     ) -> Result<(), AllocError>
         requires scope { scope < length self.old.tables.scopes }
         requires room { length self.old.tables.symbols + length names.now ≤ u32.MAX }
-        ensures made { OnOk result (self.new ≡ each.declare_each self.old scope (map (named_by node.entry.node.now row is_pure) names.now)) }
+        ensures made { OnOk result
+            (self.new ≡ each.declare_each self.old scope
+            (map (named_by node.entry.node.now row is_pure) names.now)) }
         ensures goes { Goes self.old self.new }
     {
         for name in names.iter() {
@@ -72,8 +77,11 @@ impl<'a> Declared<'a> {
         row: Row,
     ) -> Result<(), AllocError>
         requires scope { scope < length self.old.tables.scopes }
-        requires room { length self.old.tables.symbols + length (names_at role node.node.now) ≤ u32.MAX }
-        ensures made { OnOk result (self.new ≡ each.declare_each self.old scope (map (named_by node.entry.node.now row false) (names_at role node.entry.node.now))) }
+        requires room { length self.old.tables.symbols + length (names_at role node.node.now)
+            ≤ u32.MAX }
+        ensures made { OnOk result
+            (self.new ≡ each.declare_each self.old scope
+            (map (named_by node.entry.node.now row false) (names_at role node.entry.node.now))) }
         ensures goes { Goes self.old self.new }
     {
         for part in node.children(role) {
@@ -92,8 +100,11 @@ impl<'a> Declared<'a> {
         is_pure: bool,
     ) -> Result<(), AllocError>
         requires route { IsRoute (length self.old.tables.scopes) route.now }
-        requires room { length self.old.tables.symbols + length (bound_names part.node.now) ≤ u32.MAX }
-        ensures made { OnOk result (self.new ≡ each.hoist_each self.old route.now.passed.items route.now.target (map (named_by node.entry.node.now row is_pure) (bound_names part.entry.node.now))) }
+        requires room { length self.old.tables.symbols + length (bound_names part.node.now)
+            ≤ u32.MAX }
+        ensures made { OnOk result
+            (self.new ≡ each.hoist_each self.old route.now.passed.items route.now.target
+            (map (named_by node.entry.node.now row is_pure) (bound_names part.entry.node.now))) }
         ensures goes { Goes self.old self.new }
     {
         let names = bound_identifiers(self.alloc, part)?;
@@ -111,7 +122,9 @@ impl<'a> Declared<'a> {
     ) -> Result<(), AllocError>
         requires route { IsRoute (length self.old.tables.scopes) route.now }
         requires room { length self.old.tables.symbols + length names.now ≤ u32.MAX }
-        ensures made { OnOk result (self.new ≡ each.hoist_each self.old route.now.passed.items route.now.target (map (named_by node.entry.node.now row is_pure) names.now)) }
+        ensures made { OnOk result
+            (self.new ≡ each.hoist_each self.old route.now.passed.items route.now.target
+            (map (named_by node.entry.node.now row is_pure) names.now)) }
         ensures goes { Goes self.old self.new }
     {
         for name in names.iter() {
@@ -134,7 +147,9 @@ impl<'a> Declared<'a> {
         requires block { block < length self.old.tables.scopes }
         requires target { IfSome target (λ s. s < length self.old.tables.scopes) }
         requires room { length self.old.tables.symbols < u32.MAX }
-        ensures made { OnOk result (self.new ≡ each.settle_in_block self.old block target (named_by node.entry.node.now row is_pure name.entry.node.now)) }
+        ensures made { OnOk result
+            (self.new ≡ each.settle_in_block self.old block target
+            (named_by node.entry.node.now row is_pure name.entry.node.now)) }
         ensures goes { Goes self.old self.new }
     {
         match target {
@@ -152,7 +167,9 @@ impl<'a> Declared<'a> {
     ) -> Result<(), AllocError>
         requires scope { scope < length self.old.tables.scopes }
         requires room { length self.old.tables.symbols < u32.MAX }
-        ensures made { OnOk result (self.new ≡ declare_anew self.old scope (caught_naming parameter.entry.node.now name.entry.node.now)) }
+        ensures made { OnOk result
+            (self.new ≡ declare_anew self.old scope
+            (caught_naming parameter.entry.node.now name.entry.node.now)) }
         ensures goes { Goes self.old self.new }
     {
         let declaration = Declaration::new(parameter, name, caught_row(), false);
@@ -168,8 +185,11 @@ impl<'a> Declared<'a> {
         scope: ScopeId,
     ) -> Result<(), AllocError>
         requires scope { scope < length self.old.tables.scopes }
-        requires room { length self.old.tables.symbols + length (bound_names pattern.node.now) ≤ u32.MAX }
-        ensures made { OnOk result (self.new ≡ each.declare_pattern self.old scope parameter.entry.node.now pattern.entry.node.now) }
+        requires room { length self.old.tables.symbols + length (bound_names pattern.node.now)
+            ≤ u32.MAX }
+        ensures made { OnOk result
+            (self.new ≡ each.declare_pattern self.old scope parameter.entry.node.now
+            pattern.entry.node.now) }
         ensures goes { Goes self.old self.new }
     {
         if pattern.ty() == AstType::BindingIdentifier {
@@ -186,8 +206,11 @@ impl<'a> Declared<'a> {
         scope: ScopeId,
     ) -> Result<(), AllocError>
         requires scope { scope < length self.old.tables.scopes }
-        requires room { length self.old.tables.symbols + length (flat_map bound_names (all_in pattern_role parameter.node.now)) ≤ u32.MAX }
-        ensures made { OnOk result (self.new ≡ each.declare_patterns self.old scope parameter.entry.node.now (all_in pattern_role parameter.entry.node.now)) }
+        requires room { length self.old.tables.symbols + length
+            (flat_map bound_names (all_in pattern_role parameter.node.now)) ≤ u32.MAX }
+        ensures made { OnOk result
+            (self.new ≡ each.declare_patterns self.old scope parameter.entry.node.now
+            (all_in pattern_role parameter.entry.node.now)) }
         ensures goes { Goes self.old self.new }
     {
         for pattern in parameter.children(Role::Pattern) {
@@ -203,7 +226,8 @@ impl<'a> Declared<'a> {
         requires body { body < length self.old.tables.scopes }
         requires apart { (clause == body) ≡ false }
         requires empty { bindings_of self.old.tables body ≡ [] }
-        ensures made { OnOk result (self.new ≡ record self.old { tables = taken_over self.old.tables clause body }) }
+        ensures made { OnOk result
+            (self.new ≡ record self.old { tables = taken_over self.old.tables clause body }) }
         ensures goes { Goes self.old self.new }
     {
         self.scoping.take_over_bindings(clause, body)?;
@@ -220,7 +244,9 @@ impl<'a> Declared<'a> {
     ) -> Result<(), AllocError>
         requires scope { scope < length self.old.tables.scopes }
         requires room { length self.old.tables.symbols < u32.MAX }
-        ensures made { OnOk result (self.new ≡ declare self.old scope (member_naming member.entry.node.now id.entry.node.now named.entry.node.now)) }
+        ensures made { OnOk result
+            (self.new ≡ declare self.old scope
+            (member_naming member.entry.node.now id.entry.node.now named.entry.node.now)) }
         ensures goes { Goes self.old self.new }
     {
         let declaration = Declaration::of_member(member, id, named, member_row());
@@ -235,8 +261,12 @@ impl<'a> Declared<'a> {
         scope: ScopeId,
     ) -> Result<(), AllocError>
         requires scope { scope < length self.old.tables.scopes }
-        requires room { length self.old.tables.symbols + length (filter (is template_element) (all_in quasis_role id.node.now)) ≤ u32.MAX }
-        ensures made { OnOk result (self.new ≡ each.declare_each self.old scope (map (member_naming member.entry.node.now id.entry.node.now) (filter (is template_element) (all_in quasis_role id.entry.node.now)))) }
+        requires room { length self.old.tables.symbols + length
+            (filter (is template_element) (all_in quasis_role id.node.now)) ≤ u32.MAX }
+        ensures made { OnOk result
+            (self.new ≡ each.declare_each self.old scope
+            (map (member_naming member.entry.node.now id.entry.node.now)
+            (filter (is template_element) (all_in quasis_role id.entry.node.now)))) }
         ensures goes { Goes self.old self.new }
     {
         for piece in id.children(Role::Quasis) {
@@ -255,8 +285,12 @@ impl<'a> Declared<'a> {
         scope: ScopeId,
     ) -> Result<(), AllocError>
         requires scope { scope < length self.old.tables.scopes }
-        requires room { length self.old.tables.symbols + length (member_names id.node.now) ≤ u32.MAX }
-        ensures made { OnOk result (self.new ≡ each.declare_each self.old scope (map (member_naming member.entry.node.now id.entry.node.now) (member_names id.entry.node.now))) }
+        requires room { length self.old.tables.symbols + length (member_names id.node.now)
+            ≤ u32.MAX }
+        ensures made { OnOk result
+            (self.new ≡ each.declare_each self.old scope
+            (map (member_naming member.entry.node.now id.entry.node.now)
+            (member_names id.entry.node.now))) }
         ensures goes { Goes self.old self.new }
     {
         match id.ty() {
@@ -271,8 +305,11 @@ impl<'a> Declared<'a> {
     /// A member of an enum declares its name, which is its id's text.
     pub fn declare_member(&mut self, member: AstKind<'a>, scope: ScopeId) -> Result<(), AllocError>
         requires scope { scope < length self.old.tables.scopes }
-        requires room { length self.old.tables.symbols + length (flat_map member_names (all_in id_role member.node.now)) ≤ u32.MAX }
-        ensures made { OnOk result (self.new ≡ each.declare_members self.old scope member.entry.node.now (all_in id_role member.entry.node.now)) }
+        requires room { length self.old.tables.symbols + length
+            (flat_map member_names (all_in id_role member.node.now)) ≤ u32.MAX }
+        ensures made { OnOk result
+            (self.new ≡ each.declare_members self.old scope member.entry.node.now
+            (all_in id_role member.entry.node.now)) }
         ensures goes { Goes self.old self.new }
     {
         for id in member.children(Role::Id) {

@@ -24,7 +24,9 @@ impl<'a> Declared<'a> {
         flags: ScopeFlags,
     ) -> Result<ScopeId, AllocError>
         requires { length self.old.tables.scopes < u32.MAX }
-        ensures made { OnOk result (self.new ≡ walked.open_in self.old None root.entry.node.now.node_id (length self.old.tables.scopes) flags.bits) }
+        ensures made { OnOk result
+            (self.new ≡ walked.open_in self.old None root.entry.node.now.node_id
+            (length self.old.tables.scopes) flags.bits) }
         ensures number { IfOk result (λ s. s ≡ length self.old.tables.scopes) }
         ensures goes { Goes self.old self.new }
         ensures within { IfOk result (λ s. s < length self.new.tables.scopes) }
@@ -43,7 +45,9 @@ impl<'a> Declared<'a> {
     ) -> Result<ScopeId, AllocError>
         requires outer { outer < length self.old.tables.scopes }
         requires room { length self.old.tables.scopes < u32.MAX }
-        ensures made { OnOk result (self.new ≡ walked.open_in self.old (Some outer) kind.entry.node.now.node_id (length self.old.tables.scopes) flags.bits) }
+        ensures made { OnOk result
+            (self.new ≡ walked.open_in self.old (Some outer) kind.entry.node.now.node_id
+            (length self.old.tables.scopes) flags.bits) }
         ensures number { IfOk result (λ s. s ≡ length self.old.tables.scopes) }
         ensures goes { Goes self.old self.new }
         ensures within { IfOk result (λ s. s < length self.new.tables.scopes) }
@@ -56,7 +60,9 @@ impl<'a> Declared<'a> {
     /// The flags, strict where the outer scope is (ECMAScript 11.2.2, Strict Mode Code).
     fn flags_within(&self, outer: ScopeId, flags: ScopeFlags) -> ScopeFlags
         requires { outer < length self.now.tables.scopes }
-        ensures { result.bits ≡ union flags.bits (strict_if (meets (scope_of self.now.tables outer).flags.bits scope_flag.StrictMode.bits)) }
+        ensures { result.bits ≡ union flags.bits
+            (strict_if (meets (scope_of self.now.tables outer).flags.bits
+            scope_flag.StrictMode.bits)) }
     {
         let strict = if self.scoping.scope_flags(outer).is_strict_mode() {
             ScopeFlags::StrictMode
@@ -75,7 +81,11 @@ impl<'a> Declared<'a> {
     ) -> Result<ScopeId, AllocError>
         requires outer { outer < length self.old.tables.scopes }
         requires room { length self.old.tables.scopes < u32.MAX }
-        ensures made { OnOk result (self.new ≡ walked.open_in self.old (Some outer) kind.entry.node.now.node_id (length self.old.tables.scopes) (union flags.bits (strict_if (meets (scope_of self.old.tables outer).flags.bits scope_flag.StrictMode.bits)))) }
+        ensures made { OnOk result
+            (self.new ≡ walked.open_in self.old (Some outer) kind.entry.node.now.node_id
+            (length self.old.tables.scopes)
+            (union flags.bits (strict_if
+            (meets (scope_of self.old.tables outer).flags.bits scope_flag.StrictMode.bits)))) }
         ensures number { IfOk result (λ s. s ≡ length self.old.tables.scopes) }
         ensures goes { Goes self.old self.new }
         ensures within { IfOk result (λ s. s < length self.new.tables.scopes) }
@@ -92,7 +102,9 @@ impl<'a> Declared<'a> {
         way: ReferenceFlags,
     ) -> Result<ReferenceId, AllocError>
         requires { length self.old.tables.references < u32.MAX }
-        ensures made { OnOk result (self.new ≡ walked.with_reference_at self.old kind.entry.node.now.node_id scope way.bits) }
+        ensures made { OnOk result
+            (self.new ≡ walked.with_reference_at self.old kind.entry.node.now.node_id scope
+            way.bits) }
         ensures number { IfOk result (λ r. r ≡ length self.old.tables.references) }
         ensures goes { Goes self.old self.new }
     {
@@ -111,7 +123,9 @@ impl<'a> Declared<'a> {
     ) -> Result<(), AllocError>
         requires scope { scope < length self.old.tables.scopes }
         requires room { length self.old.tables.references < u32.MAX }
-        ensures made { OnOk result (self.new ≡ walked.refer_to self.old kind.entry.node.now.node_id kind.entry.node.now.text scope way.bits) }
+        ensures made { OnOk result
+            (self.new ≡ walked.refer_to self.old kind.entry.node.now.node_id
+            kind.entry.node.now.text scope way.bits) }
         ensures goes { Goes self.old self.new }
     {
         let id = self.add_reference(kind, scope, way)?;
@@ -135,7 +149,9 @@ impl<'a> Declared<'a> {
     /// Notes a call of `eval` in the scope around the scope, if there is one.
     fn add_eval_around(&mut self, scope: ScopeId)
         requires { scope < length self.old.tables.scopes }
-        ensures made { self.new ≡ option_map_or (walked.add_eval self.old) (scope_of self.old.tables scope).parent self.old }
+        ensures made { self.new
+            ≡ option_map_or (walked.add_eval self.old)
+            (scope_of self.old.tables scope).parent self.old }
         ensures goes { Goes self.old self.new }
     {
         match self.parent(scope) {

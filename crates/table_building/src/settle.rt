@@ -22,7 +22,8 @@ impl<'a> Declared<'a> {
     fn tie(&mut self, reference: ReferenceId, symbol: SymbolId) -> Result<(), AllocError>
         requires reference { reference < length self.old.tables.references }
         requires symbol { symbol < length self.old.tables.symbols }
-        ensures made { OnOk result (self.new ≡ record self.old { tables = walked.tie self.old.tables reference symbol }) }
+        ensures made { OnOk result
+            (self.new ≡ record self.old { tables = walked.tie self.old.tables reference symbol }) }
         ensures grows { Grows self.old.tables self.new.tables }
     {
         let symbol_flags = self.scoping.symbol_flags(symbol);
@@ -40,7 +41,9 @@ impl<'a> Declared<'a> {
     /// The reference stands last in the free list of its name.
     fn set_free(&mut self, entry: &UnresolvedReference<'_>) -> Result<(), AllocError>
         requires { entry.now.reference_id < length self.old.tables.references }
-        ensures made { OnOk result (self.new ≡ record self.old { tables = walked.set_free self.old.tables (pending_of entry.now) }) }
+        ensures made { OnOk result
+            (self.new
+            ≡ record self.old { tables = walked.set_free self.old.tables (pending_of entry.now) }) }
         ensures grows { Grows self.old.tables self.new.tables }
     {
         self.scoping
@@ -55,8 +58,14 @@ impl<'a> Declared<'a> {
         outcome: Outcome,
     ) -> Result<(), AllocError>
         requires reference { entry.now.reference_id < length self.old.tables.references }
-        requires outcome { IsOutcomeWithin (length self.old.tables.symbols) (length self.old.tables.scopes) (outcome_of outcome) }
-        ensures made { OnOk result (self.new ≡ record self.old { tables = walked.settle_one self.old.tables (pending_of entry.now) (outcome_of outcome) }) }
+        requires outcome { IsOutcomeWithin (length self.old.tables.symbols)
+            (length self.old.tables.scopes) (outcome_of outcome) }
+        ensures made { OnOk result
+            (self.new
+            ≡ record self.old {
+              tables = walked.settle_one self.old.tables (pending_of entry.now)
+                  (outcome_of outcome);
+            }) }
         ensures grows { Grows self.old.tables self.new.tables }
     {
         match outcome {
@@ -69,8 +78,14 @@ impl<'a> Declared<'a> {
     /// Gives the reference at the position its outcome.
     fn settle_at(&mut self, position: usize, outcome: Outcome) -> Result<(), AllocError>
         requires position { position < length self.old.waiting }
-        requires outcome { IsOutcomeWithin (length self.old.tables.symbols) (length self.old.tables.scopes) (outcome_of outcome) }
-        ensures made { OnOk result (self.new ≡ record self.old { tables = walked.settle_one self.old.tables (slice_index_or self.old.waiting position no_pending) (outcome_of outcome) }) }
+        requires outcome { IsOutcomeWithin (length self.old.tables.symbols)
+            (length self.old.tables.scopes) (outcome_of outcome) }
+        ensures made { OnOk result
+            (self.new
+            ≡ record self.old {
+              tables = walked.settle_one self.old.tables
+                  (slice_index_or self.old.waiting position no_pending) (outcome_of outcome);
+            }) }
         ensures grows { Grows self.old.tables self.new.tables }
     {
         match self.pending.get(position) {
@@ -82,8 +97,15 @@ impl<'a> Declared<'a> {
     /// Gives the references from the position `start` on their outcomes, in the tables.
     fn settle_all(&mut self, start: usize, outcomes: &Outcomes) -> Result<(), AllocError>
         requires count { start + length outcomes.now ≡ length self.old.waiting }
-        requires outcomes { All (λ o. IsOutcomeWithin (length self.old.tables.symbols) (length self.old.tables.scopes) (outcome_of o)) outcomes.now }
-        ensures made { OnOk result (self.new ≡ record self.old { tables = walked.settle self.old.tables (drop start self.old.waiting) (map outcome_of outcomes.now) }) }
+        requires outcomes { All (λ o.
+            IsOutcomeWithin (length self.old.tables.symbols) (length self.old.tables.scopes)
+            (outcome_of o)) outcomes.now }
+        ensures made { OnOk result
+            (self.new
+            ≡ record self.old {
+              tables = walked.settle self.old.tables (drop start self.old.waiting)
+                  (map outcome_of outcomes.now);
+            }) }
         ensures grows { Grows self.old.tables self.new.tables }
     {
         let items = outcomes.as_slice();
@@ -96,8 +118,11 @@ impl<'a> Declared<'a> {
     /// Gives the references from the position `start` on their outcomes.
     fn settle(&mut self, start: usize, outcomes: &Outcomes) -> Result<(), AllocError>
         requires count { start + length outcomes.now ≡ length self.old.waiting }
-        requires outcomes { All (λ o. IsOutcomeWithin (length self.old.tables.symbols) (length self.old.tables.scopes) (outcome_of o)) outcomes.now }
-        ensures made { OnOk result (self.new ≡ settled_from self.old start (map outcome_of outcomes.now)) }
+        requires outcomes { All (λ o.
+            IsOutcomeWithin (length self.old.tables.symbols) (length self.old.tables.scopes)
+            (outcome_of o)) outcomes.now }
+        ensures made { OnOk result
+            (self.new ≡ settled_from self.old start (map outcome_of outcomes.now)) }
         ensures grows { Grows self.old.tables self.new.tables }
         ensures waiting { OnOk result (start ≤ length self.new.waiting) }
     {
@@ -115,12 +140,19 @@ impl<'a> Declared<'a> {
     ) -> Result<Outcomes, AllocError>
         requires scope { scope < length self.now.tables.scopes }
         requires start { start ≤ length self.now.waiting }
-        ensures outcomes { IfOk result (λ o. map outcome_of o ≡ map (header_outcome (source_of self.now.tables) scope) (drop start self.now.waiting)) }
-        ensures within { IfOk result (All (λ o. IsOutcomeWithin (length self.now.tables.symbols) (length self.now.tables.scopes) (outcome_of o))) }
+        ensures outcomes { IfOk result
+            (λ o. map outcome_of o
+            ≡ map (header_outcome (source_of self.now.tables) scope)
+            (drop start self.now.waiting)) }
+        ensures within { IfOk result
+            (All (λ o. IsOutcomeWithin (length self.now.tables.symbols)
+            (length self.now.tables.scopes) (outcome_of o))) }
         ensures count { IfOk result (λ o. start + length o ≡ length self.now.waiting) }
-        ensures cost { OnOk result (steps.new ≡ raised steps.old (probes_from self.now start scope)) }
+        ensures cost { OnOk result
+            (steps.new ≡ raised steps.old (probes_from self.now start scope)) }
         ensures risen { steps.old ≤ steps.new }
-        ensures given_up { OnErr result (steps.new ≤ raised steps.old (probes_from self.now start scope)) }
+        ensures given_up { OnErr result
+            (steps.new ≤ raised steps.old (probes_from self.now start scope)) }
     {
         self.scoping.attest();
         resolve_header(
@@ -135,12 +167,20 @@ impl<'a> Declared<'a> {
 
     /// What becomes, in the end, of the references that wait.
     fn last_outcomes<L>(&self, steps: &mut Steps<L>) -> Result<Outcomes, AllocError>
-        ensures outcomes { IfOk result (λ o. map outcome_of o ≡ map (last_outcome (source_of self.now.tables)) self.now.waiting) }
-        ensures within { IfOk result (All (λ o. IsOutcomeWithin (length self.now.tables.symbols) (length self.now.tables.scopes) (outcome_of o))) }
+        ensures outcomes { IfOk result
+            (λ o. map outcome_of o
+            ≡ map (last_outcome (source_of self.now.tables)) self.now.waiting) }
+        ensures within { IfOk result
+            (All (λ o. IsOutcomeWithin (length self.now.tables.symbols)
+            (length self.now.tables.scopes) (outcome_of o))) }
         ensures count { IfOk result (λ o. length o ≡ length self.now.waiting) }
-        ensures cost { OnOk result (steps.new ≡ raised steps.old (sum_by (last_probes (source_of self.now.tables)) self.now.waiting)) }
+        ensures cost { OnOk result
+            (steps.new ≡ raised steps.old
+            (sum_by (last_probes (source_of self.now.tables)) self.now.waiting)) }
         ensures risen { steps.old ≤ steps.new }
-        ensures given_up { OnErr result (steps.new ≤ raised steps.old (sum_by (last_probes (source_of self.now.tables)) self.now.waiting)) }
+        ensures given_up { OnErr result
+            (steps.new ≤ raised steps.old
+            (sum_by (last_probes (source_of self.now.tables)) self.now.waiting)) }
     {
         self.scoping.attest();
         resolve_all(self.alloc, &self.pending, &self.scoping, steps)
@@ -160,13 +200,19 @@ impl<'a> Declared<'a> {
     ) -> Result<(), AllocError>
         requires scope { scope < length self.old.tables.scopes }
         requires start { start ≤ length self.old.waiting }
-        ensures made { OnOk result (self.new ≡ settled_from self.old start (map (header_outcome (source_of self.old.tables) scope) (drop start self.old.waiting))) }
-        ensures whole { AreOutside (source_of self.old.tables) scope (take start self.old.waiting) → OnOk result (self.new ≡ walked.end_header self.old scope) }
+        ensures made { OnOk result
+            (self.new ≡ settled_from self.old start
+            (map (header_outcome (source_of self.old.tables) scope)
+            (drop start self.old.waiting))) }
+        ensures whole { AreOutside (source_of self.old.tables) scope (take start self.old.waiting)
+            → OnOk result (self.new ≡ walked.end_header self.old scope) }
         ensures grows { Grows self.old.tables self.new.tables }
         ensures waiting { OnOk result (start ≤ length self.new.waiting) }
-        ensures cost { OnOk result (steps.new ≡ raised steps.old (probes_from self.old start scope)) }
+        ensures cost { OnOk result
+            (steps.new ≡ raised steps.old (probes_from self.old start scope)) }
         ensures risen { steps.old ≤ steps.new }
-        ensures given_up { OnErr result (steps.new ≤ raised steps.old (probes_from self.old start scope)) }
+        ensures given_up { OnErr result
+            (steps.new ≤ raised steps.old (probes_from self.old start scope)) }
     {
         let outcomes = self.header_outcomes(scope, start, steps)?;
         self.settle(start, &outcomes)
@@ -178,9 +224,13 @@ impl<'a> Declared<'a> {
     pub fn settle_rest<L>(&mut self, steps: &mut Steps<L>) -> Result<(), AllocError>
         ensures made { OnOk result (self.new ≡ walked.settle_rest self.old) }
         ensures grows { Grows self.old.tables self.new.tables }
-        ensures cost { OnOk result (steps.new ≡ raised steps.old (sum_by (last_probes (source_of self.old.tables)) self.old.waiting)) }
+        ensures cost { OnOk result
+            (steps.new ≡ raised steps.old
+            (sum_by (last_probes (source_of self.old.tables)) self.old.waiting)) }
         ensures risen { steps.old ≤ steps.new }
-        ensures given_up { OnErr result (steps.new ≤ raised steps.old (sum_by (last_probes (source_of self.old.tables)) self.old.waiting)) }
+        ensures given_up { OnErr result
+            (steps.new ≤ raised steps.old
+            (sum_by (last_probes (source_of self.old.tables)) self.old.waiting)) }
     {
         let outcomes = self.last_outcomes(steps)?;
         self.settle(0, &outcomes)

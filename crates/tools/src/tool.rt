@@ -90,7 +90,8 @@ impl Tool {
         out: &mut K,
         errs: &mut E,
     ) -> ToolStatus
-        ensures { IsRunOf self (source_call S.left S.faults source.old source.new) (sink_call K.held K.faults out.old out.new)
+        ensures { IsRunOf self (source_call S.left S.faults source.old source.new)
+            (sink_call K.held K.faults out.old out.new)
             (sink_call E.held E.faults errs.old errs.new) words.now result }
     {
         match self {

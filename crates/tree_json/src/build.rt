@@ -45,9 +45,11 @@ fn node_of(
     place: &mut usize,
 ) -> Result<Node, AllocError>
     requires { Continues (row.now.depth + 1) (map line (drop place.old rows.now)) }
-    ensures lines { IfOk result (λ node. node_lines row.now.depth row.now.role node ++ map line (drop place.new rows.now)
+    ensures lines { IfOk result
+        (λ node. node_lines row.now.depth row.now.role node ++ map line (drop place.new rows.now)
         ≡ line row.now ∷ map line (drop place.old rows.now)) }
-    ensures rest { OnOk result (Continues (row.now.depth + 1) (map line (drop place.new rows.now))) }
+    ensures rest { OnOk result (Continues (row.now.depth + 1)
+        (map line (drop place.new rows.now))) }
     ensures end { OnOk result (Ends (row.now.depth + 1) (map line (drop place.new rows.now))) }
     ensures forward { OnOk result (place.old ≤ place.new) }
 {

@@ -28,7 +28,8 @@ pub(crate) fn spell(text: &str)
 
 /// The texts of the rows, each once, in order of first use.
 pub(crate) fn texts_of<'a>(alloc: Global, rows: &[Row<'a>]) -> Result<IndexSet<&'a str>, AllocError>
-    ensures texts { IfOk result (λ texts. map characters texts.keys ≡ texts_from [] (map line rows.now)) }
+    ensures texts { IfOk result
+        (λ texts. map characters texts.keys ≡ texts_from [] (map line rows.now)) }
     ensures spelled { IfOk result (λ texts. Each IsSpelled texts.keys) }
 {
     let mut texts = IndexSet::new(alloc);

@@ -21,7 +21,8 @@ use std::alloc::{AllocError, Global};
 /// The next value, if it has the form of a row that tells its own text.
 #[inline(always)]
 fn take_row<'a>(reader: &mut Reader<'a>) -> Option<Row<'a>>
-    ensures { IfSome result (λ row. Pulls (line_of_data in_rows) 2 reader.old (line row) reader.new) }
+    ensures { IfSome result (λ row.
+        Pulls (line_of_data in_rows) 2 reader.old (line row) reader.new) }
 {
     open_array(reader)?;
     let head = take_head(reader)?;
@@ -72,7 +73,8 @@ fn take_marks(reader: &mut Reader<'_>) -> Option<Marks>
 /// Marks, none twice, up to the bracket that closes their list.
 #[inline(always)]
 fn rest_of_marks(reader: &mut Reader<'_>) -> Option<Marks>
-    ensures { IfSome result (λ marks. PullsItems (marks_from no_marks) 0 reader.old marks reader.new) }
+    ensures { IfSome result (λ marks.
+        PullsItems (marks_from no_marks) 0 reader.old marks reader.new) }
 {
     let mut marks = Marks::empty();
     'marks: while !reader.take_end_array() {
@@ -92,7 +94,8 @@ pub(crate) fn take_rows<'a>(
     room: usize,
 ) -> Result<Option<Vec<Row<'a>>>, AllocError>
     ensures { IfOk result (λ o. IfSome o
-        (λ rows. Pulls (of_list (all_items (line_of_data in_rows))) 3 reader.old (map line rows.items) reader.new)) }
+        (λ rows. Pulls (of_list (all_items (line_of_data in_rows))) 3 reader.old
+        (map line rows.items) reader.new)) }
 {
     if open_array(reader).is_none() {
         return Ok(None);
@@ -107,7 +110,8 @@ fn rest_of_rows<'a>(
     room: usize,
 ) -> Result<Option<Vec<Row<'a>>>, AllocError>
     ensures { IfOk result (λ o. IfSome o
-        (λ rows. PullsItems (all_items (line_of_data in_rows)) 2 reader.old (map line rows.items) reader.new)) }
+        (λ rows. PullsItems (all_items (line_of_data in_rows)) 2 reader.old
+        (map line rows.items) reader.new)) }
 {
     let mut rows = Vec::with_capacity(alloc, room)?;
     'rows: while !reader.take_end_array() {
@@ -136,7 +140,8 @@ pub(crate) fn take_comments(
     reader: &mut Reader<'_>,
 ) -> Result<Option<Vec<Comment>>, AllocError>
     ensures { IfOk result (λ o. IfSome o
-        (λ comments. Pulls (of_list (all_items comment_of_data)) 2 reader.old comments.items reader.new)) }
+        (λ comments. Pulls (of_list (all_items comment_of_data)) 2 reader.old comments.items
+        reader.new)) }
 {
     if open_array(reader).is_none() {
         return Ok(None);
@@ -150,7 +155,8 @@ fn rest_of_comments(
     reader: &mut Reader<'_>,
 ) -> Result<Option<Vec<Comment>>, AllocError>
     ensures { IfOk result (λ o. IfSome o
-        (λ comments. PullsItems (all_items comment_of_data) 1 reader.old comments.items reader.new)) }
+        (λ comments. PullsItems
+        (all_items comment_of_data) 1 reader.old comments.items reader.new)) }
 {
     let mut comments = Vec::new(alloc);
     'comments: while !reader.take_end_array() {

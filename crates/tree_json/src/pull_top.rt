@@ -54,7 +54,8 @@ pub(crate) fn take_top<'a>(
 
 /// The brace, and the key of the comments.
 fn open_member(reader: &mut Reader<'_>) -> Option<()>
-    ensures { OnSome result (reader.old ≡ token.begin_object ∷ token.key (codes "comments") ∷ reader.new) }
+    ensures { OnSome result (reader.old
+        ≡ token.begin_object ∷ token.key (codes "comments") ∷ reader.new) }
 {
     open_object(reader)?;
     take_key(reader, "comments")
@@ -62,7 +63,8 @@ fn open_member(reader: &mut Reader<'_>) -> Option<()>
 
 /// The string that is the member of this key.
 fn take_word<'a>(reader: &mut Reader<'a>, name: &str) -> Option<&'a str>
-    ensures { IfSome result (λ s. reader.old ≡ token.key name.now ∷ token.string s.now ∷ reader.new) }
+    ensures { IfSome result (λ s. reader.old
+        ≡ token.key name.now ∷ token.string s.now ∷ reader.new) }
 {
     take_key(reader, name)?;
     take_string(reader)
@@ -84,7 +86,8 @@ fn take_type(reader: &mut Reader<'_>) -> Option<SourceType>
 
 /// The last member, which is the source.
 fn take_source<'a>(reader: &mut Reader<'a>) -> Option<&'a str>
-    ensures { IfSome result (λ s. reader.old ≡ token.key (codes "source") ∷ token.string s.now ∷ token.end_object ∷ []) }
+    ensures { IfSome result (λ s. reader.old
+        ≡ token.key (codes "source") ∷ token.string s.now ∷ token.end_object ∷ []) }
 {
     let source = take_word(reader, "source")?;
     close_text(reader)?;

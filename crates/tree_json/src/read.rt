@@ -96,7 +96,9 @@ fn parts_at_once(alloc: Global, bytes: &[u8]) -> Result<Option<Parts>, AllocErro
 
 /// The parts that what was pulled says, if it is within the limits and its rows list a tree.
 fn parts_of_pulled(alloc: Global, top: Pulled<'_>) -> Result<Option<Parts>, AllocError>
-    ensures { IfOk result (λ o. IfSome o (λ parts. (d : Data) → IsPulled d top.entry → listed_in d ≡ Ok (parts_view parts))) }
+    ensures { IfOk result (λ o.
+        IfSome o (λ parts. (d : Data) → IsPulled d top.entry
+        → listed_in d ≡ Ok (parts_view parts))) }
 {
     if lists_tree(&top) {
         Ok(Some(parts_listed(alloc, top)?))
@@ -109,7 +111,8 @@ fn parts_of_pulled(alloc: Global, top: Pulled<'_>) -> Result<Option<Parts>, Allo
 fn lists_tree(top: &Pulled<'_>) -> bool
     ensures some { IsTrue result → 0 < length top.now.rows.items }
     ensures few { IsTrue result
-        → are_too_many (length top.now.rows.items) (length top.now.comments.items) (chars top.now.source.now) ≡ false }
+        → are_too_many (length top.now.rows.items) (length top.now.comments.items)
+        (chars top.now.source.now) ≡ false }
     ensures listed { IsTrue result → IsListing (map line top.now.rows.items)
         × (shallow_from 0 (map line top.now.rows.items) ≡ Ok tt) }
 {
@@ -142,7 +145,12 @@ fn parts_with(
     root: Node,
 ) -> Result<Parts, AllocError>
     ensures { IfOk result (λ parts. parts_view parts
-        ≡ record { source = chars source.now; source_type = source_type; comments = comments.items; lines = listing root }) }
+        ≡ record {
+          source = chars source.now;
+          source_type = source_type;
+          comments = comments.items;
+          lines = listing root;
+        }) }
 {
     let source = Text::new(alloc, source)?;
     Ok(Parts {
@@ -158,7 +166,8 @@ fn program_of(alloc: Global, parts: Parts) -> Result<Program, TreeError>
     ensures read { IfOk result (λ p. listed p ≡ parts_view parts) }
     ensures numbered { IfOk result (λ p. IsNumbered p.root) }
     ensures shaped { IfOk result (λ p. IsShaped p) }
-    ensures refused { IfErr result (λ e. (p : Tree) × IsNumbered p.root × (listed p ≡ parts_view parts)
+    ensures refused { IfErr result
+        (λ e. (p : Tree) × IsNumbered p.root × (listed p ≡ parts_view parts)
         × (first_fault p ≡ Some e)) }
 {
     Program::new(
@@ -233,7 +242,8 @@ fn root_with(
     comments: usize,
     texts: RowTexts<'_, '_>,
 ) -> Result<Node, TreeError>
-    ensures { Gives listing result (lines_with (top_view top.now) comments (texts_view texts.entry)) }
+    ensures { Gives listing result
+        (lines_with (top_view top.now) comments (texts_view texts.entry)) }
 {
     if top.rows.is_empty() {
         return Err(TreeError::Shape(None));

@@ -53,7 +53,8 @@ pub(crate) fn row_of<'a>(texts: RowTexts<'a, '_>, value: &'a Value) -> Option<Ro
 
 #[tactic(auto, unfolding(crate::specs::Form::text_in))]
 fn text_of<'a>(texts: RowTexts<'a, '_>, value: &'a Value) -> Option<&'a str>
-    ensures { option_map characters result ≡ text_of_data (texts_view texts.entry) (data_of value.now) }
+    ensures { option_map characters result
+        ≡ text_of_data (texts_view texts.entry) (data_of value.now) }
 {
     match texts {
         RowTexts::InRows => value.as_str(),

@@ -72,7 +72,8 @@ fn row_at<'a>(
     index: u32,
 ) -> Result<Row<'a>, TreeError>
     requires { index < 2 ^ 32 - 1 }
-    ensures { result_map line result ≡ line_at (texts_view texts.entry) opened index (data_of value.now) }
+    ensures { result_map line result
+        ≡ line_at (texts_view texts.entry) opened index (data_of value.now) }
 {
     match row_of(texts, value) {
         Some(row) if is_next(&row, opened) => Ok(row),
@@ -108,7 +109,8 @@ fn check_depths(rows: &[Row<'_>]) -> Result<(), TreeError>
 /// Whether these rows list a tree that is not too deep.
 pub(crate) fn are_listed(rows: &[Row<'_>]) -> bool
     requires { 0 < length rows.now }
-    ensures { IsTrue result → IsListing (map line rows.now) × (shallow_from 0 (map line rows.now) ≡ Ok tt) }
+    ensures { IsTrue result → IsListing (map line rows.now)
+        × (shallow_from 0 (map line rows.now) ≡ Ok tt) }
 {
     let mut opened = 0;
     for row in rows {

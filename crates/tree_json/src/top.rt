@@ -78,7 +78,8 @@ pub(crate) fn top_of(value: &Value) -> Option<Top<'_>>
 /// The list of texts, if the format has one; none where format and members do not agree.
 #[tactic(auto, unfolding(crate::specs::Top::texts_at))]
 fn texts_at(value: &Value) -> Option<Option<&[Value]>>
-    ensures { option_map (λ o. option_map (λ s. items_view s.now) o) result ≡ texts_at (data_of value.now) }
+    ensures { option_map (λ o. option_map (λ s. items_view s.now) o) result
+        ≡ texts_at (data_of value.now) }
 {
     let format = number_at(value, "format")?;
     if format == 1 && has_members(value, 6) {

@@ -25,7 +25,8 @@ pub(crate) fn row_values(
     requires { AreSpelled places }
     ensures values { IfOk result (λ values. map data_of values.items
         ≡ map (line_data (places_view places.entry)) (map line rows.now)) }
-    ensures again { IfOk result (λ values. Each (IsReadAgain (places_view places.entry)) (map line rows.now)) }
+    ensures again { IfOk result
+        (λ values. Each (IsReadAgain (places_view places.entry)) (map line rows.now)) }
 {
     let mut values = Vec::with_capacity(alloc, rows.len())?;
     for row in rows {
@@ -37,7 +38,8 @@ pub(crate) fn row_values(
 #[tactic(auto, using(crate::proofs::Again::line_again))]
 fn row_value(alloc: Global, places: TextPlaces<'_, '_>, row: &Row<'_>) -> Result<Value, AllocError>
     requires { AreSpelled places }
-    ensures value { IfOk result (λ v. data_of v ≡ line_data (places_view places.entry) (line row.now)) }
+    ensures value { IfOk result
+        (λ v. data_of v ≡ line_data (places_view places.entry) (line row.now)) }
     ensures again { IfOk result (λ v. IsReadAgain (places_view places.entry) (line row.now)) }
 {
     let _ranges = (row.depth, row.span.start, row.span.end);
@@ -94,7 +96,8 @@ fn names_of(alloc: Global, marks: Marks, list: &[Mark]) -> Result<Vec<Value>, Al
 
 /// The values of all comments.
 pub(crate) fn comment_values(alloc: Global, comments: &[Comment]) -> Result<Vec<Value>, AllocError>
-    ensures values { IfOk result (λ values. map data_of values.items ≡ map comment_data comments.now) }
+    ensures values { IfOk result
+        (λ values. map data_of values.items ≡ map comment_data comments.now) }
     ensures again { IfOk result (λ values. Each IsCommentAgain comments.now) }
 {
     let mut values = Vec::with_capacity(alloc, comments.len())?;
@@ -129,7 +132,8 @@ fn comment_kind_name(kind: CommentKind) -> &'static str
 
 /// The values of all texts.
 pub(crate) fn text_values(alloc: Global, texts: &[&str]) -> Result<Vec<Value>, AllocError>
-    ensures { IfOk result (λ values. map data_of values.items ≡ map text_data (map characters texts.now)) }
+    ensures { IfOk result (λ values. map data_of values.items
+        ≡ map text_data (map characters texts.now)) }
 {
     let mut values = Vec::with_capacity(alloc, texts.len())?;
     for text in texts {

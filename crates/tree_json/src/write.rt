@@ -36,7 +36,8 @@ struct Parts {
 /// The compact text of the program's written form in format 1: keys in order, marks in the order of
 /// their table. Reading it gives the program again, or want of memory.
 pub fn write_program(alloc: Global, program: &Program) -> Result<Vec<u8>, AllocError>
-    ensures text { IfOk result (λ bytes. bytes.items ≡ compact_text (program_data in_rows program.now)) }
+    ensures text { IfOk result (λ bytes. bytes.items
+        ≡ compact_text (program_data in_rows program.now)) }
     ensures written { IfOk result (λ bytes. AreWrittenForm bytes.items program.now) }
     ensures again { IfOk result (λ bytes. reading bytes.items ≡ Ok (listed program.now)) }
 {
@@ -82,7 +83,8 @@ fn plain_value(alloc: Global, program: &Program, rows: &[Row<'_>]) -> Result<Val
 /// before a text is made of it.
 fn form_with_texts(alloc: Global, program: &Program, rows: &[Row<'_>]) -> Result<Value, AllocError>
     requires { map line rows.now ≡ listing program.now.root }
-    ensures value { IfOk result (λ v. data_of v ≡ program_data (in_list (texts_of program.now)) program.now) }
+    ensures value { IfOk result
+        (λ v. data_of v ≡ program_data (in_list (texts_of program.now)) program.now) }
     ensures readable { IfOk result (λ v. IsReadable (in_list (texts_of program.now)) program.now) }
     ensures again { IfOk result (λ v. Each IsTextAgain (texts_of program.now)) }
 {
@@ -102,7 +104,8 @@ fn value_with_texts(
     requires listed { map line rows.now ≡ listing program.now.root }
     ensures value { IfOk result (λ v. data_of v
         ≡ program_data (in_list (map characters texts.now.keys)) program.now) }
-    ensures readable { IfOk result (λ v. IsReadable (in_list (map characters texts.now.keys)) program.now) }
+    ensures readable { IfOk result
+        (λ v. IsReadable (in_list (map characters texts.now.keys)) program.now) }
 {
     let parts = parts_of(alloc, program, TextPlaces::InSet(texts), rows)?;
     object_with_texts(alloc, program.source_type(), parts, texts.as_slice())
@@ -186,7 +189,8 @@ fn put_type(
     source_type: SourceType,
 ) -> Result<(), AllocError>
     ensures { OnOk result (members_view members.new.entries
-        ≡ put (codes "lang") (string (lang_name source_type.lang)) (put (codes "goal") (string (goal_name source_type.goal))
+        ≡ put (codes "lang") (string (lang_name source_type.lang))
+        (put (codes "goal") (string (goal_name source_type.goal))
         (put (codes "format") (number (unsigned format)) (members_view members.old.entries)))) }
 {
     serde_json::put(members, alloc, "format", Value::from(format))?;

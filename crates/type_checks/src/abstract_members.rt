@@ -48,7 +48,8 @@ pub(crate) fn tell_abstract_members(
     class: AstKind<'_>,
     out: &mut Diagnostics,
 ) -> Result<(), AllocError>
-    ensures { Tells result (flat_map rows.abstract_rows (members class.entry.node.now)) out.old out.new }
+    ensures { Tells result (flat_map rows.abstract_rows (members class.entry.node.now)) out.old
+        out.new }
 {
     for member in Grandchildren::new(class, Role::Body, Role::Body) {
         tell_abstract(alloc, member, out)?;

@@ -34,7 +34,9 @@ fn unmarked_text<'a>(kind: AstKind<'_>, mark: char, source: &'a str) -> &'a str
     requires ascii { mark < 128 }
     requires sound { is_sound source.now kind.node.now.span ≡ true }
     requires marked { shows source.now kind.node.now mark ≡ true }
-    ensures { let node = kind.entry.node.now in let span = rows.unmarked (rows.is_at_start node) node.span in result.now ≡ slice_range source.now span.start span.end }
+    ensures { let node = kind.entry.node.now in
+        let span = rows.unmarked (rows.is_at_start node) node.span in
+        result.now ≡ slice_range source.now span.start span.end }
 {
     let span = kind.span();
     if kind.has_mark(Mark::Postfix) {
@@ -46,7 +48,8 @@ fn unmarked_text<'a>(kind: AstKind<'_>, mark: char, source: &'a str) -> &'a str
 
 /// What TypeScript has for a `?` type.
 fn nullable_text(alloc: Global, text: &str) -> Result<String, AllocError>
-    ensures { IfOk result (λ made. chars (string_bytes made) ≡ chars text.now ++ codes " | null | undefined") }
+    ensures { IfOk result (λ made. chars (string_bytes made)
+        ≡ chars text.now ++ codes " | null | undefined") }
 {
     let made = format!(in alloc; "{text} | null | undefined")?;
     Ok(made)
@@ -62,7 +65,8 @@ fn tell_nullable(
 ) -> Result<(), AllocError>
     requires sound { is_sound ctx.now.source_text.now kind.node.now.span ≡ true }
     requires marked { shows ctx.now.source_text.now kind.node.now 63 ≡ true }
-    ensures { Tells result (rows.jsdoc_rows (around ctx.now) kinds.JSDocNullableType kind.entry.node.now) out.old out.new }
+    ensures { Tells result (rows.jsdoc_rows
+        (around ctx.now) kinds.JSDocNullableType kind.entry.node.now) out.old out.new }
 {
     let text = nullable_text(alloc, unmarked_text(kind, '?', ctx.source_text))?;
     let at_start = !kind.has_mark(Mark::Postfix);
@@ -82,7 +86,8 @@ fn tell_non_nullable(
 ) -> Result<(), AllocError>
     requires sound { is_sound ctx.now.source_text.now kind.node.now.span ≡ true }
     requires marked { shows ctx.now.source_text.now kind.node.now 33 ≡ true }
-    ensures { Tells result (rows.jsdoc_rows (around ctx.now) kinds.JSDocNonNullableType kind.entry.node.now) out.old out.new }
+    ensures { Tells result (rows.jsdoc_rows
+        (around ctx.now) kinds.JSDocNonNullableType kind.entry.node.now) out.old out.new }
 {
     let text = unmarked_text(kind, '!', ctx.source_text);
     let at_start = !kind.has_mark(Mark::Postfix);
@@ -100,7 +105,8 @@ fn tell_jsdoc(
     out: &mut Diagnostics,
 ) -> Result<(), AllocError>
     requires { HasGoodSpan ctx.now kind.node.now }
-    ensures { let node = kind.entry.node.now in Tells result (rows.jsdoc_rows (around ctx.now) node.kind node) out.old out.new }
+    ensures { let node = kind.entry.node.now in
+        Tells result (rows.jsdoc_rows (around ctx.now) node.kind node) out.old out.new }
 {
     match kind.ty() {
         AstType::JSDocNullableType => tell_nullable(alloc, kind, ctx, out),
@@ -117,7 +123,8 @@ pub fn check_ts_type_annotation<'a>(
     out: &mut Diagnostics,
 ) -> Result<(), AllocError>
     requires { HasGoodType kind.node.now ctx.now }
-    ensures { Tells result (rows.check_ts_type_annotation (sight kind.entry.node.now ctx.now)) out.old out.new }
+    ensures { Tells result (rows.check_ts_type_annotation (sight kind.entry.node.now ctx.now))
+        out.old out.new }
 {
     match kind.child(Role::Element) {
         Some(annotated) => tell_jsdoc(alloc, annotated, ctx, out),
@@ -141,7 +148,8 @@ fn is_plain_value(parent: Option<AstKind<'_>>) -> bool
 
 /// Whether what is annotated may return a type predicate, by what stands around it.
 fn may_return_predicate(kind: AstKind<'_>, above: AncestorKinds<'_, '_>) -> bool
-    ensures { let node = kind.entry.node.now in result ≡ rows.may_return_predicate node.kind node (path_left above.entry) }
+    ensures { let node = kind.entry.node.now in
+        result ≡ rows.may_return_predicate node.kind node (path_left above.entry) }
 {
     let mut left = above;
     match kind.ty() {
@@ -178,7 +186,8 @@ pub fn check_ts_type_predicate<'a>(
     out: &mut Diagnostics,
 ) -> Result<(), AllocError>
     requires { IsContext ctx.now }
-    ensures { Tells result (rows.check_ts_type_predicate (sight kind.entry.node.now ctx.now)) out.old out.new }
+    ensures { Tells result (rows.check_ts_type_predicate (sight kind.entry.node.now ctx.now))
+        out.old out.new }
 {
     if is_predicate_path(ctx) {
         Ok(())

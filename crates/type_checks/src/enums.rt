@@ -35,7 +35,10 @@ fn tell_uncounted(
     member: AstKind<'_>,
     out: &mut Diagnostics,
 ) -> Result<(), AllocError>
-    ensures { Tells result (rows_of_some (λ initializer. row_if (not (rows.counts_on initializer)) (tell.enum_member_must_have_initializer member.entry.node.now.span)) (option_map shown before.entry)) out.old out.new }
+    ensures { Tells result (rows_of_some
+        (λ initializer. row_if (not (rows.counts_on initializer))
+        (tell.enum_member_must_have_initializer member.entry.node.now.span))
+        (option_map shown before.entry)) out.old out.new }
 {
     let Some(initializer) = before else {
         return Ok(());
@@ -70,7 +73,8 @@ pub fn check_ts_enum_declaration<'a>(
     out: &mut Diagnostics,
 ) -> Result<(), AllocError>
     requires { IsContext ctx.now }
-    ensures { Tells result (rows.check_ts_enum_declaration (sight kind.entry.node.now ctx.now)) out.old out.new }
+    ensures { Tells result (rows.check_ts_enum_declaration (sight kind.entry.node.now ctx.now))
+        out.old out.new }
 {
     match kind.child(Role::Body) {
         Some(body) => tell_members(alloc, body, out),

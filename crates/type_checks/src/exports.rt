@@ -65,7 +65,8 @@ fn tell_assignments(
     block: AstKind<'_>,
     out: &mut Diagnostics,
 ) -> Result<(), AllocError>
-    ensures { Tells result (flat_map rows.assignment_row (all_in roles.Body block.entry.node.now)) out.old out.new }
+    ensures { Tells result (flat_map rows.assignment_row (all_in roles.Body block.entry.node.now))
+        out.old out.new }
 {
     for statement in block.children(Role::Body) {
         tell_assignment(alloc, statement, out)?;

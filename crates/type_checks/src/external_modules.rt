@@ -74,7 +74,9 @@ fn tell_misplaced(
     out: &mut Diagnostics,
 ) -> Result<(), AllocError>
     requires { IsContext ctx.now }
-    ensures { let s = sight kind.entry.node.now ctx.now in Tells result (row_if (not (rows.is_module_place (is_script s) (rows.places s))) (rows.misplaced_module s)) out.old out.new }
+    ensures { let s = sight kind.entry.node.now ctx.now in
+        Tells result (row_if (not (rows.is_module_place (is_script s) (rows.places s)))
+        (rows.misplaced_module s)) out.old out.new }
 {
     if is_module_place(ctx.source_type.is_script(), Places::around(ctx)) {
         return Ok(());
@@ -90,7 +92,8 @@ fn tell_misplaced(
 
 /// Tells of export assignments in the body of an external module (`TS(2309)`).
 fn tell_body(alloc: Global, kind: AstKind<'_>, out: &mut Diagnostics) -> Result<(), AllocError>
-    ensures { Tells result (rows_of_some block_rows (child_of roles.Body kind.entry.node.now)) out.old out.new }
+    ensures { Tells result (rows_of_some block_rows (child_of roles.Body kind.entry.node.now))
+        out.old out.new }
 {
     match kind.child(Role::Body) {
         Some(body) => tell_block(alloc, body, out),
@@ -108,7 +111,8 @@ pub fn check_ts_external_module_declaration<'a>(
     out: &mut Diagnostics,
 ) -> Result<(), AllocError>
     requires { IsContext ctx.now }
-    ensures { Tells result (rows.check_ts_external_module_declaration (sight kind.entry.node.now ctx.now)) out.old out.new }
+    ensures { Tells result (rows.check_ts_external_module_declaration
+        (sight kind.entry.node.now ctx.now)) out.old out.new }
 {
     tell_misplaced(alloc, kind, ctx, out)?;
     tell_body(alloc, kind, out)

@@ -39,7 +39,8 @@ fn tell_types(
     left: AstKind<'_>,
     out: &mut Diagnostics,
 ) -> Result<(), AllocError>
-    ensures { Tells result (flat_map (rows.typed_rows for_in) (all_in roles.Declarators left.entry.node.now)) out.old out.new }
+    ensures { Tells result (flat_map (rows.typed_rows for_in)
+        (all_in roles.Declarators left.entry.node.now)) out.old out.new }
 {
     for declarator in left.children(Role::Declarators) {
         tell_type(alloc, for_in, declarator, out)?;
@@ -58,7 +59,8 @@ pub fn check_for_statement_left<'a>(
     out: &mut Diagnostics,
 ) -> Result<(), AllocError>
     requires { IsContext ctx.now }
-    ensures { Tells result (rows.check_for_statement_left kind.entry.node.now for_in (around ctx.now)) out.old out.new }
+    ensures { Tells result (rows.check_for_statement_left kind.entry.node.now for_in
+        (around ctx.now)) out.old out.new }
 {
     if kind.ty() == AstType::VariableDeclaration {
         tell_types(alloc, for_in, kind, out)

@@ -31,7 +31,8 @@ fn member_name<'a>(member: AstKind<'a>) -> Option<StaticPropertyName<'a>>
 /// Whether two members have the same static name, or none both.
 #[tactic(auto, using(semantic_syntax::proofs::SameTexts::texts))]
 fn is_same_name(one: AstKind<'_>, other: AstKind<'_>) -> bool
-    ensures { result ≡ rows.same_name (rows.member_name one.entry.node.now) (rows.member_name other.entry.node.now) }
+    ensures { result ≡ rows.same_name (rows.member_name one.entry.node.now)
+        (rows.member_name other.entry.node.now) }
 {
     match (member_name(one), member_name(other)) {
         (None, None) => true,
@@ -68,7 +69,8 @@ fn is_overload(member: AstKind<'_>, after: AstKind<'_>) -> bool
 
 /// Whether a member is an overload of the one behind it, if there is one.
 fn has_overloaded(member: AstKind<'_>, after: Option<AstKind<'_>>) -> bool
-    ensures { result ≡ passes (rows.is_overload member.entry.node.now) (option_map shown after.entry) }
+    ensures { result ≡ passes (rows.is_overload member.entry.node.now)
+        (option_map shown after.entry) }
 {
     match after {
         Some(after) => is_overload(member, after),
@@ -78,7 +80,8 @@ fn has_overloaded(member: AstKind<'_>, after: Option<AstKind<'_>>) -> bool
 
 /// Whether the member in front of one, if there is one, is an overload of it.
 fn has_overload(before: Option<AstKind<'_>>, member: AstKind<'_>) -> bool
-    ensures { result ≡ passes (λ overload. rows.is_overload overload member.entry.node.now) (option_map shown before.entry) }
+    ensures { result ≡ passes (λ overload. rows.is_overload overload member.entry.node.now)
+        (option_map shown before.entry) }
 {
     match before {
         Some(before) => is_overload(before, member),
@@ -94,7 +97,8 @@ fn tell_missing(
     key: AstKind<'_>,
     out: &mut Diagnostics,
 ) -> Result<(), AllocError>
-    ensures { Tells result (rows.missing_implementation member.entry.node.now key.entry.node.now ∷ []) out.old out.new }
+    ensures { Tells result (rows.missing_implementation member.entry.node.now key.entry.node.now
+        ∷ []) out.old out.new }
 {
     if reads(member, "constructor") {
         tell(constructor_implementation_missing(alloc, key.span()), out)
@@ -105,7 +109,11 @@ fn tell_missing(
 
 /// Whether a method lacks a body: it is no overload of the member behind it, and it has a static name or an overload.
 fn lacks_body(before: Option<AstKind<'_>>, member: AstKind<'_>, after: Option<AstKind<'_>>) -> bool
-    ensures { let node = member.entry.node.now in result ≡ (rows.is_bodiless node && (not (passes (rows.is_overload node) (option_map shown after.entry)) && (is_some (rows.member_name node) || passes (λ overload. rows.is_overload overload node) (option_map shown before.entry)))) }
+    ensures { let node = member.entry.node.now in
+        result ≡ (rows.is_bodiless node
+        && (not (passes (rows.is_overload node) (option_map shown after.entry))
+        && (is_some (rows.member_name node)
+        || passes (λ overload. rows.is_overload overload node) (option_map shown before.entry)))) }
 {
     is_bodiless(member)
         && !has_overloaded(member, after)
@@ -121,7 +129,9 @@ fn tell_implementation(
     after: Option<AstKind<'_>>,
     out: &mut Diagnostics,
 ) -> Result<(), AllocError>
-    ensures { Tells result (rows.implementation_rows (option_map shown before.entry) member.entry.node.now (option_map shown after.entry)) out.old out.new }
+    ensures { Tells result (rows.implementation_rows
+        (option_map shown before.entry) member.entry.node.now (option_map shown after.entry))
+        out.old out.new }
 {
     if !lacks_body(before, member, after) {
         return Ok(());
@@ -139,7 +149,8 @@ pub(crate) fn tell_implementations(
     class: AstKind<'_>,
     out: &mut Diagnostics,
 ) -> Result<(), AllocError>
-    ensures { Tells result (each_between rows.implementation_rows None (members class.entry.node.now)) out.old out.new }
+    ensures { Tells result (each_between rows.implementation_rows None
+        (members class.entry.node.now)) out.old out.new }
 {
     let mut left = Grandchildren::new(class, Role::Body, Role::Body);
     let mut before = None;

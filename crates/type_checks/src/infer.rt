@@ -56,7 +56,8 @@ pub fn check_ts_infer_type<'a>(
     out: &mut Diagnostics,
 ) -> Result<(), AllocError>
     requires { IsContext ctx.now }
-    ensures { Tells result (rows.check_ts_infer_type (sight kind.entry.node.now ctx.now)) out.old out.new }
+    ensures { Tells result (rows.check_ts_infer_type (sight kind.entry.node.now ctx.now)) out.old
+        out.new }
 {
     if is_extended_over(kind.span(), ctx) {
         Ok(())

@@ -18,7 +18,9 @@ use std::alloc::{AllocError, Global};
 /// Tells of abstract members of a class that is not abstract.
 #[tactic(auto, using(check_context::proofs::Telling::telling))]
 fn tell_concrete(alloc: Global, kind: AstKind<'_>, out: &mut Diagnostics) -> Result<(), AllocError>
-    ensures { let node = kind.entry.node.now in Tells result (rows_if (not (has mark.Abstract node)) (flat_map rows.abstract_rows (members node))) out.old out.new }
+    ensures { let node = kind.entry.node.now in
+        Tells result (rows_if (not (has mark.Abstract node))
+        (flat_map rows.abstract_rows (members node))) out.old out.new }
 {
     if kind.has_mark(Mark::Abstract) {
         Ok(())
@@ -35,7 +37,9 @@ fn tell_bodies(
     ctx: &CheckContext<'_, '_>,
     out: &mut Diagnostics,
 ) -> Result<(), AllocError>
-    ensures { let s = sight kind.entry.node.now ctx.now in Tells result (rows_if (not s.is_ambient) (each_between rows.implementation_rows None (members s.node))) out.old out.new }
+    ensures { let s = sight kind.entry.node.now ctx.now in
+        Tells result (rows_if (not s.is_ambient)
+        (each_between rows.implementation_rows None (members s.node))) out.old out.new }
 {
     if ctx.in_ambient {
         Ok(())

@@ -51,7 +51,8 @@ fn tell_parameters(
     value: AstKind<'_>,
     out: &mut Diagnostics,
 ) -> Result<(), AllocError>
-    ensures { Tells result (flat_map rows.parameter_rows (rows.items_of value.entry.node.now)) out.old out.new }
+    ensures { Tells result (flat_map rows.parameter_rows (rows.items_of value.entry.node.now))
+        out.old out.new }
 {
     for item in Grandchildren::new(value, Role::Params, Role::Items) {
         tell_parameter(alloc, item, out)?;
@@ -67,7 +68,8 @@ fn tell_constructor(
     value: AstKind<'_>,
     out: &mut Diagnostics,
 ) -> Result<(), AllocError>
-    ensures { Tells result (rows_if (has_text (codes "constructor") kind.entry.node.now) (flat_map rows.parameter_rows (rows.items_of value.entry.node.now))) out.old out.new }
+    ensures { Tells result (rows_if (has_text (codes "constructor") kind.entry.node.now)
+        (flat_map rows.parameter_rows (rows.items_of value.entry.node.now))) out.old out.new }
 {
     if reads(kind, "constructor") {
         tell_parameters(alloc, value, out)
@@ -85,7 +87,8 @@ fn is_accessor(kind: AstKind<'_>) -> bool
 
 /// Whether a method is a getter or a setter that is neither abstract nor ambient.
 fn is_plain_accessor(kind: AstKind<'_>, ctx: &CheckContext<'_, '_>) -> bool
-    ensures { let s = sight kind.entry.node.now ctx.now in result ≡ (rows.is_accessor s.node && not (has mark.Abstract s.node || s.is_ambient)) }
+    ensures { let s = sight kind.entry.node.now ctx.now in
+        result ≡ (rows.is_accessor s.node && not (has mark.Abstract s.node || s.is_ambient)) }
 {
     is_accessor(kind) && !(kind.has_mark(Mark::Abstract) || ctx.in_ambient)
 }
@@ -98,7 +101,11 @@ fn tell_accessor(
     ctx: &CheckContext<'_, '_>,
     out: &mut Diagnostics,
 ) -> Result<(), AllocError>
-    ensures { let s = sight kind.entry.node.now ctx.now in Tells result (rows_if (rows.is_accessor s.node && not (has mark.Abstract s.node || s.is_ambient)) (rows_of_some (λ key. tell.accessor_without_body key.span ∷ []) (child_of roles.Key s.node))) out.old out.new }
+    ensures { let s = sight kind.entry.node.now ctx.now in
+        Tells result
+        (rows_if (rows.is_accessor s.node && not (has mark.Abstract s.node || s.is_ambient))
+        (rows_of_some (λ key. tell.accessor_without_body key.span ∷ [])
+        (child_of roles.Key s.node))) out.old out.new }
 {
     if !is_plain_accessor(kind, ctx) {
         return Ok(());
@@ -118,7 +125,8 @@ fn tell_bodiless(
     ctx: &CheckContext<'_, '_>,
     out: &mut Diagnostics,
 ) -> Result<(), AllocError>
-    ensures { Tells result (rows.bodiless_rows (sight kind.entry.node.now ctx.now) value.entry.node.now) out.old out.new }
+    ensures { Tells result (rows.bodiless_rows
+        (sight kind.entry.node.now ctx.now) value.entry.node.now) out.old out.new }
 {
     tell_constructor(alloc, kind, value, out)?;
     tell_accessor(alloc, kind, ctx, out)
@@ -134,7 +142,8 @@ pub fn check_method_definition<'a>(
     out: &mut Diagnostics,
 ) -> Result<(), AllocError>
     requires { IsContext ctx.now }
-    ensures { Tells result (rows.check_method_definition (sight kind.entry.node.now ctx.now)) out.old out.new }
+    ensures { Tells result (rows.check_method_definition (sight kind.entry.node.now ctx.now))
+        out.old out.new }
 {
     match kind.child(Role::Value) {
         Some(value) if reads(value, "ts-empty-body") => {

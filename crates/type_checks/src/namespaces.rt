@@ -85,7 +85,8 @@ pub fn check_ts_namespace_declaration<'a>(
     out: &mut Diagnostics,
 ) -> Result<(), AllocError>
     requires { IsContext ctx.now }
-    ensures { Tells result (rows.check_ts_namespace_declaration (sight kind.entry.node.now ctx.now)) out.old out.new }
+    ensures { Tells result (rows.check_ts_namespace_declaration (sight kind.entry.node.now ctx.now))
+        out.old out.new }
 {
     tell_place(alloc, kind, ctx, out)?;
     tell_block(alloc, under_namespaces(kind), out)
@@ -100,7 +101,10 @@ fn tell_undeclared(
     out: &mut Diagnostics,
 ) -> Result<(), AllocError>
     requires { IsHanded kind.node.now ctx.now }
-    ensures { let s = sight kind.entry.node.now ctx.now in Tells result (row_if (not (has mark.Declare s.node || s.is_ambient)) (tell.global_scope_augmentation_should_have_declare_modifier (rows.global_span s))) out.old out.new }
+    ensures { let s = sight kind.entry.node.now ctx.now in
+        Tells result (row_if (not (has mark.Declare s.node || s.is_ambient))
+        (tell.global_scope_augmentation_should_have_declare_modifier (rows.global_span s))) out.old
+        out.new }
 {
     if kind.has_mark(Mark::Declare) || ctx.in_ambient {
         return Ok(());
@@ -121,7 +125,8 @@ pub fn check_ts_global_declaration<'a>(
     out: &mut Diagnostics,
 ) -> Result<(), AllocError>
     requires { IsHanded kind.node.now ctx.now }
-    ensures { Tells result (rows.check_ts_global_declaration (sight kind.entry.node.now ctx.now)) out.old out.new }
+    ensures { Tells result (rows.check_ts_global_declaration (sight kind.entry.node.now ctx.now))
+        out.old out.new }
 {
     tell_place(alloc, kind, ctx, out)?;
     tell_undeclared(alloc, kind, ctx, out)

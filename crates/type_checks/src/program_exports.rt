@@ -19,7 +19,8 @@ pub fn check_ts_export_assignment_in_program<'a>(
     out: &mut Diagnostics,
 ) -> Result<(), AllocError>
     requires { IsContext ctx.now }
-    ensures { Tells result (rows.check_ts_export_assignment_in_program (sight kind.entry.node.now ctx.now)) out.old out.new }
+    ensures { Tells result (rows.check_ts_export_assignment_in_program
+        (sight kind.entry.node.now ctx.now)) out.old out.new }
 {
     if ctx.source_type.is_typescript() {
         tell_block(alloc, kind, out)

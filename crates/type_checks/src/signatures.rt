@@ -33,8 +33,12 @@ fn note<'a>(
     seen: &mut IndexMap<&'a str, Span>,
     name: AstKind<'a>,
 ) -> Result<Option<Span>, AllocError>
-    ensures before { IfOk result (λ before. (earlier : List Node) → HasLast earlier seen.old → before ≡ last_span earlier name.entry.node.now) }
-    ensures noted { OnOk result ((earlier : List Node) → HasLast earlier seen.old → HasLast (earlier ++ name.entry.node.now ∷ []) seen.new) }
+    ensures before { IfOk result
+        (λ before. (earlier : List Node) → HasLast earlier seen.old
+        → before ≡ last_span earlier name.entry.node.now) }
+    ensures noted { OnOk result
+        ((earlier : List Node) → HasLast earlier seen.old
+        → HasLast (earlier ++ name.entry.node.now ∷ []) seen.new) }
 {
     let before = seen.insert(name.node().text.as_str(), name.span())?;
     Ok(before)
@@ -68,7 +72,8 @@ fn tell_each_repeated<'a>(
     out: &mut Diagnostics,
 ) -> Result<(), AllocError>
     requires { HasLast [] seen.old }
-    ensures { Tells result (each_after rows.repeated_rows [] (bound_names kind.entry.node.now)) out.old out.new }
+    ensures { Tells result (each_after rows.repeated_rows [] (bound_names kind.entry.node.now))
+        out.old out.new }
 {
     let names = identifiers_by_role(alloc, kind)?;
     for name in names.iter() {
@@ -86,7 +91,8 @@ pub fn check_formal_parameters<'a>(
     ctx: &CheckContext<'a, '_>,
     out: &mut Diagnostics,
 ) -> Result<(), AllocError>
-    ensures { Tells result (rows.check_formal_parameters (sight kind.entry.node.now ctx.now)) out.old out.new }
+    ensures { Tells result (rows.check_formal_parameters (sight kind.entry.node.now ctx.now))
+        out.old out.new }
 {
     if reads(kind, "signature") && has_two_items(kind) {
         let mut seen = IndexMap::new(alloc);

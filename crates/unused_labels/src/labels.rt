@@ -47,7 +47,9 @@ impl<'a> UnusedLabels<'a> {
 
     /// Comes to a labelled statement. After want of memory all is as before.
     pub fn add(&mut self, name: Ident<'a>, node: NodeId) -> Result<(), AllocError>
-        ensures ok { OnOk result (labels_seen self.new ≡ entered (labels_seen self.old) (chars name.entry.text.now) node) }
+        ensures ok { OnOk result
+            (labels_seen self.new
+            ≡ entered (labels_seen self.old) (chars name.entry.text.now) node) }
         ensures err { OnErr result (labels_seen self.new ≡ labels_seen self.old) }
     {
         let label = LabeledScope {

@@ -92,7 +92,10 @@ impl<'a> OpenLabels<'a> {
 /// Behind the innermost label of a name, the one around it is the innermost.
 fn put_back<'a>(innermost: &mut HashMap<&'a str, usize>, label: OpenLabel<'a>)
     requires { IsSome (get_by (λ k. bytes_eq label.name.now k.now) innermost.old) }
-    ensures { (q : Bor (List ℕ)) → get_by (λ k. bytes_eq q.now k.now) innermost.new ≡ cond (bytes_eq label.entry.name.now q.now) label.entry.outer (get_by (λ k. bytes_eq q.now k.now) innermost.old) }
+    ensures { (q : Bor (List ℕ))
+        → get_by (λ k. bytes_eq q.now k.now) innermost.new
+        ≡ cond (bytes_eq label.entry.name.now q.now) label.entry.outer
+        (get_by (λ k. bytes_eq q.now k.now) innermost.old) }
 {
     match label.outer {
         Some(outer) => {

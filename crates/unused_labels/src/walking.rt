@@ -23,7 +23,8 @@ impl<'a> UnusedLabels<'a> {
     /// as before.
     #[tactic(auto, using(crate::proofs::Walked::met))]
     pub fn enter(&mut self, kind: AstKind<'a>) -> Result<(), AllocError>
-        ensures ok { OnOk result (labels_seen self.new ≡ node_entered kind.entry.node.now (labels_seen self.old)) }
+        ensures ok { OnOk result
+            (labels_seen self.new ≡ node_entered kind.entry.node.now (labels_seen self.old)) }
         ensures err { OnErr result (labels_seen self.new ≡ labels_seen self.old) }
     {
         if may_have_label(kind.ty()) {
@@ -35,7 +36,8 @@ impl<'a> UnusedLabels<'a> {
 
     /// Meets the label of a labelled statement or a jump, if it has one.
     fn meet(&mut self, kind: AstKind<'a>) -> Result<(), AllocError>
-        ensures ok { OnOk result (labels_seen self.new ≡ node_entered kind.entry.node.now (labels_seen self.old)) }
+        ensures ok { OnOk result
+            (labels_seen self.new ≡ node_entered kind.entry.node.now (labels_seen self.old)) }
         ensures err { OnErr result (labels_seen self.new ≡ labels_seen self.old) }
     {
         let Some(label) = kind.child(Role::Label) else {
@@ -53,7 +55,8 @@ impl<'a> UnusedLabels<'a> {
 
     /// Leaves a node: a labelled statement is listed if no jump names it. After want of memory all is as before.
     pub fn leave(&mut self, kind: AstKind<'a>) -> Result<(), AllocError>
-        ensures ok { OnOk result (labels_seen self.new ≡ node_left kind.entry.node.now (labels_seen self.old)) }
+        ensures ok { OnOk result
+            (labels_seen self.new ≡ node_left kind.entry.node.now (labels_seen self.old)) }
         ensures err { OnErr result (labels_seen self.new ≡ labels_seen self.old) }
     {
         if kind.ty() == AstType::LabeledStatement && kind.child(Role::Label).is_some() {

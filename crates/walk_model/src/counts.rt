@@ -17,13 +17,18 @@ ghost use Rattle.walk_model.specs.Room.{HasRoom};
 /// The tables of a program have a scope for each node that opens one, a reference for each identifier reference, and no
 /// more symbols than the program has binding identifiers and enum members.
 pub fn tables_are_counted()
-    ensures scopes { (p : Tree) → length (tables_of p).scopes ≡ scopes_in (single role.Root p.root) }
-    ensures references { (p : Tree) → length (tables_of p).references ≡ how_many is_reference (single role.Root p.root) }
-    ensures symbols { (p : Tree) → first_fault p ≡ None → IsNumbered p.root → length (tables_of p).symbols ≤ how_many is_symbol (single role.Root p.root) }
+    ensures scopes { (p : Tree)
+        → length (tables_of p).scopes ≡ scopes_in (single role.Root p.root) }
+    ensures references { (p : Tree)
+        → length (tables_of p).references ≡ how_many is_reference (single role.Root p.root) }
+    ensures symbols { (p : Tree) → first_fault p ≡ None → IsNumbered p.root
+        → length (tables_of p).symbols ≤ how_many is_symbol (single role.Root p.root) }
 {}
 
 /// Ids never run out. At each place of the walk over a program there is an id for each scope, symbol and reference that
 /// is made, and for those that the steps behind it still make.
 pub fn ids_suffice()
-    ensures { (p : Tree) → first_fault p ≡ None → IsNumbered p.root → (done more : List Step) → steps p ≡ done ++ more → HasRoom (after_all (written_declarations (steps p)) nothing_made done).tables more }
+    ensures { (p : Tree) → first_fault p ≡ None → IsNumbered p.root → (done more : List Step)
+        → steps p ≡ done ++ more
+        → HasRoom (after_all (written_declarations (steps p)) nothing_made done).tables more }
 {}

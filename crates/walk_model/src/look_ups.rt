@@ -13,7 +13,8 @@ ghost use Rattle.walk_model.specs.Probes.{probes, probes_of_steps, probes_in_end
 /// end of each header around it: it begins where the last look-up has ended.
 pub fn walk_asks_once()
     ensures { (p : Tree) → first_fault p ≡ None →
-        probes_of_steps (written_declarations (steps p)) nothing_made (steps p) + probes_in_end (after_all (written_declarations (steps p)) nothing_made (steps p)) ≡ probes p }
+        probes_of_steps (written_declarations (steps p)) nothing_made (steps p) + probes_in_end
+        (after_all (written_declarations (steps p)) nothing_made (steps p)) ≡ probes p }
 {}
 
 /// No look-up asks more scopes than there are around its reference.

@@ -28,10 +28,20 @@ impl Scoping {
         requires room { length self.old.symbols < 4294967295 }
         requires bind_in { bind_in < length self.old.scopes }
         ensures made { IfOk result (λ y. y ≡ length self.old.symbols) }
-        ensures ok { OnOk result (self.new ≡ record (bound self.old bind_in (name_of name.entry) (length self.old.symbols)) {
-          symbols = self.old.symbols ++ record { name = name_of name.entry; span = span; flags = flags; scope = scope; node = node; redeclarations = None } ∷ [];
-          uses = self.old.uses ++ [] ∷ [];
-        }) }
+        ensures ok { OnOk result
+            (self.new ≡ record (bound self.old bind_in (name_of name.entry)
+            (length self.old.symbols)) {
+              symbols = self.old.symbols
+                  ++ record {
+                    name = name_of name.entry;
+                    span = span;
+                    flags = flags;
+                    scope = scope;
+                    node = node;
+                    redeclarations = None;
+                  } ∷ [];
+              uses = self.old.uses ++ [] ∷ [];
+            }) }
         ensures err { OnErr result (self.new ≡ self.old) }
     {
         let id = SymbolId::new(self.symbols.len() as u32);
@@ -55,7 +65,8 @@ impl Scoping {
     /// Whether the scope binds the name.
     pub fn scope_has_binding(&self, scope: ScopeId, name: Ident<'_>) -> bool
         requires { scope < length self.now.scopes }
-        ensures { result ≡ is_some (lookup (bytes_eq (name_of name.entry)) (bindings_of self.now scope)) }
+        ensures { result ≡ is_some
+            (lookup (bytes_eq (name_of name.entry)) (bindings_of self.now scope)) }
     {
         self.get_binding(scope, name).is_some()
     }
@@ -63,7 +74,8 @@ impl Scoping {
     /// The symbol that the first scope outward binds to the name.
     pub fn find_binding(&self, scope: ScopeId, name: Ident<'_>) -> Option<SymbolId>
         requires { scope < length self.now.scopes }
-        ensures { result ≡ first_bound self.now.bindings (name_of name.entry) (chain self.now.scopes scope) }
+        ensures { result ≡ first_bound self.now.bindings (name_of name.entry)
+            (chain self.now.scopes scope) }
     {
         let mut current = scope;
         loop {

@@ -56,7 +56,8 @@ impl Rows {
         ensures scopes { IfOk result (λ t. t.scopes.items ≡ scopes.now.items) }
         ensures symbols { IfOk result (λ t. t.symbols.items ≡ symbols.now.items) }
         ensures references { IfOk result (λ t. t.references.items ≡ references.now.items) }
-        ensures uses { IfOk result (λ t. map (λ v. v.items) t.uses.items ≡ map (λ v. v.items) uses.now.items) }
+        ensures uses { IfOk result
+            (λ t. map (λ v. v.items) t.uses.items ≡ map (λ v. v.items) uses.now.items) }
     {
         Ok(Rows {
             scopes: scopes.clone()?,

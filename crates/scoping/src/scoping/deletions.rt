@@ -24,8 +24,10 @@ impl Scoping {
     /// Takes the reference out of the uses of its symbol. It keeps its symbol. Without one nothing happens.
     pub fn delete_reference(&mut self, reference: ReferenceId)
         requires reference { reference < length self.old.references }
-        requires symbol { IfSome (reference_of self.old reference).symbol_id (λ y. y < length self.old.symbols) }
-        ensures { self.new ≡ option_map_or (λ y. without_use self.old y reference) (reference_of self.old reference).symbol_id self.old }
+        requires symbol { IfSome (reference_of self.old reference).symbol_id
+            (λ y. y < length self.old.symbols) }
+        ensures { self.new ≡ option_map_or (λ y. without_use self.old y reference)
+            (reference_of self.old reference).symbol_id self.old }
     {
         if let Some(symbol) = self.references[reference.index()].symbol_id {
             self.delete_resolved_reference(symbol, reference);
@@ -34,7 +36,10 @@ impl Scoping {
 
     /// Takes the reference out of the free list of the name. The last one takes its position, and an empty list goes.
     pub fn delete_root_unresolved_reference(&mut self, name: Ident<'_>, reference: ReferenceId)
-        ensures { self.new ≡ record self.old { free = delisted (bytes_eq (name_of name.entry)) reference self.old.free } }
+        ensures { self.new
+            ≡ record self.old {
+              free = delisted (bytes_eq (name_of name.entry)) reference self.old.free;
+            } }
     {
         if let Some(number) = self.names.find(name) {
             self.free.remove(number, reference);
@@ -44,7 +49,8 @@ impl Scoping {
     /// Drops the marked references from the uses of each symbol. Those past the end of the marks stay. What stays
     /// keeps its order.
     pub fn retain_resolved_references_excluding(&mut self, excluded: &[bool])
-        ensures { self.new ≡ record self.old { uses = map (without_marked excluded.now) self.old.uses } }
+        ensures { self.new
+            ≡ record self.old { uses = map (without_marked excluded.now) self.old.uses } }
     {
         retain_unmarked_in_each(&mut self.uses, excluded);
     }

@@ -19,7 +19,12 @@ impl Scoping {
         reference: ReferenceId,
     ) -> Result<(), AllocError>
         requires { reference < length self.old.references }
-        ensures ok { OnOk result (self.new ≡ record self.old { free = insert_entry bytes_eq self.old.free (name_of name.entry) (free_of self.old (name_of name.entry) ++ reference ∷ []) }) }
+        ensures ok { OnOk result
+            (self.new
+            ≡ record self.old {
+              free = insert_entry bytes_eq self.old.free (name_of name.entry)
+                  (free_of self.old (name_of name.entry) ++ reference ∷ []);
+            }) }
         ensures err { OnErr result (self.new ≡ self.old) }
     {
         let number = self.names.intern(name)?;

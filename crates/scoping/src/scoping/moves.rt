@@ -53,7 +53,9 @@ impl Scoping {
         requires from { from < length self.old.scopes }
         requires to { to < length self.old.scopes }
         requires symbol { symbol < length self.old.symbols }
-        ensures ok { OnOk result (self.new ≡ with_symbol (moved self.old from to (symbol_of self.old symbol).name) symbol (record (symbol_of self.old symbol) { scope = to })) }
+        ensures ok { OnOk result
+            (self.new ≡ with_symbol (moved self.old from to (symbol_of self.old symbol).name) symbol
+            (record (symbol_of self.old symbol) { scope = to })) }
         ensures err { OnErr result (self.new ≡ self.old) }
     {
         let number = own_number(&self.names, &self.symbols, symbol);

@@ -12,8 +12,10 @@ impl Scoping {
     pub fn set_scope_parent_id(&mut self, scope: ScopeId, parent: Option<ScopeId>)
         requires scope { scope < length self.old.scopes }
         requires parent { IfSome parent (λ p. p < length self.old.scopes) }
-        requires acyclic { IfSome parent (λ p. list_any (nat_eq scope) (chain self.old.scopes p) ≡ false) }
-        ensures { self.new ≡ with_scope self.old scope (record (scope_of self.old scope) { parent = parent }) }
+        requires acyclic { IfSome parent
+            (λ p. list_any (nat_eq scope) (chain self.old.scopes p) ≡ false) }
+        ensures { self.new ≡ with_scope self.old scope
+            (record (scope_of self.old scope) { parent = parent }) }
     {
         let row = &mut self.scopes[scope.index()];
         row.parent = parent;
@@ -23,8 +25,10 @@ impl Scoping {
     pub fn change_scope_parent_id(&mut self, scope: ScopeId, parent: Option<ScopeId>)
         requires scope { scope < length self.old.scopes }
         requires parent { IfSome parent (λ p. p < length self.old.scopes) }
-        requires acyclic { IfSome parent (λ p. list_any (nat_eq scope) (chain self.old.scopes p) ≡ false) }
-        ensures { self.new ≡ with_scope self.old scope (record (scope_of self.old scope) { parent = parent }) }
+        requires acyclic { IfSome parent
+            (λ p. list_any (nat_eq scope) (chain self.old.scopes p) ≡ false) }
+        ensures { self.new ≡ with_scope self.old scope
+            (record (scope_of self.old scope) { parent = parent }) }
     {
         self.set_scope_parent_id(scope, parent);
     }

@@ -15,7 +15,8 @@ impl Scoping {
     pub fn create_reference(&mut self, reference: Reference) -> Result<ReferenceId, AllocError>
         requires room { length self.old.references < 4294967295 }
         ensures added { IfOk result (λ r. r ≡ length self.old.references) }
-        ensures ok { OnOk result (self.new ≡ record self.old { references = self.old.references ++ reference ∷ [] }) }
+        ensures ok { OnOk result
+            (self.new ≡ record self.old { references = self.old.references ++ reference ∷ [] }) }
         ensures err { OnErr result (self.new ≡ self.old) }
     {
         let Reference {
@@ -45,8 +46,11 @@ impl Scoping {
     /// The name of the symbol to which the reference is tied, if any.
     pub fn get_reference_name(&self, reference: ReferenceId) -> Option<&str>
         requires reference { reference < length self.now.references }
-        requires symbol { IfSome (reference_of self.now reference).symbol_id (λ y. y < length self.now.symbols) }
-        ensures { option_map (λ name. chars name.now) result ≡ option_map (λ y. (symbol_of self.now y).name) (reference_of self.now reference).symbol_id }
+        requires symbol { IfSome (reference_of self.now reference).symbol_id
+            (λ y. y < length self.now.symbols) }
+        ensures { option_map (λ name. chars name.now) result
+            ≡ option_map (λ y. (symbol_of self.now y).name)
+            (reference_of self.now reference).symbol_id }
     {
         let symbol = self.references[reference.index()].symbol_id?;
         Some(self.symbol_name(symbol))
@@ -68,7 +72,8 @@ impl Scoping {
     ) -> Result<(), AllocError>
         requires symbol { symbol < length self.old.symbols }
         requires reference { reference < length self.old.references }
-        ensures ok { OnOk result (self.new ≡ with_uses self.old symbol (uses_of self.old symbol ++ reference ∷ [])) }
+        ensures ok { OnOk result
+            (self.new ≡ with_uses self.old symbol (uses_of self.old symbol ++ reference ∷ [])) }
         ensures err { OnErr result (self.new ≡ self.old) }
     {
         self.uses[symbol.index()].push(reference)?;

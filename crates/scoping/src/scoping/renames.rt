@@ -28,7 +28,9 @@ impl Scoping {
     /// Gives the symbol another name. Bindings stay.
     pub fn set_symbol_name(&mut self, symbol: SymbolId, name: Ident<'_>) -> Result<(), AllocError>
         requires { symbol < length self.old.symbols }
-        ensures ok { OnOk result (self.new ≡ with_symbol self.old symbol (record (symbol_of self.old symbol) { name = name_of name.entry })) }
+        ensures ok { OnOk result
+            (self.new ≡ with_symbol self.old symbol
+            (record (symbol_of self.old symbol) { name = name_of name.entry })) }
         ensures err { OnErr result (self.new ≡ self.old) }
     {
         self.set_symbol_names(&[symbol], name)
@@ -37,7 +39,11 @@ impl Scoping {
     /// Gives the symbols another name. Bindings stay.
     pub fn set_symbol_names(&mut self, ids: &[SymbolId], name: Ident<'_>) -> Result<(), AllocError>
         requires { AllByRecursion (λ y. y < length self.old.symbols) ids.now }
-        ensures ok { OnOk result (self.new ≡ record self.old { symbols = fold (with_name (name_of name.entry)) self.old.symbols ids.now }) }
+        ensures ok { OnOk result
+            (self.new
+            ≡ record self.old {
+              symbols = fold (with_name (name_of name.entry)) self.old.symbols ids.now;
+            }) }
         ensures err { OnErr result (self.new ≡ self.old) }
     {
         let number = self.names.intern(name)?;
@@ -55,8 +61,10 @@ impl Scoping {
     ) -> Result<(), AllocError>
         requires scope { scope < length self.old.scopes }
         requires symbol { symbol < length self.old.symbols }
-        requires bound { lookup (bytes_eq (name_of old)) (bindings_of self.old scope) ≡ Some symbol }
-        ensures ok { OnOk result (self.new ≡ renamed self.old scope symbol (name_of old.entry) (name_of new.entry)) }
+        requires bound { lookup (bytes_eq (name_of old)) (bindings_of self.old scope)
+            ≡ Some symbol }
+        ensures ok { OnOk result
+            (self.new ≡ renamed self.old scope symbol (name_of old.entry) (name_of new.entry)) }
         ensures err { OnErr result (self.new ≡ self.old) }
     {
         let new_number = self.names.intern(new)?;
@@ -75,7 +83,10 @@ impl Scoping {
     ) -> Result<(), AllocError>
         requires scope { scope < length self.old.scopes }
         requires symbol { symbol < length self.old.symbols }
-        ensures ok { OnOk result (self.new ≡ with_symbol (renamed self.old scope symbol (symbol_of self.old symbol).name (name_of new.entry)) symbol (record (symbol_of self.old symbol) { name = name_of new.entry })) }
+        ensures ok { OnOk result
+            (self.new ≡ with_symbol
+            (renamed self.old scope symbol (symbol_of self.old symbol).name (name_of new.entry))
+            symbol (record (symbol_of self.old symbol) { name = name_of new.entry })) }
         ensures err { OnErr result (self.new ≡ self.old) }
     {
         let new_number = self.names.intern(new)?;

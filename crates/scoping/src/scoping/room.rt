@@ -59,7 +59,8 @@ pub(crate) fn push_symbol(
     requires room { vec_len symbols.old < vec_capacity symbols.old }
     requires uses_room { vec_len uses.old < vec_capacity uses.old }
     ensures symbols { symbols.new.items ≡ symbols.old.items ++ row ∷ [] }
-    ensures uses { map (λ v. v.items) uses.new.items ≡ map (λ v. v.items) uses.old.items ++ [] ∷ [] }
+    ensures uses { map (λ v. v.items) uses.new.items
+        ≡ map (λ v. v.items) uses.old.items ++ [] ∷ [] }
 {
     push_in_room(symbols, row);
     push_in_room(uses, Vec::new(alloc));

@@ -12,7 +12,8 @@ use semantic_syntax::{ScopeId, SymbolId};
 pub(crate) fn own_number(names: &NameTable, rows: &Vec<SymbolRow>, id: SymbolId) -> usize
     requires id { id < length rows.now.items }
     requires named { AllByRecursion (λ (y : Row). y.name < length names.now) rows.now.items }
-    ensures { IsNumberOf names.now (name_at names.now (slice_index_or rows.now.items id no_row).name) result }
+    ensures { IsNumberOf names.now
+        (name_at names.now (slice_index_or rows.now.items id no_row).name) result }
 {
     let number = rows[id.index()].name();
     names.attest(number);

@@ -121,7 +121,9 @@ impl Scoping {
     /// The flags, and `StrictMode` where the parent has it.
     pub fn get_new_scope_flags(&self, flags: ScopeFlags, parent: ScopeId) -> ScopeFlags
         requires { parent < length self.now.scopes }
-        ensures { result.bits ≡ (if not (bit_and (scope_of self.now parent).flags.bits ScopeFlags.StrictMode.bits == 0) then bit_or flags.bits ScopeFlags.StrictMode.bits else flags.bits) }
+        ensures { result.bits ≡ (if not
+            (bit_and (scope_of self.now parent).flags.bits ScopeFlags.StrictMode.bits == 0)
+            then bit_or flags.bits ScopeFlags.StrictMode.bits else flags.bits) }
     {
         let parent_flags = self.scope_flags(parent);
         if parent_flags.is_strict_mode() {

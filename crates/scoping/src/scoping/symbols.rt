@@ -31,7 +31,15 @@ impl Scoping {
         requires room { length self.old.symbols < 4294967295 }
         ensures made { IfOk result (λ y. y ≡ length self.old.symbols) }
         ensures ok { OnOk result (self.new ≡ record self.old {
-          symbols = self.old.symbols ++ record { name = name_of name.entry; span = span; flags = flags; scope = scope; node = node; redeclarations = None } ∷ [];
+          symbols = self.old.symbols
+              ++ record {
+                name = name_of name.entry;
+                span = span;
+                flags = flags;
+                scope = scope;
+                node = node;
+                redeclarations = None;
+              } ∷ [];
           uses = self.old.uses ++ [] ∷ [];
         }) }
         ensures err { OnErr result (self.new ≡ self.old) }
@@ -150,7 +158,8 @@ impl Scoping {
     /// Moves the symbol's span.
     pub fn set_symbol_span(&mut self, symbol: SymbolId, span: Span)
         requires { symbol < length self.old.symbols }
-        ensures { self.new ≡ with_symbol self.old symbol (record (symbol_of self.old symbol) { span = span }) }
+        ensures { self.new ≡ with_symbol self.old symbol
+            (record (symbol_of self.old symbol) { span = span }) }
     {
         self.symbols[symbol.index()].set_span(span);
     }
@@ -158,7 +167,8 @@ impl Scoping {
     /// Gives the symbol to the scope. Bindings stay.
     pub fn set_symbol_scope_id(&mut self, symbol: SymbolId, scope: ScopeId)
         requires { symbol < length self.old.symbols }
-        ensures { self.new ≡ with_symbol self.old symbol (record (symbol_of self.old symbol) { scope = scope }) }
+        ensures { self.new ≡ with_symbol self.old symbol
+            (record (symbol_of self.old symbol) { scope = scope }) }
     {
         set_home(&mut self.symbols, symbol, scope);
     }
@@ -166,7 +176,10 @@ impl Scoping {
     /// Adds the flags of one more declaration to the symbol's.
     pub fn union_symbol_flag(&mut self, symbol: SymbolId, includes: SymbolFlags)
         requires { symbol < length self.old.symbols }
-        ensures { self.new ≡ with_symbol self.old symbol (record (symbol_of self.old symbol) { flags = record { bits = bit_or (symbol_of self.old symbol).flags.bits includes.bits } }) }
+        ensures { self.new ≡ with_symbol self.old symbol
+            (record (symbol_of self.old symbol) {
+              flags = record { bits = bit_or (symbol_of self.old symbol).flags.bits includes.bits };
+            }) }
     {
         let row = &mut self.symbols[symbol.index()];
         row.set_flags(row.flags().union(includes));
@@ -181,9 +194,13 @@ impl Scoping {
         span: Span,
     ) -> Result<(), AllocError>
         requires { symbol < length self.old.symbols }
-        ensures ok { OnOk result (self.new ≡ with_symbol self.old symbol (record (symbol_of self.old symbol) {
-          redeclarations = Some (unwrap_or (symbol_of self.old symbol).redeclarations (own_entry (symbol_of self.old symbol) ∷ []) ++ record { span = span; declaration = node; flags = flags } ∷ []);
-        })) }
+        ensures ok { OnOk result
+            (self.new ≡ with_symbol self.old symbol (record (symbol_of self.old symbol) {
+              redeclarations = Some
+                  (unwrap_or (symbol_of self.old symbol).redeclarations
+                  (own_entry (symbol_of self.old symbol) ∷ [])
+                  ++ record { span = span; declaration = node; flags = flags } ∷ []);
+            })) }
         ensures err { OnErr result (self.new ≡ self.old) }
     {
         let added = Redeclaration {
@@ -197,7 +214,8 @@ impl Scoping {
     /// Forgets the symbol's list of redeclarations.
     pub fn clear_symbol_redeclarations(&mut self, symbol: SymbolId)
         requires { symbol < length self.old.symbols }
-        ensures { self.new ≡ with_symbol self.old symbol (record (symbol_of self.old symbol) { redeclarations = None }) }
+        ensures { self.new ≡ with_symbol self.old symbol
+            (record (symbol_of self.old symbol) { redeclarations = None }) }
     {
         self.symbols[symbol.index()].clear_redeclarations();
     }
@@ -206,7 +224,8 @@ impl Scoping {
     /// declaration, and their united flags its flags; where exactly one stays the list goes.
     pub fn remove_symbol_declaration(&mut self, symbol: SymbolId, span: Span)
         requires { symbol < length self.old.symbols }
-        ensures { self.new ≡ with_symbol self.old symbol (without_declaration (symbol_of self.old symbol) span) }
+        ensures { self.new ≡ with_symbol self.old symbol
+            (without_declaration (symbol_of self.old symbol) span) }
     {
         self.symbols[symbol.index()].remove_declaration(span);
     }

@@ -115,7 +115,8 @@ pub fn await_or_yield_in_parameter(
     keyword: &str,
     span: Span,
 ) -> Result<Diagnostic, AllocError>
-    ensures { IfOk result (λ made. made ≡ specs.await_or_yield_in_parameter (chars keyword.now) span) }
+    ensures { IfOk result (λ made. made
+        ≡ specs.await_or_yield_in_parameter (chars keyword.now) span) }
 {
     let message = around(
         alloc,

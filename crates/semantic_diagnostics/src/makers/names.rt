@@ -30,7 +30,8 @@ pub fn static_and_instance_private_identifier(
     first: Span,
     second: Span,
 ) -> Result<Diagnostic, AllocError>
-    ensures { IfOk result (λ made. made ≡ specs.static_and_instance_private_identifier (chars name.now) first second) }
+    ensures { IfOk result (λ made. made
+        ≡ specs.static_and_instance_private_identifier (chars name.now) first second) }
 {
     let message = around(
         alloc,
@@ -125,7 +126,8 @@ pub fn unexpected_identifier_assign(
     span: Span,
     context: UnexpectedIdentifierAssignContext,
 ) -> Result<Diagnostic, AllocError>
-    ensures { IfOk result (λ made. made ≡ specs.unexpected_identifier_assign (chars name.now) span context) }
+    ensures { IfOk result (λ made. made
+        ≡ specs.unexpected_identifier_assign (chars name.now) span context) }
 {
     let message = around(alloc, "Cannot assign to '", name, "' in strict mode")?;
     plain(alloc, message, span)?.with_note(alloc, unexpected_identifier_assign_note(context))

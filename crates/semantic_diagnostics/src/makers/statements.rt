@@ -76,7 +76,8 @@ pub fn invalid_label_non_iteration(
     target: Span,
     jump: Span,
 ) -> Result<Diagnostic, AllocError>
-    ensures { IfOk result (λ made. made ≡ specs.invalid_label_non_iteration (chars keyword.now) target jump) }
+    ensures { IfOk result (λ made. made
+        ≡ specs.invalid_label_non_iteration (chars keyword.now) target jump) }
 {
     let message = around(
         alloc,
@@ -133,7 +134,8 @@ pub fn unexpected_initializer_in_for_loop_head(
     keyword: &str,
     span: Span,
 ) -> Result<Diagnostic, AllocError>
-    ensures { IfOk result (λ made. made ≡ specs.unexpected_initializer_in_for_loop_head (chars keyword.now) span) }
+    ensures { IfOk result (λ made. made
+        ≡ specs.unexpected_initializer_in_for_loop_head (chars keyword.now) span) }
 {
     let message = around(
         alloc,

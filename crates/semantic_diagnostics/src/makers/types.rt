@@ -19,7 +19,8 @@ pub fn jsdoc_type_in_annotation(
     span: Span,
     suggestion: &str,
 ) -> Result<Diagnostic, AllocError>
-    ensures { IfOk result (λ made. made ≡ specs.jsdoc_type_in_annotation mark at_start span (chars suggestion.now)) }
+    ensures { IfOk result (λ made. made
+        ≡ specs.jsdoc_type_in_annotation mark at_start span (chars suggestion.now)) }
 {
     if at_start {
         jsdoc_type(alloc, "TS(17020)", "start", mark, span, suggestion)
@@ -39,7 +40,8 @@ fn jsdoc_type(
 ) -> Result<Diagnostic, AllocError>
     requires code { IsTrue (is_ascii code.now) }
     requires word { IsTrue (is_ascii place.now) }
-    ensures { IfOk result (λ made. made ≡ specs.jsdoc_type code.now place.now mark span (chars suggestion.now)) }
+    ensures { IfOk result (λ made. made
+        ≡ specs.jsdoc_type code.now place.now mark span (chars suggestion.now)) }
 {
     let message = jsdoc_message(alloc, mark, place)?;
     let help = around(alloc, "Did you mean to write '", suggestion, "'?")?;
@@ -51,7 +53,9 @@ fn jsdoc_type(
 // The mark stands at the place that is named.
 fn jsdoc_message(alloc: Global, mark: char, place: &str) -> Result<Text, AllocError>
     requires { IsTrue (is_ascii place.now) }
-    ensures { IfOk result (λ made. made ≡ concat (codes "'" ∷ (mark ∷ []) ∷ codes "' at the " ∷ place.now ∷ codes " of a type is not valid TypeScript syntax." ∷ [])) }
+    ensures { IfOk result (λ made. made
+        ≡ concat (codes "'" ∷ (mark ∷ []) ∷ codes "' at the " ∷ place.now
+        ∷ codes " of a type is not valid TypeScript syntax." ∷ [])) }
 {
     let text = format!(in alloc;
         "'{mark}' at the {place} of a type is not valid TypeScript syntax."
@@ -106,7 +110,8 @@ pub fn global_scope_augmentation_should_have_declare_modifier(
     alloc: Global,
     span: Span,
 ) -> Result<Diagnostic, AllocError>
-    ensures { IfOk result (λ made. made ≡ specs.global_scope_augmentation_should_have_declare_modifier span) }
+    ensures { IfOk result (λ made. made
+        ≡ specs.global_scope_augmentation_should_have_declare_modifier span) }
 {
     let message = fixed(
         alloc,
@@ -131,7 +136,8 @@ pub fn infer_declaration_only_permitted_in_extends_clause(
     alloc: Global,
     span: Span,
 ) -> Result<Diagnostic, AllocError>
-    ensures { IfOk result (λ made. made ≡ specs.infer_declaration_only_permitted_in_extends_clause span) }
+    ensures { IfOk result (λ made. made
+        ≡ specs.infer_declaration_only_permitted_in_extends_clause span) }
 {
     let message = fixed(
         alloc,
@@ -264,7 +270,8 @@ pub fn ts_export_assignment_cannot_be_used_with_other_exports(
     alloc: Global,
     span: Span,
 ) -> Result<Diagnostic, AllocError>
-    ensures { IfOk result (λ made. made ≡ specs.ts_export_assignment_cannot_be_used_with_other_exports span) }
+    ensures { IfOk result (λ made. made
+        ≡ specs.ts_export_assignment_cannot_be_used_with_other_exports span) }
 {
     let message = fixed(
         alloc,
