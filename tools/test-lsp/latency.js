@@ -3,7 +3,8 @@
 // How long after the last of some keys bolgwyr lsp says what it finds in a file of ten thousand lines, and answers a hover: in
 // milliseconds by the clock, and the processor time of the server with the programs that it runs. Other work on the machine counts in
 // the first and not in the second. A fixed loop between the rounds tells how fast the machine is meanwhile, by the same two measures.
-// usage: latency.js [--rounds N] [--within MILLISECONDS] [--used]   (status 1 where the median of the clock's is more)
+// usage: latency.js [--rounds N] [--within MILLISECONDS] [--used] [--lines N] [--typescript]
+// (status 1 where the median of the clock's is more)
 
 const fs = require('fs');
 const path = require('path');
@@ -14,7 +15,7 @@ const { Client } = require('./client.js');
 const { Command } = load('commander');
 
 const SOURCE = path.join(__dirname, '..', 'analyse', 'test', 'long-source.js');
-const URI = 'file:///tmp/long.mjs';
+const PLACE = 'file:///tmp/long';
 const KEYS = 'fresh';
 const BETWEEN_KEYS = 60; // milliseconds
 const TICK = 1000 / Number(execFileSync('getconf', ['CLK_TCK'], { encoding: 'utf8' }));
@@ -66,28 +67,40 @@ function placeIn(text) {
   return { line, character: lines[line].indexOf('(') };
 }
 
-const change = (client, version, range, text) => client.notify('textDocument/didChange', {
-  textDocument: { uri: URI, version }, contentChanges: [{ range, text }],
+const change = ({ client, uri }, version, range, text) => client.notify('textDocument/didChange', {
+  textDocument: { uri, version }, contentChanges: [{ range, text }],
 });
 
+// The first parts of the text, of so many lines at most.
+function shortened(text, lines) {
+  const parts = text.split(/(?=\n\/\/ part )/);
+  let left = lines;
+  const end = parts.findIndex((part) => {
+    left -= part.split('\n').length - 1;
+    return left < 0;
+  });
+  return (end === -1 ? parts : parts.slice(0, end)).join('');
+}
+
 // One round: keys, and the times until what is found is told; then the letters are taken away again.
-async function round(client, place, first) {
+async function round(edited, place, first) {
+  const { client, uri } = edited;
   let version = first;
   for (const [at, key] of [...KEYS].entries()) {
     await sleep(BETWEEN_KEYS);
     version += 1;
     const here = { ...place, character: place.character + at };
-    change(client, version, { start: here, end: here }, key);
+    change(edited, version, { start: here, end: here }, key);
   }
   const [started, processor] = [performance.now(), processorTime(client.child.pid)];
-  await client.diagnosticsOf(URI, version);
+  await client.diagnosticsOf(uri, version);
   const told = performance.now() - started;
   const spent = processorTime(client.child.pid) - processor;
-  change(client, version + 1, { start: place, end: { ...place, character: place.character + KEYS.length } }, '');
+  change(edited, version + 1, { start: place, end: { ...place, character: place.character + KEYS.length } }, '');
   const asked = performance.now();
-  await client.request('textDocument/hover', { textDocument: { uri: URI }, position: place });
+  await client.request('textDocument/hover', { textDocument: { uri }, position: place });
   const answered = performance.now() - asked;
-  await client.diagnosticsOf(URI, version + 1);
+  await client.diagnosticsOf(uri, version + 1);
   client.messages.length = 0;
   return { told, spent, answered };
 }
@@ -104,34 +117,42 @@ function inLoops(what, pairs) {
   return `${what}: ${medianOf(pairs.map(([time, loop]) => time / loop)).toFixed(1)} times as long`;
 }
 
-async function main() {
-  const program = new Command('latency')
-    .option('--rounds <number>', 'how many times', Number, 15)
-    .option('--within <milliseconds>', 'how long it may take by the clock', Number, Infinity)
-    .option('--used', 'a file with twenty findings in place of 3,500')
-    .parse();
-  const { rounds, within, used } = program.opts();
-  const text = execFileSync(process.execPath, [SOURCE, ...(used ? ['--used'] : [])], { encoding: 'utf8', maxBuffer: Infinity });
-  const client = new Client();
-  await client.request('initialize', { capabilities: {} });
-  client.notify('initialized', {});
-  client.open(URI, text);
-  const { params: { diagnostics } } = await client.diagnosticsOf(URI, 1);
-  Array.from({ length: WARMING }, loop);
-  const found = [];
-  for (let at = 0; at <= rounds; at += 1) {
-    const measured = measureLoop();
-    found.push({ ...await round(client, placeIn(text), 1 + at * (KEYS.length + 1)), loop: measured });
-  }
-  await client.end();
-  const counted = found.slice(1); // the first is for the code to be compiled
-  console.log(`${text.split('\n').length} lines, ${diagnostics.length} findings, ${rounds} rounds of ${KEYS.length} keys`);
+function tell(counted) {
   console.log(inWords('from the last key until the findings are told, by the clock', counted.map(({ told }) => told)));
   console.log(inWords('processor time of that', counted.map(({ spent }) => spent)));
   console.log(inWords('a hover right behind a key, by the clock', counted.map(({ answered }) => answered)));
   console.log(inWords(`a loop of ${STEPS} steps, by the clock`, counted.map(({ loop: { clock } }) => clock)));
   console.log(inLoops('the findings against the loop, by the clock', counted.map((one) => [one.told, one.loop.clock])));
   console.log(inLoops('the same in processor time', counted.map((one) => [one.spent, one.loop.processor])));
+}
+
+async function main() {
+  const program = new Command('latency')
+    .option('--rounds <number>', 'how many times', Number, 15)
+    .option('--within <milliseconds>', 'how long it may take by the clock', Number, Infinity)
+    .option('--used', 'a file with twenty findings in place of 3,500')
+    .option('--lines <number>', 'the first parts of the file, of so many lines at most', Number, Infinity)
+    .option('--typescript', 'the same text as TypeScript')
+    .parse();
+  const { rounds, within, used, lines, typescript } = program.opts();
+  const whole = execFileSync(process.execPath, [SOURCE, ...(used ? ['--used'] : [])], { encoding: 'utf8', maxBuffer: Infinity });
+  const text = shortened(whole, lines);
+  const uri = `${PLACE}.${typescript ? 'mts' : 'mjs'}`;
+  const client = new Client();
+  await client.request('initialize', { capabilities: {} });
+  client.notify('initialized', {});
+  client.open(uri, text);
+  const { params: { diagnostics } } = await client.diagnosticsOf(uri, 1);
+  Array.from({ length: WARMING }, loop);
+  const found = [];
+  for (let at = 0; at <= rounds; at += 1) {
+    const measured = measureLoop();
+    found.push({ ...await round({ client, uri }, placeIn(text), 1 + at * (KEYS.length + 1)), loop: measured });
+  }
+  await client.end();
+  const counted = found.slice(1); // the first is for the code to be compiled
+  console.log(`${text.split('\n').length} lines, ${diagnostics.length} findings, ${rounds} rounds of ${KEYS.length} keys`);
+  tell(counted);
   process.exitCode = medianOf(counted.map(({ told }) => told)) > within ? 1 : 0;
 }
 
