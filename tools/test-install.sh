@@ -64,7 +64,7 @@ completed() {
 }
 expect "completion of a command" prove "$(completed bolgwyr pro)"
 expect "of an option" --stdin-name "$(completed bolgwyr tree --std)"
-expect "of its value" "acorn typescript" "$(completed bolgwyr tree --parser "")"
+expect "of its value" "acorn typescript babel" "$(completed bolgwyr tree --parser "")"
 expect "of a name" report_main "$(completed bolgwyr prove r)"
 
 make -s uninstall PREFIX="$prefix"
