@@ -7,15 +7,17 @@
 // (status 1 where the median of the clock's is more)
 
 const fs = require('fs');
+const os = require('os');
 const path = require('path');
 const { execFileSync } = require('child_process');
+const { pathToFileURL } = require('url');
 const { load } = require('../source-to-tree/load.js');
 const { Client } = require('./client.js');
 
 const { Command } = load('commander');
 
 const SOURCE = path.join(__dirname, '..', 'analyse', 'test', 'long-source.js');
-const PLACE = 'file:///tmp/long';
+const PLACE = pathToFileURL(path.join(os.tmpdir(), 'long')).href; // no such file is read
 const KEYS = 'fresh';
 const BETWEEN_KEYS = 60; // milliseconds
 const TICK = 1000 / Number(execFileSync('getconf', ['CLK_TCK'], { encoding: 'utf8' }));
@@ -63,7 +65,8 @@ function processorTime(root) {
 // Where the keys are pressed: behind the name of a function in the middle.
 function placeIn(text) {
   const lines = text.split('\n');
-  const line = lines.findIndex((one) => one.includes('function work250('));
+  const heads = [...lines.keys()].filter((at) => /function work\d+\(/.test(lines[at]));
+  const line = heads[heads.length >> 1];
   return { line, character: lines[line].indexOf('(') };
 }
 

@@ -1,7 +1,9 @@
 //! The early errors of one node alone, as whoever walks a tree without the analysis asks for them.
-ghost use Rattle.std.specs.Prelude.{◌≡◌, ◌++◌, true, false, Ok};
+ghost use Rattle.std.specs.Prelude.{◌≡◌, ◌++◌, true, false, Ok, OnErr};
 ghost use Rattle.check_model.specs.Rows.{rows_of};
 ghost use Rattle.check_context.specs.Handed.{sight};
+ghost use Rattle.check_context.specs.Tells.{IsBegun};
+ghost use Rattle.checker.specs.Checkable.{IsCheckable};
 
 use checker::{CheckContext, check, is_checkable};
 use semantic_diagnostics::Diagnostics;
@@ -9,6 +11,7 @@ use semantic_tree::AstKind;
 use std::alloc::{AllocError, Global};
 
 /// Adds the early errors of the node, and tells whether it could: where node and context don't fit together nothing is told.
+/// For want of memory, the only error, the first of them are added.
 pub fn add_early_errors<'a>(
     alloc: Global,
     kind: AstKind<'a>,
@@ -17,7 +20,10 @@ pub fn add_early_errors<'a>(
 ) -> Result<bool, AllocError>
     ensures told { result ≡ Ok true
         → out.new ≡ out.old ++ rows_of (sight kind.entry.node.now ctx.now) }
+    ensures fit { IsCheckable kind.entry.node.now ctx.now → result ≡ Ok false → ⊥ }
     ensures unfit { result ≡ Ok false → out.new ≡ out.old }
+    ensures begun { OnErr result (IsBegun (rows_of (sight kind.entry.node.now ctx.now)) out.old
+        out.new) }
 {
     if !is_checkable(kind, ctx) {
         return Ok(false);
