@@ -1,8 +1,9 @@
 #!/bin/bash
 # What the analysis costs beside its peers, on real files: `build` beside eslint-scope's analysis of the same source, the first
 # one of a process and one of many, a whole report beside reading its input as a JSON value alone, and the report's peak of
-# memory beside its input. Then the analysis of made trees of ten thousand, a hundred thousand and a million nodes. The
-# rounds of all are interleaved, and the least processor time of each counts. It prints a table, which docs/speed.md takes.
+# memory beside its input. Then the analysis of made trees of ten thousand, a hundred thousand and a million nodes. A second table
+# has what eslint-scope, TypeScript's binder, the crawl of Babel's scopes and terser's scopes take, in analyses, those that are
+# installed. The rounds of all are interleaved, and the least processor time of each counts. docs/speed.md takes the tables.
 # The words are source files; with none it takes those of the list below that are there. REPORT names the report program
 # (bin/report), ROUNDS the rounds (5), PROGRAM a program that is timed in the place of the proved one. It works on a scratch
 # copy, and proves what it measures there; it needs rt, node, awk and GNU time.
@@ -128,10 +129,18 @@ peak_of_report() {
     awk 'END { print $1 * 1024 }' "$scratch/peak"
 }
 
-# A row of times for the tree of a file, or of a made one, for which there is no source.
+# What each peer takes for a file, one of many analyses and then the first of a process. A made tree has no source.
+times_of_peers() {
+    local peer
+    for peer in eslint-scope typescript babel terser; do
+        if [ -n "$1" ]; then echo "$(node bench/peer.js "$1" 9 "$peer") $(node bench/peer.js "$1" 1 "$peer")"; else echo '0 0'; fi
+    done
+}
+
+# A row of times for the tree of a file, or of a made one.
 time_once() {
-    if [ -n "$3" ]; then peer="$(node bench/peer.js "$3" 9) $(node bench/peer.js "$3" 1)"; else peer='0 0'; fi
-    echo "$1 $peer $("$timed" <"$2") $(time_of_report "$2") $(peak_of_report "$2") $(wc -c <"$2")"
+    # shellcheck disable=SC2046
+    echo "$1" $(times_of_peers "$3") "$("$timed" <"$2") $(time_of_report "$2") $(peak_of_report "$2") $(wc -c <"$2")"
 }
 
 if [ -n "${PROGRAM:-}" ]; then
@@ -155,25 +164,40 @@ for _ in $(seq "$rounds"); do
         time_once "$name" "$tree" "$source"
     done <"$scratch/list"
 done | awk '
-    # The columns: name, eslint-scope, its first, nodes, value, analysis, the first, report, peak, bytes.
+    # The columns: name, four peers with one of many and the first of each, nodes, value, analysis, the first, report, peak, bytes.
     function keep(table, key, time) {
         if (!(key in table) || time < table[key]) table[key] = time
     }
+    # How many of our analyses one of a peer takes.
+    function beside(peer, ours) {
+        return peer > 0 ? sprintf("%.1f", peer / ours) : "-"
+    }
     !($1 in nodes) { order[++count] = $1 }
     {
-        nodes[$1] = $4
-        bytes[$1] = $10
-        keep(peer, $1, $2); keep(first_peer, $1, $3); keep(value, $1, $5); keep(analysis, $1, $6); keep(first, $1, $7)
-        keep(report, $1, $8); keep(peak, $1, $9)
+        nodes[$1] = $10
+        bytes[$1] = $16
+        for (i = 1; i <= 4; i++) {
+            keep(peer, $1 " " i, $(2 * i)); keep(first_peer, $1 " " i, $(2 * i + 1))
+        }
+        keep(value, $1, $11); keep(analysis, $1, $12); keep(first, $1, $13); keep(report, $1, $14); keep(peak, $1, $15)
     }
     END {
         print "| tree | nodes | analysis, ns a node | eslint-scope in analyses | the first of a process, ns a node | eslint-scope\047s first in these | report in JSON values | peak in inputs |"
         print "|---|---|---|---|---|---|---|---|"
         for (i = 1; i <= count; i++) {
             name = order[i]
-            beside = peer[name] > 0 ? sprintf("%.1f", peer[name] / analysis[name]) : "-"
-            first_beside = peer[name] > 0 ? sprintf("%.1f", first_peer[name] / first[name]) : "-"
-            printf "| %s | %d | %.0f | %s | %.0f | %s | %.1f | %.1f |\n", name, nodes[name], analysis[name] / nodes[name], beside,
-                first[name] / nodes[name], first_beside, report[name] / value[name], peak[name] / bytes[name]
+            printf "| %s | %d | %.0f | %s | %.0f | %s | %.1f | %.1f |\n", name, nodes[name], analysis[name] / nodes[name],
+                beside(peer[name " 1"], analysis[name]), first[name] / nodes[name], beside(first_peer[name " 1"], first[name]),
+                report[name] / value[name], peak[name] / bytes[name]
+        }
+        print "\n| one of many analyses; the first of a process | eslint-scope | TypeScript\047s binder | Babel\047s crawl | terser\047s scopes |"
+        print "|---|---|---|---|---|"
+        for (i = 1; i <= count; i++) {
+            name = order[i]
+            if (peer[name " 1"] == 0) continue
+            printf "| %s |", name
+            for (j = 1; j <= 4; j++)
+                printf " %s; %s |", beside(peer[name " " j], analysis[name]), beside(first_peer[name " " j], first[name])
+            print ""
         }
     }'

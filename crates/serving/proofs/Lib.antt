@@ -1,4 +1,3 @@
 pub mod Steps
 pub mod Exchanges
 pub mod Wholes
-pub mod Offering

@@ -1,10 +1,12 @@
 -- Whole requests are answered, but for want of memory.
-use Rattle.std.proofs.Common.{◌≡◌, ◌⊎◌, ◌<◌, ◌+◌, ◌-◌, ◌^◌, ◌++◌, ℕ, zero, suc, List, [], Option, Some, None, String, length, subst, sym, refl, ap, ◌∙◌, inl, inr, arith, append_assoc, append-nil, length-append}
+use Rattle.std.proofs.Common.{◌≡◌, ◌⊎◌, ◌<◌, ◌+◌, ◌-◌, ◌^◌, ◌++◌, ◌∷◌, ℕ, zero, suc, List, [], Option, Some, None, String, length, subst, sym, refl, ap, ◌∙◌, inl, inr, arith, append_assoc, append-nil, length-append}
+use Rattle.std.specs.List.{concat}
 use Rattle.std.specs.Io.KnownBytes.{Consumes, IsAtEnd}
 use Rattle.std.specs.Str.{IsUtf8}
 use Rattle.std.specs.declared.alloc.Global.{Global}
 use Rattle.serving.specs.Requests.{Answer, IsNumber, IsRequest, IsPart, AreWhole, IsAnswered}
-use Rattle.serving.specs.Serving.{ManyAnswered, HasNoWords, ServedSome, FaultCause}
+use Rattle.report_ends.specs.Offers.{Offering}
+use Rattle.serving.specs.Serving.{EachAnswered, HasNoWords, ServedSome, FaultCause}
 use Rattle.serving.specs.declared.fault.ServeFault.{ServeFault}
 use Rattle.serving.specs.declared.fault.ServeFault.TheVariants as fault
 use Rattle.serving.proofs.Steps.{same_front, same_number}
@@ -47,11 +49,14 @@ module _ (Answers : List (String Global) → List ℕ → Answer → Type 0) whe
       (m, omega (arith, is), subst (AreWhole m) (sym after.1) others)
 
   -- behind requests that are answered, whole ones are left
-  rest_whole : (k n : ℕ) (asked told rest : List ℕ) → ManyAnswered Answers k asked told → AreWhole n (asked ++ rest) → (m : ℕ) × (n ≡ k + m) × AreWhole m rest
-  rest_whole zero n asked told rest (none, told_none) whole = (n, omega arith, subst (λ xs. AreWhole n (xs ++ rest)) none whole)
-  rest_whole (suc k) n asked told rest (before, told_before, last, told_last, many, answered, splits, told_splits) whole =
-      let there = rest_whole k n before told_before (last ++ rest) many (subst (AreWhole n) (ap (λ xs. xs ++ rest) splits ∙ append_assoc before last rest) whole) in
-      left_behind k there.0 n rest last told_last answered there.1 there.2
+  rest_whole : (n : ℕ) (asks tells : List (List ℕ)) (rest : List ℕ) → EachAnswered Answers asks tells → AreWhole n (concat asks ++ rest) → (m : ℕ) × (n ≡ length tells + m) × AreWhole m rest
+  rest_whole n [] [] rest each whole = (n, omega arith, whole)
+  rest_whole n [] (told ∷ tells) rest each whole = absurd each
+  rest_whole n (asked ∷ asks) [] rest each whole = absurd each
+  rest_whole n (asked ∷ asks) (told ∷ tells) rest (first, each) whole =
+      let one = left_behind 0 n n (concat asks ++ rest) asked told first (omega arith) (subst (AreWhole n) (append_assoc asked (concat asks) rest) whole) in
+      let others = rest_whole one.0 asks tells rest each one.2 in
+      (others.0, omega (arith, one.1, others.1), others.2)
 
 -- ---- what doesn't stop whole requests
 
@@ -108,10 +113,11 @@ rest_of input asked None consumed = absurd consumed
 rest_of input asked (Some rest) consumed = (rest, refl, consumed)
 
 -- want of memory alone stops the answers to whole requests
-pub only_memory : (Answers : List (String Global) → List ℕ → Answer → Type 0) (read write : Type 0) (left left_then held held_then : Option (List ℕ)) (why : ServeFault) → ServedSome Answers read write left left_then held held_then why
-    → (count : ℕ) (input : List ℕ) → count < 2 ^ 32 - 1 → left ≡ Some input → AreWhole count input → ¬ read → ¬ write → why ≡ fault.Memory
-only_memory Answers read write left left_then held held_then why stops count input few told whole unread unwritten =
-    let known = rest_of input stops.served.asked stops.between (subst (λ xs. Consumes xs stops.between stops.served.asked) told stops.served.read) in
-    let behind = rest_whole Answers stops.served.answered.count count stops.served.asked stops.served.told known.0 stops.served.answered.each (subst (AreWhole count) known.2 whole) in
-    no_fault read write (stops.served.answered.count ≡ 2 ^ 32 - 1) behind.0 known.0 left_then why behind.2 unread unwritten (λ many. omega (arith, many, few, behind.1))
-    (subst (λ xs. FaultCause read write (stops.served.answered.count ≡ 2 ^ 32 - 1) xs left_then why) known.1 stops.cause)
+pub only_memory : {K : Type 0} (Offered : Offering K) (Answers : List (String Global) → List ℕ → Answer → Type 0) (read write : Type 0) (left left_then held held_then : Option (List ℕ)) (old new : K) (why : ServeFault)
+    → ServedSome Offered Answers read write left left_then held held_then old new why → (count : ℕ) (input : List ℕ) → count < 2 ^ 32 - 1 → left ≡ Some input → AreWhole count input → ¬ read → ¬ write → why ≡ fault.Memory
+only_memory Offered Answers read write left left_then held held_then old new why stops count input few told whole unread unwritten =
+    let asked = concat stops.served.asked in
+    let known = rest_of input asked stops.between (subst (λ xs. Consumes xs stops.between asked) told stops.served.read) in
+    let behind = rest_whole Answers count stops.served.asked stops.served.told known.0 stops.served.answered (subst (AreWhole count) known.2 whole) in
+    no_fault read write (length stops.served.told ≡ 2 ^ 32 - 1) behind.0 known.0 left_then why behind.2 unread unwritten (λ many. omega (arith, many, few, behind.1))
+    (subst (λ xs. FaultCause read write (length stops.served.told ≡ 2 ^ 32 - 1) xs left_then why) known.1 stops.cause)

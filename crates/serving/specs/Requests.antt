@@ -1,5 +1,5 @@
 -- Requests and answers as bytes.
-use Rattle.std.specs.Prelude.{◌≡◌, ◌⊎◌, ◌+◌, ◌<◌, ◌≤◌, ℕ, zero, suc, List, [], ◌++◌, length, map, String, string_bytes}
+use Rattle.std.specs.Prelude.{◌≡◌, ◌+◌, ◌<◌, ◌≤◌, ℕ, zero, suc, List, [], ◌++◌, length, map, String, string_bytes}
 use Rattle.std.specs.Int.{w64, from_le_bytes, to_le_bytes}
 use Rattle.std.specs.Str.{IsUtf8}
 use Rattle.std.specs.Str.Lines.{lines}
@@ -62,7 +62,3 @@ pub record IsAnswered (Answers : List (String Global) → List ℕ → Answer �
   pub answer : Answer
   pub answers : IsAnswerTo Answers text input answer
   pub bytes : answer_bytes answer ≡ told
-
--- no bytes, or those that answer some request
-abbrev pub MayBeAnswer : (List (String Global) → List ℕ → Answer → Type 0) → List ℕ → Type 0
-MayBeAnswer Answers text = (text ≡ []) ⊎ ((asked : List ℕ) × IsAnswered Answers asked text)

@@ -1,81 +1,73 @@
 -- What it is to answer requests one behind the other.
-use Rattle.std.specs.Prelude.{◌≡◌, ◌⊎◌, ◌-◌, ◌^◌, ℕ, zero, suc, List, [], ◌++◌, Option, Some, None, Result, Ok, Err, String}
+use Rattle.std.specs.Prelude.{◌≡◌, ◌⊎◌, ◌-◌, ◌^◌, ℕ, List, [], ◌∷◌, length, Option, Some, None, String}
+use Rattle.std.specs.List.{concat}
 use Rattle.std.specs.Io.KnownBytes.{Appends, Consumes}
 use Rattle.std.specs.declared.alloc.Global.{Global}
 use Rattle.report_ends.specs.Offers.{Offering, OffersUntil, OffersPart, OffersEach}
 use Rattle.report_ends.specs.Streams.{AppendsPrefix}
 use Rattle.std.specs.Str.{IsUtf8}
-use Rattle.serving.specs.Requests.{Answer, IsRequest, IsAnswered, MayBeAnswer}
+use Rattle.serving.specs.Requests.{Answer, IsRequest, IsAnswered}
 use Rattle.serving.specs.Reads.{IsDone, IsCut, IsTooLong}
 use Rattle.serving.specs.declared.fault.ServeFault.{ServeFault}
 use Rattle.serving.specs.declared.fault.ServeFault.TheVariants as fault
 
--- the bytes are some, and then others
-abbrev pub Splits : List ℕ → List ℕ → List ℕ → Type 0
-Splits bytes front rest = bytes ≡ front ++ rest
+-- each of these requests is answered by the text at its place
+abbrev pub EachAnswered : (List (String Global) → List ℕ → Answer → Type 0) → List (List ℕ) → List (List ℕ) → Type 0
+EachAnswered Answers [] [] = Unit {0}
+EachAnswered Answers [] (told ∷ tells) = ⊥
+EachAnswered Answers (asked ∷ asks) [] = ⊥
+EachAnswered Answers (asked ∷ asks) (told ∷ tells) = IsAnswered Answers asked told × EachAnswered Answers asks tells
 
--- so many requests, which stand one behind the other in some bytes, are answered, in this order, by what stands in others
-abbrev pub ManyAnswered : (List (String Global) → List ℕ → Answer → Type 0) → ℕ → List ℕ → List ℕ → Type 0
-ManyAnswered Answers zero asked told = (asked ≡ []) × (told ≡ [])
-ManyAnswered Answers (suc n) asked told = (before : List ℕ) × (told_before : List ℕ) × (last : List ℕ) × (told_last : List ℕ)
-    × ManyAnswered Answers n before told_before × IsAnswered Answers last told_last × Splits asked before last × Splits told told_before told_last
+-- any text
+abbrev pub AnyText : List ℕ → Type 0
+AnyText text = Unit {0}
 
--- requests that stand one behind the other in some bytes are answered, in this order, by what stands in others
-pub record AreAnswered (Answers : List (String Global) → List ℕ → Answer → Type 0) (asked told : List ℕ) : Type 0 where
-  pub count : ℕ
-  pub each : ManyAnswered Answers count asked told
+-- the source has lost requests, and the sink has got the answer to each, in this order, where these tell their bytes; each answer was offered as one piece
+pub record HasServed {K : Type 0} (Offered : Offering K) (Answers : List (String Global) → List ℕ → Answer → Type 0) (left left_then held held_then : Option (List ℕ)) (old new : K) : Type 0 where
+  pub asked : List (List ℕ)
+  pub told : List (List ℕ)
+  pub answered : EachAnswered Answers asked told
+  pub read : Consumes left left_then (concat asked)
+  pub written : Appends held held_then (concat told)
+  pub pieces : OffersEach Offered AnyText told old new
 
--- the source has lost requests, and the sink has got the answers to them, where these tell their bytes
-pub record HasServed (Answers : List (String Global) → List ℕ → Answer → Type 0) (left left_then held held_then : Option (List ℕ)) : Type 0 where
-  pub asked : List ℕ
-  pub told : List ℕ
-  pub answered : AreAnswered Answers asked told
-  pub read : Consumes left left_then asked
-  pub written : Appends held held_then told
-
--- the source has lost one request, and the sink has got the answer to it
-pub record HasServedOne (Answers : List (String Global) → List ℕ → Answer → Type 0) (left left_then held held_then : Option (List ℕ)) : Type 0 where
+-- the source has lost one request, and the sink has got the answer to it, which was offered as one piece
+pub record HasServedOne {K : Type 0} (Offered : Offering K) (Answers : List (String Global) → List ℕ → Answer → Type 0) (left left_then held held_then : Option (List ℕ)) (old new : K) : Type 0 where
   pub asked : List ℕ
   pub told : List ℕ
   pub answered : IsAnswered Answers asked told
   pub read : Consumes left left_then asked
   pub written : Appends held held_then told
+  pub piece : OffersUntil Offered old told new []
+
+-- nothing is offered
+pub record OffersNone {K : Type 0} (held held_then : Option (List ℕ)) (old new : K) : Type 0 where
+  pub written : Appends held held_then []
+  pub same : new ≡ old
 
 -- one more request is answered, or there is none
-abbrev pub Turn : (List (String Global) → List ℕ → Answer → Type 0) → Option (List ℕ) → Option (List ℕ) → Option (List ℕ) → Option (List ℕ) → Option Unit → Type 0
-Turn Answers left left_then held held_then (Some u) = HasServedOne Answers left left_then held held_then
-Turn Answers left left_then held held_then None = IsDone left left_then × Appends held held_then []
+abbrev pub Turn : {K : Type 0} → Offering K → (List (String Global) → List ℕ → Answer → Type 0) → Option (List ℕ) → Option (List ℕ) → Option (List ℕ) → Option (List ℕ) → K → K → Option Unit → Type 0
+Turn Offered Answers left left_then held held_then old new (Some u) = HasServedOne Offered Answers left left_then held held_then old new
+Turn Offered Answers left left_then held held_then old new None = IsDone left left_then × OffersNone held held_then old new
 
--- the sink has got a prefix of the answer to a request, or nothing
-abbrev pub TookPart : (List (String Global) → List ℕ → Answer → Type 0) → Option (List ℕ) → Option (List ℕ) → Type 0
-TookPart Answers held held_then = (text : List ℕ) × MayBeAnswer Answers text × AppendsPrefix held held_then text
+-- the source has lost one request, the answer to it was offered as one piece, and the sink has got a prefix of that, and not all
+pub record TookPrefix {K : Type 0} (Offered : Offering K) (Answers : List (String Global) → List ℕ → Answer → Type 0) (left left_then held held_then : Option (List ℕ)) (old new : K) : Type 0 where
+  pub asked : List ℕ
+  pub told : List ℕ
+  pub answered : IsAnswered Answers asked told
+  pub read : Consumes left left_then asked
+  pub written : AppendsPrefix held held_then told
+  pub piece : OffersPart Offered old told new
+
+-- nothing is offered, or a part of the answer to the next request is taken
+abbrev pub TookPart : {K : Type 0} → Offering K → (List (String Global) → List ℕ → Answer → Type 0) → Option (List ℕ) → Option (List ℕ) → Option (List ℕ) → Option (List ℕ) → K → K → Type 0
+TookPart Offered Answers left left_then held held_then old new = OffersNone held held_then old new ⊎ TookPrefix Offered Answers left left_then held held_then old new
 
 -- all requests of the input are answered, and nothing is left of it
-pub record ServedAll (Answers : List (String Global) → List ℕ → Answer → Type 0) (left left_then held held_then : Option (List ℕ)) : Type 0 where
+pub record ServedAll {K : Type 0} (Offered : Offering K) (Answers : List (String Global) → List ℕ → Answer → Type 0) (left left_then held held_then : Option (List ℕ)) (old new : K) : Type 0 where
   pub between : Option (List ℕ)
-  pub served : HasServed Answers left between held held_then
+  pub served : HasServed Offered Answers left between held held_then old new
   pub done : IsDone between left_then
-
--- ---- in which pieces answers are offered
-
--- the bytes answer some request
-abbrev pub IsSomeAnswer : (List (String Global) → List ℕ → Answer → Type 0) → List ℕ → Type 0
-IsSomeAnswer Answers text = (asked : List ℕ) × IsAnswered Answers asked text
-
--- nothing is offered, or an answer as one piece, and the sink hasn't taken it to its end
-abbrev pub StopsOffering : {K : Type 0} → Offering K → (List (String Global) → List ℕ → Answer → Type 0) → K → K → Type 0
-StopsOffering Offered Answers old new = (new ≡ old) ⊎ ((text : List ℕ) × IsSomeAnswer Answers text × OffersPart Offered old text new)
-
--- the answer to one more request is offered as one piece, or there is none
-abbrev pub OffersAnswer : {K : Type 0} → Offering K → (List (String Global) → List ℕ → Answer → Type 0) → K → K → Result (Option Unit) ServeFault → Type 0
-OffersAnswer Offered Answers old new (Ok (Some u)) = (text : List ℕ) × IsSomeAnswer Answers text × OffersUntil Offered old text new []
-OffersAnswer Offered Answers old new (Ok None) = new ≡ old
-OffersAnswer Offered Answers old new (Err why) = StopsOffering Offered Answers old new
-
--- answers to requests are offered, each as one piece
-abbrev pub OffersAnswers : {K : Type 0} → Offering K → (List (String Global) → List ℕ → Answer → Type 0) → K → K → Result Unit ServeFault → Type 0
-OffersAnswers Offered Answers old new (Ok done) = (texts : List (List ℕ)) × OffersEach Offered (IsSomeAnswer Answers) texts old new
-OffersAnswers Offered Answers old new (Err why) = (texts : List (List ℕ)) × (between : _) × OffersEach Offered (IsSomeAnswer Answers) texts old between × StopsOffering Offered Answers between new
 
 -- ---- what stops
 
@@ -112,9 +104,10 @@ FaultCause read_failed write_failed many left left_then fault.TooMany = many
 FaultCause read_failed write_failed many left left_then fault.Memory = Unit {0}
 
 -- the first requests of the input are answered, of the next answer the sink has got a prefix at most, and this is why
-pub record ServedSome (Answers : List (String Global) → List ℕ → Answer → Type 0) (read_failed write_failed : Type 0) (left left_then held held_then : Option (List ℕ)) (why : ServeFault) : Type 0 where
+pub record ServedSome {K : Type 0} (Offered : Offering K) (Answers : List (String Global) → List ℕ → Answer → Type 0) (read_failed write_failed : Type 0) (left left_then held held_then : Option (List ℕ)) (old new : K) (why : ServeFault) : Type 0 where
   pub between : Option (List ℕ)
   pub held_between : Option (List ℕ)
-  pub served : HasServed Answers left between held held_between
-  pub part : TookPart Answers held_between held_then
-  pub cause : FaultCause read_failed write_failed (served.answered.count ≡ 2 ^ 32 - 1) between left_then why
+  pub out_between : K
+  pub served : HasServed Offered Answers left between held held_between old out_between
+  pub part : TookPart Offered Answers between left_then held_between held_then out_between new
+  pub cause : FaultCause read_failed write_failed (length served.told ≡ 2 ^ 32 - 1) between left_then why

@@ -6,7 +6,7 @@ ghost use Rattle.report_ends.specs.Offers.{OffersPiece};
 ghost use Rattle.report_ends.specs.Streams.{AppendsPrefix};
 ghost use Rattle.std.specs.Io.KnownBytes.{Appends};
 ghost use Rattle.serving.specs.Requests.{Answer, IsAnswerTo, AreWhole, answer_bytes};
-ghost use Rattle.serving.specs.Serving.{Turn, TookPart, ServedAll, ServedSome, OffersAnswer, OffersAnswers, AnswerCause, OfferCause, FaultCause};
+ghost use Rattle.serving.specs.Serving.{Turn, TookPart, ServedAll, ServedSome, AnswerCause, OfferCause, FaultCause};
 
 use crate::answering::Answering;
 use crate::fault::ServeFault;
@@ -96,16 +96,15 @@ fn serve_one<S: Source, K: Sink, A: Answering>(
     source: &mut S,
     out: &mut K,
 ) -> Result<Option<()>, ServeFault>
-    ensures turn { IfOk result (Turn (A.Answers answering.now) (S.left source.old)
-        (S.left source.new) (K.held out.old) (K.held out.new)) }
-    ensures part { OnErr result
-        (TookPart (A.Answers answering.now) (K.held out.old) (K.held out.new)) }
+    ensures turn { IfOk result (Turn K.Offered (A.Answers answering.now) (S.left source.old)
+        (S.left source.new) (K.held out.old) (K.held out.new) out.old out.new) }
+    ensures part { OnErr result (TookPart K.Offered (A.Answers answering.now) (S.left source.old)
+        (S.left source.new) (K.held out.old) (K.held out.new) out.old out.new) }
     ensures fault { IfErr result
         (FaultCause (Rose (S.faults source.old) (S.faults source.new))
         (Rose (K.faults out.old) (K.faults out.new)) ⊥ (S.left source.old) (S.left source.new)) }
     ensures read_kept { OnOk result (S.faults source.new ≡ S.faults source.old) }
     ensures write_kept { OnOk result (K.faults out.new ≡ K.faults out.old) }
-    ensures pieces { OffersAnswer K.Offered (A.Answers answering.now) out.old out.new result }
 {
     let Some(request) = read_request(alloc, source)? else {
         return Ok(None);
@@ -130,14 +129,13 @@ pub fn serve<S: Source, K: Sink, A: Answering>(
     out: &mut K,
 ) -> Result<(), ServeFault>
     ensures served { OnOk result
-        (ServedAll (A.Answers answering.now) (S.left source.old) (S.left source.new)
-        (K.held out.old) (K.held out.new)) }
+        (ServedAll K.Offered (A.Answers answering.now) (S.left source.old) (S.left source.new)
+        (K.held out.old) (K.held out.new) out.old out.new) }
     ensures stopped { IfErr result
-        (ServedSome (A.Answers answering.now) (Rose (S.faults source.old) (S.faults source.new))
-        (Rose (K.faults out.old) (K.faults out.new))
-        (S.left source.old) (S.left source.new) (K.held out.old) (K.held out.new)) }
-    // Each answer is offered as one piece.
-    ensures pieces { OffersAnswers K.Offered (A.Answers answering.now) out.old out.new result }
+        (ServedSome K.Offered (A.Answers answering.now)
+        (Rose (S.faults source.old) (S.faults source.new))
+        (Rose (K.faults out.old) (K.faults out.new)) (S.left source.old) (S.left source.new)
+        (K.held out.old) (K.held out.new) out.old out.new) }
     // Where the input is fewer whole requests than `MOST_REQUESTS`, and no end fails, all are answered, but for want of memory.
     ensures complete { (count : ℕ) (input : List ℕ) → count < 2 ^ 32 - 1
         → S.left source.old ≡ Some input → AreWhole count input

@@ -1,17 +1,16 @@
 use Rattle.std.proofs.Common.{subst}
 use Rattle.serving.specs.Reads.{MayBeRead}
-use Rattle.serving.proofs.Exchanges.{nothing_on_fault, part_on_fault, unread, unanswered, unoffered}
-use Rattle.serving.proofs.Offering.{stops_before, stops_within, offers_one}
+use Rattle.serving.proofs.Exchanges.{nothing_on_fault, part_on_fault, served_one, unread, unanswered, unoffered}
 use Rattle.serving.proofs.turns.serve_one.Goals as goal
 
 pub returns-in_err-request-clause-part : goal.returns-in_err-request-clause-part
-returns-in_err-request-clause-part g c = nothing_on_fault _ c.from_residual.result _
+returns-in_err-request-clause-part g c = nothing_on_fault g.K.Sink.Offered _ c.from_residual.result _ _ _ _
 
 pub returns-in_err-request-clause-fault : goal.returns-in_err-request-clause-fault
 returns-in_err-request-clause-fault g c = unread _ _ _ _ _ c.in_err-request.field-0.0 c.from_residual.result c.in_err-request.ensures.cause c.from_residual.ensures.1
 
 pub returns-in_err-bytes-clause-part : goal.returns-in_err-bytes-clause-part
-returns-in_err-bytes-clause-part g c = nothing_on_fault _ c.from_residual-in_err-bytes.result _
+returns-in_err-bytes-clause-part g c = nothing_on_fault g.K.Sink.Offered _ c.from_residual-in_err-bytes.result _ _ _ _
 
 pub returns-in_err-bytes-clause-fault : goal.returns-in_err-bytes-clause-fault
 returns-in_err-bytes-clause-fault g c =
@@ -21,23 +20,14 @@ returns-in_err-bytes-clause-fault g c =
 pub returns-in_err-offer-clause-part : goal.returns-in_err-offer-clause-part
 returns-in_err-offer-clause-part g c =
     let asked = subst (MayBeRead _ _) c.in-Some.is c.in_ok-request.ensures.read in
-    part_on_fault _ c.from_residual-in_err-offer.result asked.0 _ _ c.in_ok-bytes.bytes.items _ _ asked.1 c.in_ok-bytes.ensures.answer (rw c.deref.ensures.value at c.in_err-offer.ensures.part)
+    part_on_fault g.K.Sink.Offered _ c.from_residual-in_err-offer.result asked.0 _ _ c.in_ok-bytes.bytes.items _ _ _ _ _ _ asked.1 asked.2 c.in_ok-bytes.ensures.answer
+    (rw c.deref.ensures.value at c.in_err-offer.ensures.part) (rw c.deref.ensures.value at c.in_err-offer.ensures.pieces.part)
 
 pub returns-in_err-offer-clause-fault : goal.returns-in_err-offer-clause-fault
 returns-in_err-offer-clause-fault g c = unoffered _ _ _ _ _ c.in_err-offer.field-0.0 c.from_residual-in_err-offer.result c.in_err-offer.ensures.fault c.from_residual-in_err-offer.ensures.1
 
-pub returns-in_err-request-clause-pieces : goal.returns-in_err-request-clause-pieces
-returns-in_err-request-clause-pieces g c = stops_before g.K.Sink.Offered _ _ c.from_residual.result _ c.from_residual.ensures.1
-
-pub returns-in_err-bytes-clause-pieces : goal.returns-in_err-bytes-clause-pieces
-returns-in_err-bytes-clause-pieces g c = stops_before g.K.Sink.Offered _ _ c.from_residual-in_err-bytes.result _ c.from_residual-in_err-bytes.ensures.1
-
-pub returns-in_err-offer-clause-pieces : goal.returns-in_err-offer-clause-pieces
-returns-in_err-offer-clause-pieces g c =
+pub returns-clause-turn : goal.returns-clause-turn
+returns-clause-turn g c =
     let asked = subst (MayBeRead _ _) c.in-Some.is c.in_ok-request.ensures.read in
-    stops_within g.K.Sink.Offered _ _ _ asked.0 _ _ c.in_ok-bytes.bytes.items _ c.from_residual-in_err-offer.result asked.1 c.in_ok-bytes.ensures.answer (rw c.deref.ensures.value at c.in_err-offer.ensures.pieces.part) c.from_residual-in_err-offer.ensures.1
-
-pub returns-clause-pieces : goal.returns-clause-pieces
-returns-clause-pieces g c =
-    let asked = subst (MayBeRead _ _) c.in-Some.is c.in_ok-request.ensures.read in
-    offers_one g.K.Sink.Offered _ _ _ asked.0 _ _ c.in_ok-bytes.bytes.items _ asked.1 c.in_ok-bytes.ensures.answer (rw c.deref.ensures.value at c.in_ok-offer.ensures.pieces.whole)
+    served_one g.K.Sink.Offered _ asked.0 _ _ c.in_ok-bytes.bytes.items _ _ _ _ _ _ asked.1 asked.2 c.in_ok-bytes.ensures.answer
+    (rw c.deref.ensures.value at c.in_ok-offer.ensures.whole) (rw c.deref.ensures.value at c.in_ok-offer.ensures.pieces.whole)
