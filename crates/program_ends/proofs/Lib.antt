@@ -3,3 +3,4 @@ pub mod Meanings
 pub mod Endings
 pub mod Answering
 pub mod Faults
+pub mod Findings

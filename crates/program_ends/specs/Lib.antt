@@ -10,3 +10,4 @@ pub mod Completeness
 pub mod Faults
 pub mod Running
 pub mod FindingEnds
+pub mod Findings

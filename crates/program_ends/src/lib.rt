@@ -3,12 +3,14 @@
 #![tactic(auto)]
 
 mod finding;
+mod finding_runs;
 mod input;
 mod standard;
 mod status;
 mod stops;
 
 pub use finding::FindingStatus;
+pub use finding_runs::{FindingProgram, run_findings};
 pub use input::read_program_from;
 pub use standard::run_over_standard_ends;
 pub use status::{Status, finish, refuse, tell};

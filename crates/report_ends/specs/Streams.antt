@@ -71,8 +71,12 @@ abbrev pub numbered_text : {X : Type 0} → (ℕ → X → List ℕ) → ℕ →
 numbered_text line number [] = []
 numbered_text line number (x ∷ xs) = line number x ++ numbered_text line (number + 1) xs
 
--- The sink has taken the first lines of the text, each offered as one piece, this is the rest of it, and no write failed.
-pub record PartWritten {K : Type 0} (held : K → Option (List ℕ)) (faults : K → ℕ) (Offered : Offering K) (IsLine : List ℕ → Type 0) (old new : K) (rest text : List ℕ) : Type 0 where
+-- The sink has taken a first part of the text, this is the rest of it, and no write failed.
+pub record PartTaken {K : Type 0} (held : K → Option (List ℕ)) (faults : K → ℕ) (old new : K) (rest text : List ℕ) : Type 0 where
   pub written : HasWritten (held old) (held new) rest text
-  pub pieces : HasOffered Offered IsLine old new rest text
   pub kept : faults new ≡ faults old
+
+-- The same, and that part is lines, each offered as one piece.
+pub record PartWritten {K : Type 0} (held : K → Option (List ℕ)) (faults : K → ℕ) (Offered : Offering K) (IsLine : List ℕ → Type 0) (old new : K) (rest text : List ℕ) : Type 0 where
+  pub taken : PartTaken held faults old new rest text
+  pub pieces : HasOffered Offered IsLine old new rest text

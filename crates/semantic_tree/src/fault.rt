@@ -12,7 +12,8 @@ use crate::shape::is_well_formed;
 use crate::sound::has_good_span;
 use semantic_syntax::NodeId;
 
-/// How deep a node may stand; the root stands at 0.
+/// How deep a node may stand; the root stands at 0. Trees are asked for it here, whoever made them, since all that walks
+/// a program does so by recursion. A reader that makes trees by recursion has to ask before (`tree_json/src/rows.rt`).
 pub const DEPTH_LIMIT: u32 = 1000;
 
 /// What is asked of each node.

@@ -93,7 +93,8 @@ fn is_next(row: &Row<'_>, opened: u64) -> bool
     }
 }
 
-/// Refuses the least row that is too deep.
+/// Refuses the least row that is too deep. `Program::new` refuses such a tree too, whoever made it; but `tree_of` goes down
+/// the rows by recursion, so a hostile input has to be refused before there is a tree.
 fn check_depths(rows: &[Row<'_>]) -> Result<(), TreeError>
     requires { length rows.now < 2 ^ 32 - 1 }
     ensures { result ≡ shallow_from 0 (map line rows.now) }
@@ -106,7 +107,7 @@ fn check_depths(rows: &[Row<'_>]) -> Result<(), TreeError>
     Ok(())
 }
 
-/// Whether these rows list a tree that is not too deep.
+/// Whether these rows list a tree that is not too deep, asked before the tree is made for the same reason.
 pub(crate) fn are_listed(rows: &[Row<'_>]) -> bool
     requires { 0 < length rows.now }
     ensures { IsTrue result → IsListing (map line rows.now)
