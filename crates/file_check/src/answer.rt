@@ -5,7 +5,8 @@ ghost use Rattle.semantic_model.specs.NodeTable.{node_tables};
 ghost use Rattle.semantic_model.specs.Step.{steps};
 ghost use Rattle.semantic.specs.Begun.{IsAnalysis};
 ghost use Rattle.semantic.specs.Shown.{entries};
-ghost use Rattle.program_ends.specs.Answering.{WritesAll};
+ghost use Rattle.program_ends.specs.Answering.{WritesAll, GivesAnswer};
+ghost use Rattle.program_ends.specs.FindingEnds.{end_of};
 ghost use Rattle.report_answers.specs.Codes.{status_for};
 ghost use Rattle.report_answers.specs.Found.{found_in};
 ghost use Rattle.report_answers.specs.Report.{answer_text};
@@ -14,7 +15,7 @@ ghost use Rattle.name_lint.specs.Gathered.{text_of, span_of};
 ghost use Rattle.name_lint.specs.Lines.{name_lines};
 ghost use Rattle.file_check.specs.Asked.{check_request};
 ghost use Rattle.file_check.specs.Codes.{status_of_both};
-ghost use Rattle.file_check.specs.Meaning.{GivesAnswer};
+ghost use Rattle.file_check.specs.Meaning.{Answers};
 
 use crate::CheckStatus;
 use name_lint::{NameReport, TreePass, finish_names, names_by};
@@ -84,7 +85,8 @@ fn answer_by<K: Sink>(
     requires nodes { ret.now.semantic.tables.symbols
         ≡ entries (node_tables (steps program.now)).symbols }
     requires labels { ret.now.semantic.unused_labels.items ≡ unused_labels program.now.root }
-    ensures { GivesAnswer K.held K.faults out.old out.new words.now program.now result }
+    ensures { GivesAnswer end_of (Answers words.now) K.held K.faults out.old out.new program.now
+        result }
 {
     let scoping = ret.semantic.scoping();
     let tables = ret.semantic.tables();
@@ -100,7 +102,8 @@ pub fn answer<K: Sink>(
     program: &Program,
     out: &mut K,
 ) -> Result<CheckStatus, ReportError>
-    ensures { GivesAnswer K.held K.faults out.old out.new words.now program.now result }
+    ensures { GivesAnswer end_of (Answers words.now) K.held K.faults out.old out.new program.now
+        result }
 {
     let analysis = SemanticBuilder::new()
         .with_check_syntax_error(true)

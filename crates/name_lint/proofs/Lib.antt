@@ -1,6 +1,5 @@
 pub mod InRange
 pub mod Lines
-pub mod Meanings
 pub mod ScopesTold
 pub mod Passed
 pub mod Bounded

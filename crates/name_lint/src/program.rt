@@ -1,21 +1,19 @@
 //! The program, over any source and any sinks.
-ghost use Rattle.std.specs.Prelude.{◌≡◌, ◌<◌, ◌↔◌, ℕ, List, Some, length, map, All, IsTrue, IfErr};
-ghost use Rattle.semantic_tree.specs.Tree.{Tree};
+ghost use Rattle.std.specs.Prelude.{◌≡◌, ◌<◌, ◌↔◌, length, map, All, IsTrue};
 ghost use Rattle.semantic_model.specs.NodeTable.{node_tables};
 ghost use Rattle.semantic_model.specs.Step.{steps};
 ghost use Rattle.semantic_model.specs.TablesOf.{tables_of};
 ghost use Rattle.semantic.specs.Shown.{entries};
 ghost use Rattle.name_lint.specs.Gathered.{text_of, span_of};
-ghost use Rattle.program_ends.specs.Answering.{WritesAll};
+ghost use Rattle.program_ends.specs.Answering.{WritesAll, GivesAnswer};
 ghost use Rattle.program_ends.specs.Calls.{source_call, sink_call};
-ghost use Rattle.program_ends.specs.Completeness.{IsClear, IsNotRefused, IsDoneOrMemory, IsUsageOrMemory};
-ghost use Rattle.program_ends.specs.Ending.{TellsEnd};
-ghost use Rattle.program_ends.specs.Faults.{FaultsEnd, end_due};
-ghost use Rattle.program_ends.specs.Reads.{Stands};
+ghost use Rattle.program_ends.specs.Completeness.{IsClear, IsDoneOrMemory, IsUsageOrMemory};
+ghost use Rattle.program_ends.specs.Faults.{FaultsEnd};
 ghost use Rattle.program_ends.specs.FindingEnds.{end_of};
+ghost use Rattle.program_ends.specs.Findings.{FindingMeans};
 ghost use Rattle.name_lint.specs.Codes.{status_for};
 ghost use Rattle.name_lint.specs.Lines.{name_lines};
-ghost use Rattle.name_lint.specs.Meaning.{GivesAnswer, Ends, Means};
+ghost use Rattle.name_lint.specs.Meaning.{Answers};
 ghost use Rattle.name_lint.specs.Telling.{usage_line};
 ghost use Rattle.name_lint.specs.Words.{AreNames};
 
@@ -23,7 +21,7 @@ use crate::NamesStatus;
 use crate::found_names::{NameReport, names_by};
 use crate::name_lines::write_names;
 use crate::tree_pass::TreePass;
-use program_ends::{Stop, read_program_from, refuse, tell};
+use program_ends::{FindingProgram, run_findings};
 use report_ends::{ReportError, Sink, Source};
 use scoping::{NodeTables, Scoping};
 use semantic::{SemanticBuilder, drop_analysis};
@@ -86,7 +84,8 @@ fn answer_by<K: Sink>(
 ) -> Result<NamesStatus, ReportError>
     requires tables { scoping.now ≡ tables_of program.now }
     requires nodes { tables.now.symbols ≡ entries (node_tables (steps program.now)).symbols }
-    ensures { GivesAnswer K.held K.faults out.old out.new words.now program.now result }
+    ensures { GivesAnswer end_of (Answers words.now) K.held K.faults out.old out.new program.now
+        result }
 {
     let pass = TreePass::over(alloc, program, tables)?;
     let report = names_by(alloc, program, scoping, tables, &pass, words)?;
@@ -100,7 +99,8 @@ fn answer<K: Sink>(
     program: &Program,
     out: &mut K,
 ) -> Result<NamesStatus, ReportError>
-    ensures { GivesAnswer K.held K.faults out.old out.new words.now program.now result }
+    ensures { GivesAnswer end_of (Answers words.now) K.held K.faults out.old out.new program.now
+        result }
 {
     let analysis = SemanticBuilder::new().build(alloc, program)?;
     let semantic = &analysis.semantic;
@@ -116,34 +116,47 @@ fn answer<K: Sink>(
     answered
 }
 
-/// Reads a program, and writes the lines on its names.
-fn answer_input<S: Source, K: Sink>(
-    alloc: Global,
-    words: &[String],
-    source: &mut S,
-    out: &mut K,
-) -> Result<NamesStatus, ReportError>
-    requires { AreNames words.now }
-    ensures ends { Ends words.now (source_call S.left S.faults source.old source.new)
-        (sink_call K.held K.faults out.old out.new) result }
-    ensures failing { FaultsEnd (source_call S.left S.faults source.old source.new)
-        (sink_call K.held K.faults out.old out.new) (end_due end_of result) }
-    ensures complete { (input : List ℕ) (program : Tree) → S.left source.old ≡ Some input
-        → Stands input program → IfErr result IsNotRefused }
-{
-    let program = read_program_from(alloc, source)?;
-    answer(alloc, words, &program, out)
-}
-
 /// The line on words that aren't names, or can't be had.
 pub const USAGE: &str = "usage: name_lint [NAME ..]\n";
 
-/// Answers words that aren't names.
-fn refuse_words<E: Sink>(errs: &mut E) -> NamesStatus
-    ensures { TellsEnd (sink_call E.held E.faults errs.old errs.new) usage_line Stop.Usage
-        (end_of result) }
-{
-    refuse(USAGE, errs)
+/// The lint as a program.
+struct NameLint;
+
+impl FindingProgram for NameLint {
+    ghost use Rattle.std.proofs.Common.{ap, ◌∙◌};
+    ghost use Rattle.program_ends.specs.Meaning.{is_answer};
+    ghost use Rattle.name_lint.specs.Codes.{status_answers};
+    ghost use Rattle.name_lint.specs.Known.{names_of};
+    ghost use Rattle.name_lint.specs.Meaning.{Answers};
+    ghost use Rattle.name_lint.specs.Telling.{usage_line};
+    ghost use Rattle.name_lint.specs.Undeclared.{undeclared};
+    ghost use Rattle.name_lint.specs.Words.{AreNames};
+
+    ghost IsAsked = { AreNames };
+
+    ghost usage_line = { usage_line };
+
+    ghost Answers = { Answers };
+
+    ghost ends_answer = { λ words end program text answers. ap is_answer answers.ends
+        ∙ status_answers answers.unused (undeclared (names_of words) program) };
+
+    fn usage() -> &'static str {
+        USAGE
+    }
+
+    fn is_asked(words: &[String]) -> bool {
+        are_names(words)
+    }
+
+    fn answer<K: Sink>(
+        alloc: Global,
+        words: &[String],
+        program: &Program,
+        out: &mut K,
+    ) -> Result<NamesStatus, ReportError> {
+        answer(alloc, words, program, out)
+    }
 }
 
 /// Does all that the program does: it reads the whole input, which is a program's tree as JSON, and writes to `out` the
@@ -158,9 +171,10 @@ pub fn run_names<S: Source, K: Sink, E: Sink>(
     out: &mut K,
     errs: &mut E,
 ) -> NamesStatus
-    ensures means { Means (source_call S.left S.faults source.old source.new)
+    ensures means { FindingMeans (AreNames words.now) usage_line (Answers words.now)
+        (source_call S.left S.faults source.old source.new)
         (sink_call K.held K.faults out.old out.new)
-        (sink_call E.held E.faults errs.old errs.new) words.now result }
+        (sink_call E.held E.faults errs.old errs.new) result }
     ensures failing { FaultsEnd (source_call S.left S.faults source.old source.new)
         (sink_call K.held K.faults out.old out.new) (end_of result) }
     ensures complete { AreNames words.now
@@ -168,11 +182,5 @@ pub fn run_names<S: Source, K: Sink, E: Sink>(
         (sink_call K.held K.faults out.old out.new) → IsDoneOrMemory (end_of result) }
     ensures usage { (AreNames words.now → ⊥) → IsUsageOrMemory (end_of result) }
 {
-    if !are_names(words) {
-        return refuse_words(errs);
-    }
-    match answer_input(alloc, words, source, out) {
-        Ok(status) => status,
-        Err(error) => tell(alloc, &error, errs),
-    }
+    run_findings::<NameLint, S, K, E>(alloc, words, source, out, errs)
 }

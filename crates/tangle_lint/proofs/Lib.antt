@@ -1,3 +1,2 @@
 pub mod Beyond
 pub mod Lines
-pub mod Meanings

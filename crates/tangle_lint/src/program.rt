@@ -1,23 +1,21 @@
 //! The program, over any source and any sinks.
-ghost use Rattle.std.specs.Prelude.{◌≡◌, ◌↔◌, ℕ, List, Some, IsTrue, IfErr};
-ghost use Rattle.semantic_tree.specs.Tree.{Tree};
+ghost use Rattle.std.specs.Prelude.{◌≡◌, ◌↔◌, IsTrue};
 ghost use Rattle.semantic_model.specs.TablesOf.{tables_of};
-ghost use Rattle.program_ends.specs.Answering.{WritesAll};
+ghost use Rattle.program_ends.specs.Answering.{WritesAll, GivesAnswer};
 ghost use Rattle.program_ends.specs.Calls.{source_call, sink_call};
-ghost use Rattle.program_ends.specs.Completeness.{IsClear, IsNotRefused, IsDoneOrMemory, IsUsageOrMemory};
-ghost use Rattle.program_ends.specs.Ending.{TellsEnd};
-ghost use Rattle.program_ends.specs.Faults.{FaultsEnd, end_due};
-ghost use Rattle.program_ends.specs.Reads.{Stands};
+ghost use Rattle.program_ends.specs.Completeness.{IsClear, IsDoneOrMemory, IsUsageOrMemory};
+ghost use Rattle.program_ends.specs.Faults.{FaultsEnd};
 ghost use Rattle.program_ends.specs.FindingEnds.{end_of};
+ghost use Rattle.program_ends.specs.Findings.{FindingMeans};
 ghost use Rattle.tangle_lint.specs.Codes.{status_for};
 ghost use Rattle.tangle_lint.specs.Lines.{tangle_lines};
-ghost use Rattle.tangle_lint.specs.Meaning.{GivesAnswer, Ends, Means};
+ghost use Rattle.tangle_lint.specs.Meaning.{Answers};
 ghost use Rattle.tangle_lint.specs.Telling.{usage_line};
 ghost use Rattle.tangle_lint.specs.Words.{AreNone};
 
 use crate::TangledStatus;
 use crate::tangle_lines::write_tangles;
-use program_ends::{Stop, read_program_from, refuse, tell};
+use program_ends::{FindingProgram, run_findings};
 use report_ends::{ReportError, Sink, Source};
 use scoping::Scoping;
 use semantic::{SemanticBuilder, drop_analysis};
@@ -65,7 +63,7 @@ fn answer_by<K: Sink>(
     out: &mut K,
 ) -> Result<TangledStatus, ReportError>
     requires { scoping.now ≡ tables_of program.now }
-    ensures { GivesAnswer K.held K.faults out.old out.new program.now result }
+    ensures { GivesAnswer end_of Answers K.held K.faults out.old out.new program.now result }
 {
     let names = tangled_names(alloc, program, scoping)?;
     finish_answer(alloc, scoping, &names, out)
@@ -77,7 +75,7 @@ fn answer<K: Sink>(
     program: &Program,
     out: &mut K,
 ) -> Result<TangledStatus, ReportError>
-    ensures { GivesAnswer K.held K.faults out.old out.new program.now result }
+    ensures { GivesAnswer end_of Answers K.held K.faults out.old out.new program.now result }
 {
     let analysis = SemanticBuilder::new().build(alloc, program)?;
     let answered = answer_by(alloc, program, analysis.semantic.scoping(), out);
@@ -85,34 +83,46 @@ fn answer<K: Sink>(
     answered
 }
 
-/// Reads a program, and writes the lines on its names.
-fn answer_input<S: Source, K: Sink>(
-    alloc: Global,
-    words: &[String],
-    source: &mut S,
-    out: &mut K,
-) -> Result<TangledStatus, ReportError>
-    requires { AreNone words.now }
-    ensures ends { Ends words.now (source_call S.left S.faults source.old source.new)
-        (sink_call K.held K.faults out.old out.new) result }
-    ensures failing { FaultsEnd (source_call S.left S.faults source.old source.new)
-        (sink_call K.held K.faults out.old out.new) (end_due end_of result) }
-    ensures complete { (input : List ℕ) (program : Tree) → S.left source.old ≡ Some input
-        → Stands input program → IfErr result IsNotRefused }
-{
-    let program = read_program_from(alloc, source)?;
-    answer(alloc, &program, out)
-}
-
 /// The line on words, or that they can't be had.
 pub const USAGE: &str = "usage: tangled_names\n";
 
-/// Answers words.
-fn refuse_words<E: Sink>(errs: &mut E) -> TangledStatus
-    ensures { TellsEnd (sink_call E.held E.faults errs.old errs.new) usage_line Stop.Usage
-        (end_of result) }
-{
-    refuse(USAGE, errs)
+/// The lint as a program.
+struct TangleLint;
+
+impl FindingProgram for TangleLint {
+    ghost use Rattle.std.proofs.Common.{ap, ◌∙◌};
+    ghost use Rattle.program_ends.specs.Meaning.{is_answer};
+    ghost use Rattle.tangle_model.specs.Tangled.{tangles};
+    ghost use Rattle.tangle_lint.specs.Codes.{status_answers};
+    ghost use Rattle.tangle_lint.specs.Meaning.{Answers};
+    ghost use Rattle.tangle_lint.specs.Telling.{usage_line};
+    ghost use Rattle.tangle_lint.specs.Words.{AreNone};
+
+    ghost IsAsked = { AreNone };
+
+    ghost usage_line = { usage_line };
+
+    ghost Answers = { λ _. Answers };
+
+    ghost ends_answer = { λ words end program text answers. ap is_answer answers.ends
+        ∙ status_answers (tangles program) };
+
+    fn usage() -> &'static str {
+        USAGE
+    }
+
+    fn is_asked(words: &[String]) -> bool {
+        are_none(words)
+    }
+
+    fn answer<K: Sink>(
+        alloc: Global,
+        _words: &[String],
+        program: &Program,
+        out: &mut K,
+    ) -> Result<TangledStatus, ReportError> {
+        answer(alloc, program, out)
+    }
 }
 
 /// Does all that the program does: it reads the whole input, which is a program's tree as JSON, and writes to `out` the
@@ -125,9 +135,10 @@ pub fn run_tangled<S: Source, K: Sink, E: Sink>(
     out: &mut K,
     errs: &mut E,
 ) -> TangledStatus
-    ensures means { Means (source_call S.left S.faults source.old source.new)
+    ensures means { FindingMeans (AreNone words.now) usage_line Answers
+        (source_call S.left S.faults source.old source.new)
         (sink_call K.held K.faults out.old out.new)
-        (sink_call E.held E.faults errs.old errs.new) words.now result }
+        (sink_call E.held E.faults errs.old errs.new) result }
     ensures failing { FaultsEnd (source_call S.left S.faults source.old source.new)
         (sink_call K.held K.faults out.old out.new) (end_of result) }
     ensures complete { AreNone words.now
@@ -135,11 +146,5 @@ pub fn run_tangled<S: Source, K: Sink, E: Sink>(
         (sink_call K.held K.faults out.old out.new) → IsDoneOrMemory (end_of result) }
     ensures usage { (AreNone words.now → ⊥) → IsUsageOrMemory (end_of result) }
 {
-    if !are_none(words) {
-        return refuse_words(errs);
-    }
-    match answer_input(alloc, words, source, out) {
-        Ok(status) => status,
-        Err(error) => tell(alloc, &error, errs),
-    }
+    run_findings::<TangleLint, S, K, E>(alloc, words, source, out, errs)
 }
