@@ -1,9 +1,8 @@
 -- What is noted of one statement after another.
 use Rattle.std.proofs.Common.{◌≡◌, ℕ, List, [], ◌∷◌, ◌++◌, Option, None, Some, option_map, map, refl, ap, sym, ◌∙◌, append_assoc}
-use Rattle.std.proofs.lemmas.List.{map-append}
+use Rattle.std.proofs.lemmas.List.{map-append, append-nil}
 use Rattle.semantic_tree.specs.declared.node.Node.{Node}
 use Rattle.semantic_model.specs.Namespace.{InstanceState, non_instantiated, instantiated, const_enum_only, Item, Reached, counts_as, leads_to, specifiers_reached}
-use Rattle.namespace_states.proofs.Lists.{append-nil}
 use Rattle.namespace_states.specs.OpenBlocks.{node_of}
 use Rattle.namespace_states.specs.Led.{Led, counted, counted_all, led_to, led_by}
 

@@ -37,7 +37,3 @@ among-flattened f z (y ∷ xs) a = elim (among-append z (f y) (flat_map f xs) a)
   | inl b ↦ (y, (inl refl, b))
   | inr b ↦ (let (x, (c, d)) = among-flattened f z xs b in (x, (inr c, d)))
 ]
-
-pub append-nil : {A : Type 0} (xs : List A) → xs ++ [] ≡ xs
-append-nil [] = refl
-append-nil (x ∷ xs) = ap (λ ys. x ∷ ys) (append-nil xs)

@@ -1,5 +1,5 @@
 -- The search by rounds comes to all that is reached, where statements are known apart by ids below the bound.
-use Rattle.std.proofs.Common.{◌≡◌, ℕ, zero, suc, ◌+◌, ◌==◌, ◌||◌, ◌<◌, ◌≤◌, List, [], ◌∷◌, ◌++◌, Bool, true, false, cond, ◌⊎◌, inl, inr, map, flat_map, length, refl, ap, sym, subst, ◌∙◌, arith, length-append, All}
+use Rattle.std.proofs.Common.{◌≡◌, ℕ, zero, suc, ◌+◌, ◌==◌, ◌||◌, ◌<◌, ◌≤◌, List, [], ◌∷◌, ◌++◌, Bool, true, false, cond, ◌⊎◌, inl, inr, map, flat_map, length, refl, ap, sym, subst, ◌∙◌, arith, length-append, append-nil, All}
 use Rattle.std.proofs.lemmas.Bool.Decides.{nat_tests}
 use Rattle.std.proofs.lemmas.List.Elements.{All-nil, All-cons}
 use Rattle.std.proofs.lemmas.Bool.{eqb-true}
@@ -8,7 +8,7 @@ use Rattle.reachability.proofs.Distinct.{few_distinct}
 use Rattle.semantic_model.specs.Entries.{Among}
 use Rattle.semantic_model.specs.Namespace.{Item, is_among, new_items, reach, reached_within}
 use Rattle.namespace_states.specs.Reaches.{Reaches, itself, onward}
-use Rattle.namespace_states.proofs.Lists.{among-append, among-left, among-right, among-flat, among-flattened, append-nil}
+use Rattle.namespace_states.proofs.Lists.{among-append, among-left, among-right, among-flat, among-flattened}
 
 abbrev ids : List Item → List ℕ
 ids xs = map (λ i. i.node.node_id) xs

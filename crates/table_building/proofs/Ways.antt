@@ -1,16 +1,14 @@
 -- Steps of a way outward through the scopes of tables.
-use Rattle.std.proofs.Common.{◌≡◌, ℕ, suc, ◌-◌, ◌<◌, Bool, true, false, List, [], ◌∷◌, ◌++◌, length, Option, None, Some, map, refl, sym, ap, subst, ◌∙◌, arith, append_assoc}
+use Rattle.std.proofs.Common.{◌≡◌, ℕ, suc, ◌-◌, ◌<◌, Bool, true, false, List, [], ◌∷◌, ◌++◌, length, Option, None, Some, map, refl, sym, ap, subst, ◌∙◌, arith, append_assoc, append-nil}
 use Rattle.semantic_syntax.specs.Sets.{meets}
 use Rattle.semantic_syntax.specs.Tables.{Tables}
 use Rattle.semantic_syntax.specs.Source.{chain_within}
 use Rattle.semantic_syntax.specs.Reading.{scope_of, parent_of, chain}
 use Rattle.semantic_model.specs.Place.{OpenScope, innermost}
 use Rattle.semantic_model.specs.Declaration.{passed_before, first_with, route_from}
+use Rattle.semantic_model.specs.TablesOf.{numbers}
 use Rattle.table_building.specs.Routes.{open_of, open_from, way_from, IsWay}
 use Rattle.table_building.specs.declared.route.Route.{Route}
-
-abbrev pub numbers : List OpenScope → List ℕ
-numbers ss = map (λ s. s.number) ss
 
 -- the scopes that are left of a way: as many as so, from one outward
 abbrev pub left_from : Tables → ℕ → ℕ → List OpenScope
@@ -23,10 +21,6 @@ has bits s = meets s.flags bits
 pub record GoesOn (t : Tables) (from bits n s : ℕ) (passed : List ℕ) : Type 0 where
   pub passes : passed ++ numbers (passed_before (has bits) (left_from t n s)) ≡ numbers (passed_before (has bits) (open_from t from))
   pub finds : first_with (has bits) (left_from t n s) ≡ first_with (has bits) (open_from t from)
-
-pub append_nil : {A : Type 0} (xs : List A) → xs ++ [] ≡ xs
-append_nil [] = refl
-append_nil (x ∷ xs) = ap (λ ys. x ∷ ys) (append_nil xs)
 
 pub goes_on-begin : (t : Tables) (from bits : ℕ) → GoesOn t from bits (length t.scopes) from []
 goes_on-begin t from bits = record { passes = refl; finds = refl }
@@ -45,7 +39,7 @@ module _ (t : Tables) (from bits n s : ℕ) (passed : List ℕ) where
       let found : first_with (has bits) (left_from t (suc n) s) ≡ Some (open_of t s) = rw is refl in
       ends_here (first_with (has bits) (open_from t from)) (open_from t from) (passed_before (has bits) (open_from t from)) route
       (sym way.finds ∙ found)
-      (p ∙ sym (append_nil passed) ∙ ap (λ xs. passed ++ xs) (sym none) ∙ way.passes)
+      (p ∙ sym (append-nil passed) ∙ ap (λ xs. passed ++ xs) (sym none) ∙ way.passes)
       h
 
   -- it goes on past another one

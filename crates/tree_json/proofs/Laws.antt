@@ -4,6 +4,7 @@ use Rattle.semantic_kinds.specs.declared.role.Role.TheVariants.{Root}
 use Rattle.semantic_tree.specs.Forest.{Forest, nothing, tree, count, numbered}
 use Rattle.semantic_tree.specs.Children.{numbered_node}
 use Rattle.semantic_tree.specs.declared.node.Node.{Node}
+use Rattle.semantic_tree.proofs.Forests.{count-numbered}
 use Rattle.tree_json.specs.Lines.{Line, lines_of, line_of, listing}
 use Rattle.tree_json.specs.Listing.{Continues, Ends, IsListing}
 
@@ -28,11 +29,6 @@ Ends-after : (f : Forest) (depth : ℕ) (xs : List Line) → Ends depth xs → E
 Ends-after nothing depth [] ends = tt
 Ends-after nothing depth (x ∷ xs) ends = omega arith
 Ends-after (tree role kind span text marks below id after) depth xs ends = omega arith
-
-pub count-numbered : (n : ℕ) (f : Forest) → count (numbered n f) ≡ count f
-count-numbered n nothing = refl
-count-numbered n (tree role kind span text marks below id after) =
-    omega (arith, count-numbered (n + 1) below, count-numbered (n + 1 + count below) after)
 
 lines_of-same : (f g : Forest) (n depth : ℕ) (xs ys : List Line) → Ends depth xs → Ends depth ys → lines_of depth f ++ xs ≡ lines_of depth g ++ ys → (numbered n f ≡ numbered n g) × (xs ≡ ys)
 lines_of-same nothing nothing n depth xs ys ends_x ends_y h = (refl, h)

@@ -9,7 +9,7 @@ use Rattle.semantic_tree.proofs.ShapedLaws.{no_fault-IsShaped}
 use Rattle.semantic_tree.specs.Tree.{Tree, IsNumbered, numbered_tree}
 use Rattle.tree_json.specs.Lines.{lines_of, line_of}
 use Rattle.tree_json.specs.Reading.{listed}
-use Rattle.tree_json.proofs.Laws.{count-numbered}
+use Rattle.semantic_tree.proofs.Forests.{count-numbered}
 
 lines_of-numbered : (n depth : ℕ) (f : Forest) → lines_of depth (numbered n f) ≡ lines_of depth f
 lines_of-numbered n depth nothing = refl
