@@ -4,7 +4,7 @@ use Rattle.std.specs.Option.{option_map_or}
 use Rattle.std.specs.Str.{bytes_eq}
 use Rattle.semantic_syntax.specs.Tables.{Name}
 use Rattle.semantic_syntax.specs.Source.{IsSource, ends_within}
-use Rattle.scoping.specs.Names.{name_at}
+use Rattle.scoping_rows.specs.Names.{name_at}
 use Rattle.library_cases.specs.Nested.{around, own_symbol, nest_of}
 
 around_within : (count s : ℕ) → s < count → IfSome (around s) (λ p. p < count)

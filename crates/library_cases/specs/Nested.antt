@@ -3,7 +3,7 @@ use Rattle.std.specs.Prelude.{ℕ, ◌==◌, ◌-◌, List, Option, None, Some, 
 use Rattle.std.specs.Str.{bytes_eq}
 use Rattle.semantic_syntax.specs.Tables.{Name}
 use Rattle.semantic_syntax.specs.Source.{Source}
-use Rattle.scoping.specs.Names.{name_at}
+use Rattle.scoping_rows.specs.Names.{name_at}
 
 -- the scope around the scope: the one before it
 abbrev pub around : ℕ → Option ℕ

@@ -1,7 +1,7 @@
 //! The names that are known.
 ghost use Rattle.std.specs.Prelude.{◌≡◌, [], ◌||◌, ℕ, List, bytes_eq, IfOk, OnOk, string_bytes};
 ghost use Rattle.std.specs.Str.{chars};
-ghost use Rattle.scoping.specs.Names.{name_of};
+ghost use Rattle.scoping_rows.specs.Names.{name_of};
 ghost use Rattle.name_lint.specs.Known.{names_of};
 ghost use Rattle.name_lint.specs.Undeclared.{is_known};
 

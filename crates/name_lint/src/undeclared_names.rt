@@ -1,6 +1,6 @@
 //! Free references to names that nobody declares.
 ghost use Rattle.std.specs.Prelude.{◌≡◌, ◌<◌, length, map, IfOk, ℕ, List};
-ghost use Rattle.scoping.specs.Names.{name_of};
+ghost use Rattle.scoping_rows.specs.Names.{name_of};
 ghost use Rattle.semantic_syntax.specs.Lookup.{is_arguments};
 ghost use Rattle.name_lint.specs.Gathered.{text_of};
 ghost use Rattle.name_lint.specs.Known.{names_of};

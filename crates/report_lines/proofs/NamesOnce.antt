@@ -3,7 +3,7 @@ use Rattle.std.proofs.Common.{◌≡◌, ℕ, ◌<◌, suc, zero, arith, List, [
 use Rattle.std.specs.Option.{is_some}
 use Rattle.std.proofs.lemmas.List.{map-set}
 use Rattle.semantic_syntax.specs.declared.texts.Ident.{Ident}
-use Rattle.scoping.specs.Names.{name_of}
+use Rattle.scoping_rows.specs.Names.{name_of}
 use Rattle.report_lines.specs.FreeNames.{name_shown, named_once}
 
 shown_none : (names : List (Option Ident)) (i : ℕ) → i < length names → get_or names i None ≡ None → get_or (map name_shown names) i (Some []) ≡ None

@@ -3,7 +3,7 @@ use Rattle.std.specs.Prelude.{ℕ, List, [], ◌∷◌, Option, Some, None, leng
 use Rattle.std.specs.Option.{option_map}
 use Rattle.semantic_syntax.specs.declared.texts.Ident.{Ident}
 use Rattle.semantic_syntax.specs.Tables.{Name, FreeLists, Tables}
-use Rattle.scoping.specs.Names.{name_of}
+use Rattle.scoping_rows.specs.Names.{name_of}
 
 -- the characters of a name
 abbrev pub name_shown : Option Ident → Option Name

@@ -1,7 +1,7 @@
 //! The names of references.
 ghost use Rattle.std.specs.Prelude.{◌≡◌, ◌<◌, IfOk, None, length, map, replicate};
 ghost use Rattle.std.specs.Str.{chars, encode_utf8_all};
-ghost use Rattle.scoping.specs.Names.{name_of};
+ghost use Rattle.scoping_rows.specs.Names.{name_of};
 ghost use Rattle.semantic_syntax.specs.Reading.{reference_of};
 ghost use Rattle.report_lines.specs.TableLines.{reference_name};
 ghost use Rattle.report_lines.specs.FreeNames.{name_shown, named_once, named_each, named_by, free_names};

@@ -2,7 +2,7 @@
 ghost use Rattle.std.specs.Prelude.{◌≡◌, ◌<◌, ℕ, [], length, map, unwrap_or};
 ghost use Rattle.std.specs.List.{flat_map};
 ghost use Rattle.std.specs.Str.{encode_utf8_all};
-ghost use Rattle.scoping.specs.Names.{name_of};
+ghost use Rattle.scoping_rows.specs.Names.{name_of};
 ghost use Rattle.semantic_syntax.specs.Reading.{reference_of};
 ghost use Rattle.report_ends.specs.Streams.{WritesLines, numbered_text};
 ghost use Rattle.report_lines.specs.TableLines.{reference_name, reference_line, free_line, all_reference_lines};

@@ -1,7 +1,7 @@
 //! Writes the lines on scopes and what they bind.
 ghost use Rattle.std.specs.Prelude.{◌<◌, length, ℕ};
 ghost use Rattle.std.specs.List.{flat_map};
-ghost use Rattle.scoping.specs.Names.{name_of};
+ghost use Rattle.scoping_rows.specs.Names.{name_of};
 ghost use Rattle.semantic_syntax.specs.Reading.{scope_of};
 ghost use Rattle.report_ends.specs.Streams.{WritesLines, numbered_text};
 ghost use Rattle.report_lines.specs.TableLines.{scope_line, bind_line, scope_lines};

@@ -1,30 +1,16 @@
 -- What clones show.
-use Rattle.std.proofs.Common.{◌≡◌, ℕ, List, [], ◌∷◌, length, map, refl, sym, ap, ◌∙◌}
-use Rattle.std.specs.List.{AllZip}
+use Rattle.std.proofs.Common.{◌≡◌, ℕ, List, length, map, sym, ap, ◌∙◌}
 use Rattle.std.proofs.lemmas.List.{length-map}
 use Rattle.semantic_syntax.specs.declared.references.Reference.{Reference}
 use Rattle.semantic_syntax.specs.Tables.{Name, Tables}
 use Rattle.scoping.specs.declared.scoping.ScopeRow.{ScopeRow}
 use Rattle.scoping.specs.declared.scoping.Scoping.TheInside.{Inside}
-use Rattle.scoping.specs.Flat.{Numbered}
-use Rattle.scoping.specs.Names.{named}
-use Rattle.scoping.specs.Row.{Row, symbol_of_row}
+use Rattle.scoping_rows.specs.Flat.{Numbered}
+use Rattle.scoping_rows.specs.Names.{named}
+use Rattle.scoping_rows.specs.Row.{Row, symbol_of_row}
 use Rattle.scoping.specs.View.{IsSound, scope_of_row, tables}
-use Rattle.scoping.proofs.Rows.{rows}
+use Rattle.scoping_rows.proofs.Rows.{rows}
 use Rattle.scoping.proofs.Shown.{tables_eq}
-
-module _ {X : Type 0} (R : X → X → Type 0) where
-  pub clones_shown : {Y : Type 0} (f : X → Y) → ((x y : X) → R x y → f y ≡ f x) → (xs ys : List X) → AllZip R xs ys → map f ys ≡ map f xs
-  clones_shown f same [] [] h = refl
-  clones_shown f same [] (y ∷ ys) h = absurd h
-  clones_shown f same (x ∷ xs) [] h = absurd h
-  clones_shown f same (x ∷ xs) (y ∷ ys) h = λ j. same x y h.0 j ∷ clones_shown f same xs ys h.1 j
-
-  pub clones_same : ((x y : X) → R x y → y ≡ x) → (xs ys : List X) → AllZip R xs ys → ys ≡ xs
-  clones_same same [] [] h = refl
-  clones_same same [] (y ∷ ys) h = absurd h
-  clones_same same (x ∷ xs) [] h = absurd h
-  clones_same same (x ∷ xs) (y ∷ ys) h = λ j. same x y h.0 j ∷ clones_same same xs ys h.1 j
 
 -- fields that are equal show the same tables
 pub tables_same : (a : Inside) (names : List Name) (scopes : List ScopeRow) (bindings : List Numbered) (symbols : List Row) (references : List Reference) (uses : List (List ℕ)) (free : List (ℕ × List ℕ)) (pure_symbols : List ℕ)

@@ -4,11 +4,11 @@ use Rattle.std.specs.List.{AllByRecursion}
 use Rattle.std.proofs.Math.ListN.{set}
 use Rattle.std.proofs.lemmas.List.{length-set, get_or-set_same, get_or_default}
 use Rattle.semantic_syntax.specs.Tables.{Name}
-use Rattle.scoping.specs.Names.{name_at}
-use Rattle.scoping.specs.Row.{Row, symbol_of_row, no_row, row_named, row_moved}
+use Rattle.scoping_rows.specs.Names.{name_at}
+use Rattle.scoping_rows.specs.Row.{Row, symbol_of_row, no_row, row_named, row_moved}
 use Rattle.semantic_syntax.specs.Writing.{with_name, with_home}
 use Rattle.std.specs.Map.{values_of}
-use Rattle.scoping.specs.Flat.{Numbered}
+use Rattle.scoping_rows.specs.Flat.{Numbered}
 use Rattle.scoping.specs.View.{IsBoundWithin}
 use Rattle.semantic_syntax.proofs.Every.{every-more, every-at, every-set}
 use Rattle.scoping.proofs.Shown.{AreBound, AreNamed, bound_at, symbol_changed}

@@ -1,10 +1,4 @@
-pub mod Names
 pub mod Cases
-pub mod Found
-pub mod Filled
-pub mod Indexed
-pub mod Rows
-pub mod Entries
 pub mod Every
 pub mod Named
 pub mod Shown
@@ -20,11 +14,7 @@ pub mod Folds
 pub mod Walks
 pub mod Reparent
 pub mod Redeclared
-pub mod Sweeps
 pub mod Keeping
 pub mod Typeless
 pub mod Clones
 pub mod Ancestors
-pub mod Rising
-pub mod Apart
-pub mod PlainCounts

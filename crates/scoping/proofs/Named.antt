@@ -6,8 +6,8 @@ use Rattle.std.specs.Str.{bytes_eq}
 use Rattle.std.proofs.Math.ListN.{get_or-append}
 use Rattle.indexmap.specs.IndexMap.{insert_entry, shift_remove_entry}
 use Rattle.semantic_syntax.specs.Tables.{Name}
-use Rattle.scoping.specs.Flat.{Numbered, bound_under}
-use Rattle.scoping.specs.Names.{name_at, named, IsUnknown, IsNumberOf}
+use Rattle.scoping_rows.specs.Flat.{Numbered, bound_under}
+use Rattle.scoping_rows.specs.Names.{name_at, named, IsUnknown, IsNumberOf}
 
 -- each number is that of a name
 abbrev pub AreKnown : {X : Type 0} → ℕ → List (ℕ × X) → Type 0

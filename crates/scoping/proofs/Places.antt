@@ -5,7 +5,7 @@ use Rattle.std.specs.Str.{bytes_eq}
 use Rattle.std.proofs.lemmas.List.{get_or-map, length-map}
 use Rattle.semantic_syntax.specs.Tables.{Name, Tables}
 use Rattle.semantic_syntax.specs.Reading.{bound_in}
-use Rattle.scoping.specs.Flat.{Numbered, bound_under}
+use Rattle.scoping_rows.specs.Flat.{Numbered, bound_under}
 use Rattle.scoping.specs.Placed.{IsPlaceOf}
 
 module _ (t : Tables) (name : Name) (bs : List Numbered) (number : Option ℕ) (place : IsPlaceOf t name bs number) (counted : length t.bindings ≡ length t.scopes) where

@@ -7,10 +7,10 @@ use Rattle.std.proofs.lemmas.List.{length-map}
 use Rattle.semantic_syntax.specs.Tables.{Name}
 use Rattle.semantic_syntax.proofs.Every.{every-push, every-more}
 use Rattle.scoping.specs.declared.scoping.Scoping.TheInside.{Inside}
-use Rattle.scoping.specs.Names.{IsInterned}
-use Rattle.scoping.specs.Row.{Row, symbol_of_row}
+use Rattle.scoping_rows.specs.Names.{IsInterned}
+use Rattle.scoping_rows.specs.Row.{Row, symbol_of_row}
 use Rattle.scoping.specs.View.{IsSound, tables}
-use Rattle.scoping.proofs.Rows.{rows}
+use Rattle.scoping_rows.proofs.Rows.{rows}
 use Rattle.scoping.proofs.Shown.{tables_eq, bound_more, listed_more, symbols_pushed, sound_interned, bindings_interned, symbols_interned, free_interned}
 
 -- the row is pushed, and an empty list of uses for it, where room was made for each

@@ -3,8 +3,9 @@ use Rattle.std.proofs.Common.{◌≡◌, List, [], ◌∷◌, Option, None, Some
 use Rattle.semantic_syntax.specs.declared.spans.Span.{Span}
 use Rattle.semantic_syntax.specs.declared.references.Redeclaration.{Redeclaration}
 use Rattle.semantic_syntax.specs.Tables.{Name}
-use Rattle.scoping.specs.Row.{Row, symbol_of_row}
-use Rattle.scoping.specs.Redeclared.{elsewhere, declared_by, without_declaration, row_declared_by, row_without_declaration, or_stays, row_or_stays}
+use Rattle.scoping_rows.specs.Row.{Row, symbol_of_row}
+use Rattle.scoping_rows.specs.Redeclared.{elsewhere, row_declared_by, row_without_declaration, row_or_stays}
+use Rattle.scoping.specs.Redeclared.{declared_by, without_declaration, or_stays}
 
 shown_declared : (names : List Name) (y : Row) (ds : List Redeclaration) → symbol_of_row names (row_declared_by y ds) ≡ declared_by (symbol_of_row names y) ds
 shown_declared names y [] = refl

@@ -4,9 +4,9 @@ use Rattle.std.proofs.Math.ListN.{set}
 use Rattle.semantic_syntax.specs.Reading.{symbol_of, no_symbol}
 use Rattle.semantic_syntax.specs.Tables.{Name, Symbol}
 use Rattle.scoping.specs.declared.scoping.Scoping.TheInside.{Inside}
-use Rattle.scoping.specs.Flat.{renumbered}
-use Rattle.scoping.specs.Names.{name_at, IsNumberOf, IsInterned}
-use Rattle.scoping.specs.Row.{Row, symbol_of_row, no_row}
+use Rattle.scoping_rows.specs.Flat.{renumbered}
+use Rattle.scoping_rows.specs.Names.{name_at, IsNumberOf, IsInterned}
+use Rattle.scoping_rows.specs.Row.{Row, symbol_of_row, no_row}
 use Rattle.scoping.specs.View.{IsSound, tables}
 use Rattle.semantic_syntax.specs.Writing.{with_symbol, with_name, renamed}
 use Rattle.scoping.proofs.Moves.{bound_renumbered, length_renumbered, renumbered_is}

@@ -10,14 +10,14 @@ use Rattle.std.proofs.lemmas.List.{map-set, get_or-map, get_or_default, length-m
 use Rattle.indexmap.specs.IndexMap.{insert_entry, shift_remove_entry}
 use Rattle.semantic_syntax.specs.Tables.{Name, Bindings, Tables, Symbol, Scope}
 use Rattle.scoping.specs.declared.scoping.Scoping.TheInside.{Inside}
-use Rattle.scoping.specs.Flat.{Numbered}
-use Rattle.scoping.specs.Names.{name_at, named, IsUnknown, IsNumberOf, IsInterned}
-use Rattle.scoping.specs.Row.{Row, symbol_of_row, no_row}
+use Rattle.scoping_rows.specs.Flat.{Numbered}
+use Rattle.scoping_rows.specs.Names.{name_at, named, IsUnknown, IsNumberOf, IsInterned}
+use Rattle.scoping_rows.specs.Row.{Row, symbol_of_row, no_row}
 use Rattle.std.proofs.Math.Seq.{map-set_same}
 use Rattle.scoping.specs.declared.scoping.ScopeRow.{ScopeRow}
 use Rattle.semantic_syntax.specs.Reading.{no_symbol, no_scope, IsForest}
 use Rattle.scoping.proofs.Forests.{parents}
-use Rattle.scoping.proofs.Rows.{rows}
+use Rattle.scoping_rows.proofs.Rows.{rows}
 use Rattle.scoping.specs.View.{IsBoundWithin, IsListedWithin, IsSound, tables, scope_of_row}
 use Rattle.semantic_syntax.proofs.Results.{on_err}
 use Rattle.semantic_syntax.proofs.Every.{every-more, every-at, every-or, every-set, every-push}

@@ -2,11 +2,12 @@
 use Rattle.std.proofs.Common.{◌≡◌, ℕ, ◌==◌, Bool, true, false, not, cond, List, [], ◌∷◌, length, get_or, map, zero, suc, refl, ap}
 use Rattle.semantic_syntax.specs.declared.references.Reference.{Reference}
 use Rattle.semantic_syntax.specs.Tables.{Name}
-use Rattle.scoping.specs.Flat.{Numbered}
-use Rattle.scoping.specs.Names.{name_at, named}
+use Rattle.scoping_rows.specs.Flat.{Numbered}
+use Rattle.scoping_rows.specs.Names.{name_at, named}
 use Rattle.semantic_syntax.specs.Reading.{no_symbol}
-use Rattle.scoping.specs.Row.{Row, no_row, symbol_of_row}
-use Rattle.scoping.specs.Kept.{stays, without_types, rows_without_types, lists_without_types, without_type_uses}
+use Rattle.scoping_rows.specs.Row.{Row, no_row, symbol_of_row}
+use Rattle.scoping_rows.specs.Kept.{stays, rows_without_types, lists_without_types, without_type_uses}
+use Rattle.scoping.specs.Kept.{without_types}
 
 -- what the tables show of it
 module _ (names : List Name) where

@@ -12,9 +12,9 @@ use Rattle.scoping.specs.declared.symbol_iterators.Declarations.TheInside as dec
 use Rattle.scoping.specs.declared.scope_iterators.ScopeAncestors.TheInside as ancestors
 use Rattle.scoping.specs.declared.reference_iterators.ReferencesIter.TheInside as references
 use Rattle.scoping.specs.declared.unresolved.UnresolvedIter.TheInside as unresolved
-use Rattle.scoping.specs.Names.{name_at, named}
+use Rattle.scoping_rows.specs.Names.{name_at, named}
 use Rattle.scoping.specs.Numbering.{numbered_from}
-use Rattle.scoping.specs.Row.{Row}
+use Rattle.scoping_rows.specs.Row.{Row}
 use Rattle.semantic_syntax.specs.Reading.{no_reference, chain, IsForest}
 use Rattle.scoping.specs.View.{scope_of_row}
 

@@ -1,14 +1,8 @@
-pub mod Names
-pub mod Flat
 pub mod Placed
-pub mod Tabled
-pub mod Row
 pub mod View
 pub mod Lending
-pub mod RowLending
 pub mod Numbering
 pub mod Left
 pub mod Redeclared
-pub mod Plain
 pub mod Kept
 pub mod Ancestry

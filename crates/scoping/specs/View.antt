@@ -4,8 +4,8 @@ use Rattle.std.specs.List.{AllByRecursion}
 use Rattle.semantic_syntax.specs.Tables.{Scope, Tables}
 use Rattle.scoping.specs.declared.scoping.ScopeRow.{ScopeRow}
 use Rattle.scoping.specs.declared.scoping.Scoping.TheInside.{Inside}
-use Rattle.scoping.specs.Names.{named}
-use Rattle.scoping.specs.Row.{Row, symbol_of_row}
+use Rattle.scoping_rows.specs.Names.{named}
+use Rattle.scoping_rows.specs.Row.{Row, symbol_of_row}
 use Rattle.semantic_syntax.specs.Reading.{IsForest}
 
 abbrev pub scope_of_row : ScopeRow → Scope

@@ -5,12 +5,12 @@ ghost use Rattle.std.specs.List.{AllByRecursion, IsDistinct};
 ghost use Rattle.std.specs.Map.Iter.{TakesFirst};
 ghost use Rattle.std.specs.Map.{lookup, values_of};
 ghost use Rattle.std.specs.Str.{bytes_eq};
-ghost use Rattle.scoping.specs.Names.{name_of, named, pair_of};
+ghost use Rattle.scoping_rows.specs.Names.{name_of, named, pair_of};
 ghost use Rattle.scoping.specs.Numbering.{numbered_from};
 
-use crate::binding_table::BindingTable;
-use crate::name_table::NameTable;
-use crate::scope_slots::BoundIter;
+use scoping_rows::binding_table::BindingTable;
+use scoping_rows::name_table::NameTable;
+use scoping_rows::scope_slots::BoundIter;
 use semantic_syntax::{Ident, ScopeId, SymbolId};
 use std::marker::Model;
 
@@ -25,7 +25,7 @@ pub struct Bindings<'s> {
 impl<'s> Model for Bindings<'s> {
     ghost use Rattle.std.specs.Prelude.{ℕ, List, ◌<◌, length, slice_index_or, []};
     ghost use Rattle.std.specs.List.{AllByRecursion};
-    ghost use Rattle.scoping.specs.Names.{named};
+    ghost use Rattle.scoping_rows.specs.Names.{named};
 
     ghost Value = { List (List ℕ × ℕ) };
 

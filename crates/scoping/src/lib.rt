@@ -1,23 +1,14 @@
 //! Scopes, symbols, bindings and references.
 #![tactic(auto)]
 
-pub mod binding_table;
 pub mod bindings;
-pub mod free_table;
-pub mod kept;
 pub mod name_place;
-pub mod name_table;
-pub mod node_map;
 pub mod node_tables;
-pub mod positions;
-pub mod redeclarations;
 pub mod reference_iterators;
 pub mod scope_iterators;
-pub mod scope_slots;
 pub mod scoping;
 pub mod source;
 pub mod symbol_iterators;
-pub mod symbol_row;
 pub mod unresolved;
 
 pub use bindings::{AllBindings, Bindings, BindingsIter, BoundSymbols};
@@ -26,6 +17,7 @@ pub use node_tables::NodeTables;
 pub use reference_iterators::{ReferencesIter, UseLists};
 pub use scope_iterators::{ScopeAncestors, ScopeIds};
 pub use scoping::Scoping;
+pub use scoping_rows::name_table;
 pub use semantic_syntax::Redeclaration;
 pub use source::BindingSource;
 pub use symbol_iterators::{Declarations, SymbolIds, SymbolNames};

@@ -4,7 +4,7 @@ ghost use Rattle.std.specs.List.{IsDistinct};
 ghost use Rattle.std.specs.Map.{keys_of, lookup};
 ghost use Rattle.indexmap.specs.IndexMap.{insert_entry};
 
-use crate::node_map::NodeMap;
+use scoping_rows::node_map::NodeMap;
 use semantic_syntax::{NodeId, ReferenceId, ScopeId, SymbolId};
 use std::alloc::{AllocError, Global};
 use std::marker::Model;

@@ -19,11 +19,11 @@ mod scopes;
 mod symbols;
 mod told;
 
-use crate::binding_table::BindingTable;
-use crate::free_table::FreeTable;
-use crate::name_table::NameTable;
-use crate::symbol_row::SymbolRow;
 use room::reserve_rows;
+use scoping_rows::binding_table::BindingTable;
+use scoping_rows::free_table::FreeTable;
+use scoping_rows::name_table::NameTable;
+use scoping_rows::symbol_row::SymbolRow;
 use semantic_syntax::{NodeId, Reference, ReferenceId, ScopeFlags, ScopeId, SymbolId};
 use std::alloc::{AllocError, Global};
 use std::collections::BTreeSet;

@@ -5,11 +5,11 @@ ghost use Rattle.std.specs.List.{AllByRecursion, range_with_len};
 ghost use Rattle.std.specs.Option.{option_to_list};
 ghost use Rattle.std.specs.Map.Iter.{TakesFirst};
 ghost use Rattle.std.specs.Str.{chars};
-ghost use Rattle.scoping.specs.Names.{name_at};
-ghost use Rattle.scoping.specs.Row.{Row};
+ghost use Rattle.scoping_rows.specs.Names.{name_at};
+ghost use Rattle.scoping_rows.specs.Row.{Row};
 
-use crate::name_table::NameTable;
-use crate::symbol_row::SymbolRow;
+use scoping_rows::name_table::NameTable;
+use scoping_rows::symbol_row::SymbolRow;
 use semantic_syntax::{NodeId, Redeclaration, SymbolId};
 use std::marker::Model;
 use std::slice::Iter;

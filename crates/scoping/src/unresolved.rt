@@ -5,11 +5,11 @@ ghost use Rattle.std.specs.List.{AllByRecursion};
 ghost use Rattle.std.specs.Map.{lookup, values_of};
 ghost use Rattle.std.specs.Map.Iter.{TakesFirst, deref};
 ghost use Rattle.std.specs.Str.{bytes_eq};
-ghost use Rattle.scoping.specs.Names.{name_of, named, list_of};
+ghost use Rattle.scoping_rows.specs.Names.{name_of, named, list_of};
 
-use crate::free_table::FreeTable;
-use crate::name_table::NameTable;
 use indexmap::map::Iter;
+use scoping_rows::free_table::FreeTable;
+use scoping_rows::name_table::NameTable;
 use semantic_syntax::{Ident, ReferenceId};
 use std::marker::Model;
 
@@ -24,7 +24,7 @@ impl<'s> Model for UnresolvedReferences<'s> {
     ghost use Rattle.std.specs.Prelude.{◌<◌, length};
     ghost use Rattle.std.specs.List.{AllByRecursion};
     ghost use Rattle.semantic_syntax.specs.Tables.{FreeLists};
-    ghost use Rattle.scoping.specs.Names.{named};
+    ghost use Rattle.scoping_rows.specs.Names.{named};
 
     ghost Value = { FreeLists };
 

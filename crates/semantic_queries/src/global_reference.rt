@@ -4,7 +4,7 @@ ghost use Rattle.std.specs.Prelude.{◌≡◌, Bool, false, nat_eq};
 ghost use Rattle.std.specs.Map.{lookup};
 ghost use Rattle.std.specs.Option.{option_map_or};
 ghost use Rattle.semantic_syntax.specs.Tables.{Name, Tables};
-ghost use Rattle.scoping.specs.Names.{name_of};
+ghost use Rattle.scoping_rows.specs.Names.{name_of};
 ghost use Rattle.semantic_syntax.specs.NodeEntries.{NodeEntries};
 ghost use Rattle.semantic_queries.specs.FreeReference.{is_free, is_free_at, is_free_named};
 

@@ -8,8 +8,8 @@ use Rattle.std.proofs.Math.ListN.{get_or-append}
 use Rattle.indexmap.specs.IndexMap.{insert_entry}
 use Rattle.semantic_syntax.specs.Tables.{Name}
 use Rattle.semantic_syntax.proofs.Truth.{same_turned}
-use Rattle.scoping.specs.Flat.{key_eq}
-use Rattle.scoping.specs.Names.{name_at, IsUnknown, IsNumberOf, IsInterned}
+use Rattle.scoping_rows.specs.Flat.{key_eq}
+use Rattle.scoping_rows.specs.Names.{name_at, IsUnknown, IsNumberOf, IsInterned}
 use Rattle.semantic_model.specs.Binding.{is_of, get, put}
 use Rattle.table_building.specs.Numbered.{binding_of, bindings_named, AreNumbered}
 

@@ -2,7 +2,7 @@
 use Rattle.std.specs.Prelude.{ℕ, ◌<◌, List, map, length}
 use Rattle.std.specs.List.{AllByRecursion}
 use Rattle.semantic_syntax.specs.Tables.{Name}
-use Rattle.scoping.specs.Names.{name_at}
+use Rattle.scoping_rows.specs.Names.{name_at}
 use Rattle.semantic_model.specs.Binding.{Binding}
 use Rattle.table_building.specs.declared.hoisting_variables.HoistingVariables.TheInside.{Inside}
 

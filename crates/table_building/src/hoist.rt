@@ -1,7 +1,7 @@
 //! How `var` variables and block functions reach past a scope (ECMAScript 8.2.7, VarScopedDeclarations; Annex B.3.2).
 
 ghost use Rattle.std.specs.Prelude.{◌≡◌, ◌<◌, Some, length, option_map, IfSome, IfOk, OnOk};
-ghost use Rattle.scoping.specs.Names.{name_of};
+ghost use Rattle.scoping_rows.specs.Names.{name_of};
 ghost use Rattle.walk_model.specs.Declares.{found};
 ghost use Rattle.walk_model.specs.Hoists as walked;
 ghost use Rattle.table_building.specs.Growth.{Goes};

@@ -2,7 +2,7 @@
 //! declaration conflicts with them (ECMAScript 14.2.1, VarDeclaredNames).
 
 ghost use Rattle.std.specs.Prelude.{◌≡◌, [], OnOk, OnErr};
-ghost use Rattle.scoping.specs.Names.{name_of};
+ghost use Rattle.scoping_rows.specs.Names.{name_of};
 ghost use Rattle.semantic_model.specs.Binding.{get, put};
 
 use indexmap::IndexMap;

@@ -1,6 +1,6 @@
 -- What one pass over a tree notes of names.
 use Rattle.std.specs.Prelude.{List, ◌++◌}
-use Rattle.scoping.specs.Names.{name_of}
+use Rattle.scoping_rows.specs.Names.{name_of}
 use Rattle.semantic_tree.specs.Forest.{Forest, nothing, tree}
 use Rattle.semantic_tree.specs.declared.node.Node.{Node}
 use Rattle.tangle_model.specs.Mention.{Mention, noted_by}

@@ -1,6 +1,6 @@
 //! One pass over a tree, which notes what is said of names.
 ghost use Rattle.std.specs.Prelude.{◌≡◌, ◌++◌, [], codes, map, OnOk, IfOk};
-ghost use Rattle.scoping.specs.Names.{name_of};
+ghost use Rattle.scoping_rows.specs.Names.{name_of};
 ghost use Rattle.semantic_tree.specs.Views.{child_of};
 ghost use Rattle.semantic_kinds.specs.declared.role.Role.TheVariants.{Id as id_role, Body as body_role};
 ghost use Rattle.tangle_model.specs.Mention.{mentions, noted_if, identifier_noted, is_block_function, function_noted, declaration_noted, named_noted, noted, enum_noted, noted_by};

@@ -11,7 +11,7 @@ use Rattle.std.proofs.lemmas.List.Sorted.{list_any-IsPermutation, All-permutatio
 use Rattle.std.proofs.Math.ListN.{get_or-append}
 use Rattle.semantic_kinds.specs.declared.role.Role.{Role}
 use Rattle.semantic_syntax.specs.Tables.{Name}
-use Rattle.scoping.specs.Names.{name_at, IsUnknown, IsNumberOf, IsInterned}
+use Rattle.scoping_rows.specs.Names.{name_at, IsUnknown, IsNumberOf, IsInterned}
 use Rattle.semantic_tree.specs.Children.{forest_of}
 use Rattle.semantic_tree.specs.declared.node.Node.{Node}
 use Rattle.walk_model.specs.WrittenNames.{Openers, Written, is_written, openers_at, written_below, written_in}

@@ -6,7 +6,7 @@ ghost use Rattle.semantic_syntax.specs.Reading.{scope_of, bindings_of};
 ghost use Rattle.mangle_model.specs.Assignment.{listed, name_or};
 ghost use Rattle.mangle_model.specs.Alike.{renamed_binding};
 ghost use Rattle.mangle_model.specs.Tests.{same_binding, same_scope};
-ghost use Rattle.scoping.specs.Names.{name_of};
+ghost use Rattle.scoping_rows.specs.Names.{name_of};
 
 use super::values::{is_same_scope_id, is_same_text};
 use mangle_names::NewNames;

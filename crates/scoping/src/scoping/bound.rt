@@ -3,14 +3,14 @@ ghost use Rattle.std.specs.Prelude.{◌≡◌, ◌<◌, ◌++◌, [], ◌∷◌,
 ghost use Rattle.std.specs.Str.{bytes_eq};
 ghost use Rattle.std.specs.Map.{lookup, values_of};
 ghost use Rattle.scoping.specs.Numbering.{numbered_from};
-ghost use Rattle.scoping.specs.Names.{name_of};
+ghost use Rattle.scoping_rows.specs.Names.{name_of};
 ghost use Rattle.semantic_syntax.specs.Reading.{bindings_of, chain, first_bound};
 ghost use Rattle.semantic_syntax.specs.Writing.{bound, unbound};
 
 use super::Scoping;
 use super::room::{push_symbol, reserve_symbol};
 use crate::bindings::{AllBindings, Bindings, BoundSymbols};
-use crate::symbol_row::SymbolRow;
+use scoping_rows::symbol_row::SymbolRow;
 use semantic_syntax::{Ident, NodeId, ScopeId, Span, SymbolFlags, SymbolId};
 use std::alloc::AllocError;
 

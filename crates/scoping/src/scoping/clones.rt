@@ -2,10 +2,10 @@
 ghost use Rattle.std.specs.Prelude.{◌≡◌, map, IfOk};
 
 use super::{ScopeRow, Scoping};
-use crate::binding_table::BindingTable;
-use crate::free_table::FreeTable;
-use crate::name_table::NameTable;
-use crate::symbol_row::SymbolRow;
+use scoping_rows::binding_table::BindingTable;
+use scoping_rows::free_table::FreeTable;
+use scoping_rows::name_table::NameTable;
+use scoping_rows::symbol_row::SymbolRow;
 use semantic_syntax::{Reference, ReferenceId};
 use std::alloc::{AllocError, Global};
 

@@ -4,12 +4,13 @@ ghost use Rattle.std.specs.Str.{bytes_eq};
 ghost use Rattle.std.specs.Option.{option_map_or};
 ghost use Rattle.semantic_syntax.specs.Reading.{reference_of};
 ghost use Rattle.semantic_syntax.specs.Writing.{without_use};
-ghost use Rattle.scoping.specs.Names.{name_of};
-ghost use Rattle.scoping.specs.Kept.{without_marked, without_typescript, delisted};
+ghost use Rattle.scoping_rows.specs.Names.{name_of};
+ghost use Rattle.scoping_rows.specs.Kept.{without_marked, delisted};
+ghost use Rattle.scoping.specs.Kept.{without_typescript};
 
 use super::Scoping;
-use crate::kept::{retain_unmarked_in_each, retain_values_in_each};
-use crate::positions::take_out;
+use scoping_rows::kept::{retain_unmarked_in_each, retain_values_in_each};
+use scoping_rows::positions::take_out;
 use semantic_syntax::{Ident, ReferenceId, SymbolId};
 
 impl Scoping {

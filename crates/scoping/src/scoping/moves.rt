@@ -1,15 +1,15 @@
 //! Bindings that move.
 ghost use Rattle.std.specs.Prelude.{◌≡◌, ◌==◌, ◌<◌, [], false, length, fold, OnOk, OnErr};
 ghost use Rattle.std.specs.List.{AllByRecursion};
-ghost use Rattle.scoping.specs.Row.{row_moved};
-ghost use Rattle.scoping.specs.Names.{name_of};
+ghost use Rattle.scoping_rows.specs.Row.{row_moved};
+ghost use Rattle.scoping_rows.specs.Names.{name_of};
 ghost use Rattle.semantic_syntax.specs.Reading.{symbol_of, bindings_of};
 ghost use Rattle.semantic_syntax.specs.Writing.{with_symbol, moved, taken_over};
 
 use super::Scoping;
 use super::rows::{own_number, set_home};
 use crate::bindings::BoundSymbols;
-use crate::symbol_row::SymbolRow;
+use scoping_rows::symbol_row::SymbolRow;
 use semantic_syntax::{Ident, ScopeId, SymbolId};
 use std::alloc::AllocError;
 

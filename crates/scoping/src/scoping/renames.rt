@@ -3,14 +3,14 @@ ghost use Rattle.std.specs.Prelude.{◌≡◌, ◌==◌, ◌<◌, length, fold, 
 ghost use Rattle.std.specs.List.{AllByRecursion};
 ghost use Rattle.std.specs.Str.{bytes_eq};
 ghost use Rattle.std.specs.Map.{lookup};
-ghost use Rattle.scoping.specs.Names.{name_of};
-ghost use Rattle.scoping.specs.Row.{row_named};
+ghost use Rattle.scoping_rows.specs.Names.{name_of};
+ghost use Rattle.scoping_rows.specs.Row.{row_named};
 ghost use Rattle.semantic_syntax.specs.Reading.{symbol_of, bindings_of};
 ghost use Rattle.semantic_syntax.specs.Writing.{with_symbol, with_name, renamed};
 
 use super::Scoping;
 use super::rows::{own_number, set_name};
-use crate::symbol_row::SymbolRow;
+use scoping_rows::symbol_row::SymbolRow;
 use semantic_syntax::{Ident, ScopeId, SymbolId};
 use std::alloc::AllocError;
 

@@ -2,7 +2,7 @@
 ghost use Rattle.std.specs.Prelude.{◌≡◌, ◌<◌, ◌++◌, [], ◌∷◌, map, OnOk, vec_len, vec_capacity};
 
 use super::ScopeRow;
-use crate::symbol_row::SymbolRow;
+use scoping_rows::symbol_row::SymbolRow;
 use semantic_syntax::{Reference, ReferenceId};
 use std::alloc::{AllocError, Global};
 

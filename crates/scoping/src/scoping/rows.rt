@@ -1,11 +1,11 @@
 //! Rows of symbols, each by its id.
 ghost use Rattle.std.specs.Prelude.{◌≡◌, ◌<◌, length, slice_index_or};
 ghost use Rattle.std.specs.List.{AllByRecursion};
-ghost use Rattle.scoping.specs.Names.{name_at, IsNumberOf};
-ghost use Rattle.scoping.specs.Row.{Row, no_row, row_named, row_moved};
+ghost use Rattle.scoping_rows.specs.Names.{name_at, IsNumberOf};
+ghost use Rattle.scoping_rows.specs.Row.{Row, no_row, row_named, row_moved};
 
-use crate::name_table::NameTable;
-use crate::symbol_row::SymbolRow;
+use scoping_rows::name_table::NameTable;
+use scoping_rows::symbol_row::SymbolRow;
 use semantic_syntax::{ScopeId, SymbolId};
 
 /// The number of the row's name, which is its only one.

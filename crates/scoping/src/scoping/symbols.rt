@@ -2,19 +2,19 @@
 ghost use Rattle.std.specs.Prelude.{◌≡◌, ◌==◌, ◌<◌, ◌++◌, [], ◌∷◌, length, map, Some, None, unwrap_or, IfOk, OnOk, OnErr};
 ghost use Rattle.std.specs.Str.{chars, encode_utf8_all};
 ghost use Rattle.std.specs.Int.RustNames.{bit_or};
-ghost use Rattle.scoping.specs.Names.{name_of};
+ghost use Rattle.scoping_rows.specs.Names.{name_of};
 ghost use Rattle.semantic_syntax.specs.Reading.{symbol_of, own_entry, redeclarations_of, declarations_of};
 ghost use Rattle.std.specs.List.{range_with_len};
 ghost use Rattle.semantic_syntax.specs.Tables.{Symbol};
 ghost use Rattle.semantic_syntax.specs.Writing.{with_symbol, bound};
-ghost use Rattle.scoping.specs.Plain.{plain_count};
+ghost use Rattle.scoping_rows.specs.Plain.{plain_count};
 ghost use Rattle.scoping.specs.Redeclared.{without_declaration};
 
 use super::Scoping;
 use super::room::{push_symbol, reserve_symbol};
 use super::rows::set_home;
 use crate::symbol_iterators::{Declarations, SymbolIds, SymbolNames};
-use crate::symbol_row::SymbolRow;
+use scoping_rows::symbol_row::SymbolRow;
 use semantic_syntax::{Ident, NodeId, Redeclaration, ScopeId, Span, SymbolFlags, SymbolId};
 use std::alloc::AllocError;
 

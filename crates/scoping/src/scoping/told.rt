@@ -1,16 +1,16 @@
 //! What a look-up asks.
 ghost use Rattle.std.specs.Prelude.{◌≡◌, ◌<◌, [], length, slice_index_or};
-ghost use Rattle.scoping.specs.Flat.{bound_under};
-ghost use Rattle.scoping.specs.Names.{name_of};
+ghost use Rattle.scoping_rows.specs.Flat.{bound_under};
+ghost use Rattle.scoping_rows.specs.Names.{name_of};
 ghost use Rattle.scoping.specs.Placed.{IsPlaceOf};
 ghost use Rattle.semantic_syntax.specs.Reading.{bound_in};
 ghost use Rattle.semantic_syntax.specs.Source.{IsSource};
 ghost use Rattle.semantic_syntax.specs.Told.{source_of};
 
 use super::Scoping;
-use crate::binding_table::BindingTable;
 use crate::name_place::NamePlace;
 use crate::source::BindingSource;
+use scoping_rows::binding_table::BindingTable;
 use semantic_syntax::{
     Ident, ReferenceFlags, ReferenceId, ScopeFlags, ScopeId, Steps, SymbolFlags, SymbolId,
 };

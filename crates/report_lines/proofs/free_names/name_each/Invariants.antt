@@ -1,5 +1,5 @@
 use Rattle.std.proofs.Common.{◌≡◌, drop, map}
-use Rattle.scoping.specs.Names.{name_of}
+use Rattle.scoping_rows.specs.Names.{name_of}
 use Rattle.report_lines.specs.FreeNames.{name_shown, named_each}
 use Rattle.report_lines.proofs.free_names.name_each.Given as goal
 

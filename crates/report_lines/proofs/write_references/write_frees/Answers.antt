@@ -1,4 +1,4 @@
-use Rattle.scoping.specs.Names.{list_of}
+use Rattle.scoping_rows.specs.Names.{list_of}
 use Rattle.report_lines.specs.TableLines.{free_line}
 use Rattle.report_lines.proofs.Items.{items_go_on, items_fail}
 use Rattle.report_lines.proofs.write_references.write_frees.Goals as goal

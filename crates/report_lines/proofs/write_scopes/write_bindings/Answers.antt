@@ -1,4 +1,4 @@
-use Rattle.scoping.specs.Names.{pair_of}
+use Rattle.scoping_rows.specs.Names.{pair_of}
 use Rattle.report_lines.specs.TableLines.{bind_line}
 use Rattle.report_lines.proofs.Items.{items_go_on, items_fail}
 use Rattle.report_lines.proofs.write_scopes.write_bindings.Goals as goal

@@ -1,6 +1,6 @@
 use Rattle.std.proofs.Common.{drop, map, arith, length-drop}
 use Rattle.std.proofs.lemmas.List.{length-map}
-use Rattle.scoping.specs.Names.{named}
+use Rattle.scoping_rows.specs.Names.{named}
 use Rattle.scoping.proofs.Lengths.{length-numbered_from}
 use Rattle.scoping.proofs.bindings.AllBindings.len.Goals as goal
 

@@ -4,7 +4,7 @@ use Rattle.std.proofs.Math.ListN.{set}
 use Rattle.std.proofs.lemmas.List.{length-set}
 use Rattle.indexmap.specs.IndexMap.{insert_entry}
 use Rattle.semantic_syntax.proofs.Results.{on_err, on_ok_then, on_err_then}
-use Rattle.scoping.specs.Names.{name_of}
+use Rattle.scoping_rows.specs.Names.{name_of}
 use Rattle.scoping.proofs.Clones.{sound_same}
 use Rattle.scoping.proofs.Cases.{either}
 use Rattle.scoping.proofs.Shown.{tables_eq, bound_insert, shown_insert, scope_within, symbol_within, sound_bindings, sound_interned, tables_interned, bindings_interned, symbols_interned, free_interned}

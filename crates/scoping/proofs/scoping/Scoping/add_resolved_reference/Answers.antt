@@ -3,7 +3,7 @@ use Rattle.std.specs.List.{AllByRecursion}
 use Rattle.std.proofs.lemmas.List.{length-set}
 use Rattle.semantic_syntax.proofs.Every.{every-push, every-set, every-or}
 use Rattle.semantic_syntax.proofs.Results.{on_err}
-use Rattle.scoping.proofs.Rows.{rows, rows_kept, rows_changed}
+use Rattle.scoping_rows.proofs.Rows.{rows, rows_kept, rows_changed}
 use Rattle.scoping.proofs.Shown.{uses_index, tables_eq, uses_within, sound_uses}
 use Rattle.scoping.proofs.scoping.Scoping.add_resolved_reference.Goals as goal
 

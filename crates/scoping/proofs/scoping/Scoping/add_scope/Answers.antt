@@ -2,7 +2,7 @@ use Rattle.std.proofs.Common.{◌++◌, ◌∷◌, [], refl, ap, ◌∙◌, arit
 use Rattle.std.proofs.lemmas.List.{length-map, map-append}
 use Rattle.semantic_syntax.proofs.Every.{every-push}
 use Rattle.semantic_syntax.proofs.Results.{on_err}
-use Rattle.scoping.specs.Names.{named}
+use Rattle.scoping_rows.specs.Names.{named}
 use Rattle.scoping.specs.View.{scope_of_row}
 use Rattle.scoping.proofs.Clones.{sound_same, tables_same}
 use Rattle.scoping.proofs.Parents.{IsForest-push}

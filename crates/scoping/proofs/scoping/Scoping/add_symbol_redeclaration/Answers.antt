@@ -2,7 +2,7 @@ use Rattle.std.proofs.Common.{refl, ap, ◌∙◌, map, ◌++◌, ◌∷◌, [],
 use Rattle.std.proofs.lemmas.List.{length-set, set-get_or}
 use Rattle.semantic_syntax.specs.Reading.{own_entry, no_symbol}
 use Rattle.semantic_syntax.proofs.Results.{on_ok_then, on_err_then}
-use Rattle.scoping.specs.Row.{symbol_of_row}
+use Rattle.scoping_rows.specs.Row.{symbol_of_row}
 use Rattle.scoping.proofs.Cases.{either}
 use Rattle.scoping.proofs.Shown.{tables_eq, symbol_changed, symbol_within, sound_rows, named_set, read_named}
 use Rattle.scoping.proofs.scoping.Scoping.add_symbol_redeclaration.Goals as goal

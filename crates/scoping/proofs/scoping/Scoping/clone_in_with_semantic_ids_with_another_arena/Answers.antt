@@ -1,4 +1,5 @@
-use Rattle.scoping.proofs.Clones.{clones_same, sound_same, tables_same}
+use Rattle.scoping_rows.proofs.Clones.{clones_same}
+use Rattle.scoping.proofs.Clones.{sound_same, tables_same}
 use Rattle.scoping.proofs.scoping.Scoping.clone_in_with_semantic_ids_with_another_arena.Goals as goal
 
 pub invariant_of-result : goal.invariant_of-result

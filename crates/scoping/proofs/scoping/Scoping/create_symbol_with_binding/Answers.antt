@@ -3,11 +3,11 @@ use Rattle.std.specs.Str.{bytes_eq}
 use Rattle.std.proofs.Math.ListN.{set}
 use Rattle.std.proofs.lemmas.List.{length-set, length-map}
 use Rattle.indexmap.specs.IndexMap.{insert_entry}
-use Rattle.scoping.specs.Names.{name_of}
-use Rattle.scoping.specs.Row.{symbol_of_row}
+use Rattle.scoping_rows.specs.Names.{name_of}
+use Rattle.scoping_rows.specs.Row.{symbol_of_row}
 use Rattle.semantic_syntax.proofs.Results.{on_err}
 use Rattle.scoping.proofs.Clones.{sound_same, tables_same}
-use Rattle.scoping.proofs.Rows.{rows}
+use Rattle.scoping_rows.proofs.Rows.{rows}
 use Rattle.scoping.proofs.Pushed.{count_pushed, tables_pushed, sound_pushed}
 use Rattle.scoping.proofs.Shown.{bound_insert, shown_insert, scope_within, err_interned, sound_interned, sound_bindings, bindings_interned}
 use Rattle.scoping.proofs.scoping.Scoping.create_symbol_with_binding.Goals as goal

@@ -4,7 +4,7 @@ use Rattle.std.proofs.lemmas.List.{length-set}
 use Rattle.indexmap.specs.IndexMap.{swap_remove_by}
 use Rattle.semantic_syntax.proofs.Every.{every-set, every-or}
 use Rattle.scoping.proofs.Every.{every-swapped}
-use Rattle.scoping.proofs.Rows.{rows, rows_changed}
+use Rattle.scoping_rows.proofs.Rows.{rows, rows_changed}
 use Rattle.scoping.proofs.Shown.{uses_index, tables_eq, uses_within, sound_uses}
 use Rattle.scoping.proofs.scoping.Scoping.delete_resolved_reference.Goals as goal
 

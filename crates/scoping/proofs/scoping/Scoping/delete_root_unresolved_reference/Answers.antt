@@ -1,5 +1,5 @@
 use Rattle.std.proofs.Common.{refl, sym, length, nat_eq}
-use Rattle.scoping.specs.Names.{name_of}
+use Rattle.scoping_rows.specs.Names.{name_of}
 use Rattle.scoping.proofs.Keeping.{delisted_unknown, delisted-named, delisted_within}
 use Rattle.scoping.proofs.Shown.{tables_eq, known_listed, sound_free}
 use Rattle.scoping.proofs.scoping.Scoping.delete_root_unresolved_reference.Goals as goal

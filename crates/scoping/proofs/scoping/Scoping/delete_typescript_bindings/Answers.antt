@@ -1,11 +1,11 @@
 use Rattle.std.proofs.Common.{ℕ, ◌<◌, ◌==◌, not, length, map, refl, sym, ap, ◌∙◌}
 use Rattle.std.specs.List.{AllByRecursion}
 use Rattle.std.proofs.lemmas.List.{length-map}
-use Rattle.scoping.specs.Kept.{stays, rows_without_types, without_type_uses, is_used_by_value, lists_without_types}
-use Rattle.scoping.specs.Names.{named}
+use Rattle.scoping_rows.specs.Kept.{stays, rows_without_types, without_type_uses, is_used_by_value, lists_without_types}
+use Rattle.scoping_rows.specs.Names.{named}
 use Rattle.scoping.specs.View.{IsBoundWithin, IsListedWithin}
 use Rattle.scoping.proofs.Keeping.{every-filter, every-map}
-use Rattle.scoping.proofs.Rows.{rows}
+use Rattle.scoping_rows.proofs.Rows.{rows}
 use Rattle.scoping.proofs.Shown.{tables_eq, sound_bindings, sound_uses, sound_free}
 use Rattle.scoping.proofs.Typeless.{shown_typeless, shown_lists}
 use Rattle.scoping.proofs.scoping.Scoping.delete_typescript_bindings.Goals as goal

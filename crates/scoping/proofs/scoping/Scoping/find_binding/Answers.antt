@@ -1,5 +1,5 @@
 use Rattle.std.proofs.Common.{◌≡◌, [], length, Some, None, ap, sym, ◌∙◌, arith}
-use Rattle.scoping.specs.Names.{name_of}
+use Rattle.scoping_rows.specs.Names.{name_of}
 use Rattle.semantic_syntax.specs.Reading.{parent_of, chain, IsForest, first_bound}
 use Rattle.scoping.proofs.Parents.{chain-step, chain-end, chain-begins, parent_of-read}
 use Rattle.scoping.proofs.Outward.{first_bound-found, first_bound-passed, first_bound-none}

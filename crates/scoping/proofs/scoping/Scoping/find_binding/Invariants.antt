@@ -1,5 +1,5 @@
 use Rattle.std.proofs.Common.{◌≡◌, ◌<◌, length}
-use Rattle.scoping.specs.Names.{name_of}
+use Rattle.scoping_rows.specs.Names.{name_of}
 use Rattle.semantic_syntax.specs.Reading.{first_bound, chain}
 use Rattle.scoping.proofs.scoping.Scoping.find_binding.Given as goal
 

@@ -1,7 +1,7 @@
 use Rattle.std.proofs.Common.{ℕ, ◌<◌, [], length, subst}
 use Rattle.std.specs.List.{AllByRecursion}
 use Rattle.semantic_syntax.proofs.Every.{every-or}
-use Rattle.scoping.proofs.Rows.{rows, row_at}
+use Rattle.scoping_rows.proofs.Rows.{rows, row_at}
 use Rattle.scoping.proofs.Shown.{uses_index, uses_within}
 use Rattle.scoping.proofs.scoping.Scoping.get_resolved_references.Goals as goal
 

@@ -3,7 +3,7 @@ use Rattle.std.proofs.Math.ListN.{set}
 use Rattle.std.proofs.lemmas.List.{length-set, set-get_or}
 use Rattle.std.specs.Str.{bytes_eq}
 use Rattle.indexmap.specs.IndexMap.{shift_remove_entry}
-use Rattle.scoping.specs.Names.{name_of}
+use Rattle.scoping_rows.specs.Names.{name_of}
 use Rattle.scoping.proofs.Named.{remove-unknown}
 use Rattle.scoping.proofs.Shown.{tables_eq, bound_remove, known_at, shown_at, shown_remove, scope_within, sound_bindings}
 use Rattle.scoping.proofs.scoping.Scoping.remove_binding.Goals as goal

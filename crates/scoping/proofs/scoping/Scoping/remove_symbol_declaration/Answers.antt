@@ -1,6 +1,6 @@
 use Rattle.std.proofs.Common.{refl, ap, ◌∙◌}
 use Rattle.std.proofs.lemmas.List.{length-set}
-use Rattle.scoping.specs.Row.{symbol_of_row}
+use Rattle.scoping_rows.specs.Row.{symbol_of_row}
 use Rattle.semantic_syntax.specs.Reading.{symbol_of}
 use Rattle.scoping.specs.View.{tables}
 use Rattle.semantic_syntax.specs.Writing.{with_symbol}

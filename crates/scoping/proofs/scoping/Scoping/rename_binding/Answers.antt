@@ -2,7 +2,7 @@ use Rattle.std.proofs.Common.{◌≡◌, refl, None, sym, ap, ◌∙◌, map, ge
 use Rattle.std.specs.Map.{lookup}
 use Rattle.std.specs.Str.{bytes_eq}
 use Rattle.semantic_syntax.proofs.Results.{on_err, on_ok_then, on_err_then}
-use Rattle.scoping.specs.Names.{named, name_of}
+use Rattle.scoping_rows.specs.Names.{named, name_of}
 use Rattle.scoping.proofs.Clones.{sound_same}
 use Rattle.scoping.proofs.Cases.{either}
 use Rattle.scoping.proofs.Renamed.{sound_renamed, is_renamed}

@@ -1,5 +1,5 @@
 use Rattle.std.proofs.Common.{refl, ap, ◌∙◌, [], ◌∷◌, length}
-use Rattle.scoping.specs.Names.{name_of}
+use Rattle.scoping_rows.specs.Names.{name_of}
 use Rattle.semantic_syntax.proofs.Results.{on_err}
 use Rattle.scoping.proofs.Clones.{sound_same}
 use Rattle.scoping.proofs.Folds.{length_named, named_named, shown_named}

@@ -1,6 +1,6 @@
 use Rattle.std.proofs.Common.{refl, ap}
 use Rattle.scoping.proofs.Clones.{sound_same, tables_same}
-use Rattle.scoping.proofs.Rows.{rows}
+use Rattle.scoping_rows.proofs.Rows.{rows}
 use Rattle.scoping.proofs.scoping.Scoping.reserve.Goals as goal
 
 pub invariant_of-self-2 : goal.invariant_of-self-2

@@ -1,9 +1,9 @@
 use Rattle.std.proofs.Common.{ℕ, ◌<◌, length, sym, ap, ◌∙◌}
 use Rattle.std.specs.List.{AllByRecursion}
 use Rattle.std.proofs.lemmas.List.{length-map}
-use Rattle.scoping.specs.Kept.{without_marked, is_unmarked}
+use Rattle.scoping_rows.specs.Kept.{without_marked, is_unmarked}
 use Rattle.scoping.proofs.Keeping.{every-filter, every-map}
-use Rattle.scoping.proofs.Rows.{rows}
+use Rattle.scoping_rows.proofs.Rows.{rows}
 use Rattle.scoping.proofs.Shown.{sound_uses}
 use Rattle.scoping.proofs.scoping.Scoping.retain_resolved_references_excluding.Goals as goal
 

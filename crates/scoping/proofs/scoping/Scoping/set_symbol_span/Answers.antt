@@ -1,6 +1,6 @@
 use Rattle.std.proofs.Common.{refl, ap}
 use Rattle.std.proofs.lemmas.List.{length-set}
-use Rattle.scoping.specs.Row.{symbol_of_row}
+use Rattle.scoping_rows.specs.Row.{symbol_of_row}
 use Rattle.scoping.proofs.Shown.{symbol_index, tables_eq, symbol_changed, symbol_within, sound_rows, named_set, read_named}
 use Rattle.scoping.proofs.scoping.Scoping.set_symbol_span.Goals as goal
 

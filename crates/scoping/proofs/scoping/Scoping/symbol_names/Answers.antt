@@ -1,6 +1,6 @@
 use Rattle.std.proofs.Common.{sym, ap, map, ◌∙◌}
-use Rattle.scoping.specs.Names.{name_at}
-use Rattle.scoping.specs.Row.{Row}
+use Rattle.scoping_rows.specs.Names.{name_at}
+use Rattle.scoping_rows.specs.Row.{Row}
 use Rattle.scoping.proofs.Shown.{names_of_rows}
 use Rattle.scoping.proofs.scoping.Scoping.symbol_names.Goals as goal
 

@@ -3,8 +3,8 @@ use Rattle.std.specs.List.{AllByRecursion}
 use Rattle.std.specs.Map.{values_of}
 use Rattle.std.proofs.Math.ListN.{set}
 use Rattle.std.proofs.lemmas.List.{length-set, map-set}
-use Rattle.scoping.specs.Names.{named}
-use Rattle.scoping.specs.Row.{symbol_of_row}
+use Rattle.scoping_rows.specs.Names.{named}
+use Rattle.scoping_rows.specs.Row.{symbol_of_row}
 use Rattle.scoping.specs.View.{IsBoundWithin}
 use Rattle.semantic_syntax.specs.Writing.{with_home}
 use Rattle.semantic_syntax.proofs.Every.{every-set}

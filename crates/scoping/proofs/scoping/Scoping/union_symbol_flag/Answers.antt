@@ -2,7 +2,7 @@ use Rattle.std.proofs.Common.{refl, ap, ◌∙◌}
 use Rattle.std.specs.Int.RustNames.{bit_or}
 use Rattle.semantic_syntax.specs.declared.symbol_flags.SymbolFlags.{SymbolFlags}
 use Rattle.std.proofs.lemmas.List.{length-set}
-use Rattle.scoping.specs.Row.{symbol_of_row}
+use Rattle.scoping_rows.specs.Row.{symbol_of_row}
 use Rattle.scoping.proofs.Shown.{tables_eq, symbol_changed, symbol_within, sound_rows, named_set, read_named}
 use Rattle.scoping.proofs.scoping.Scoping.union_symbol_flag.Goals as goal
 

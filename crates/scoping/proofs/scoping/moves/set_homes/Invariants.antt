@@ -1,6 +1,6 @@
 use Rattle.std.proofs.Common.{◌≡◌, ◌<◌, fold, length}
 use Rattle.std.specs.List.{AllByRecursion}
-use Rattle.scoping.specs.Row.{row_moved}
+use Rattle.scoping_rows.specs.Row.{row_moved}
 use Rattle.scoping.proofs.scoping.moves.set_homes.Given as goal
 
 abbrev pub invariant-loop-symbol : goal.invariant-loop-symbol

@@ -1,5 +1,5 @@
 use Rattle.std.proofs.Common.{◌≡◌, fold, take}
-use Rattle.scoping.specs.Row.{row_named}
+use Rattle.scoping_rows.specs.Row.{row_named}
 use Rattle.scoping.proofs.scoping.renames.set_names.Given as goal
 
 abbrev pub invariant-loop-id : goal.invariant-loop-id

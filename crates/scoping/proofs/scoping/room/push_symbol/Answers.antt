@@ -1,6 +1,6 @@
 use Rattle.std.proofs.Common.{◌++◌, ◌∷◌, [], ap, ◌∙◌}
 use Rattle.std.proofs.lemmas.List.{map-append}
-use Rattle.scoping.proofs.Rows.{rows}
+use Rattle.scoping_rows.proofs.Rows.{rows}
 use Rattle.scoping.proofs.scoping.room.push_symbol.Goals as goal
 
 pub returns-clause-uses : goal.returns-clause-uses

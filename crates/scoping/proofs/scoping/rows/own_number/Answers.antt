@@ -1,7 +1,7 @@
 use Rattle.std.proofs.Common.{◌≡◌, sym, ap, subst, get_or, ◌∙◌}
 use Rattle.std.proofs.lemmas.List.{get_or_default}
-use Rattle.scoping.specs.Names.{name_at, IsNumberOf}
-use Rattle.scoping.specs.Row.{Row, no_row}
+use Rattle.scoping_rows.specs.Names.{name_at, IsNumberOf}
+use Rattle.scoping_rows.specs.Row.{Row, no_row}
 use Rattle.scoping.proofs.Shown.{read_named}
 use Rattle.scoping.proofs.scoping.rows.own_number.Goals as goal
 

@@ -1,6 +1,6 @@
 use Rattle.std.proofs.Common.{sym, ap, ◌∙◌}
 use Rattle.std.specs.Map.{values_of}
-use Rattle.scoping.proofs.Entries.{values-by_value}
+use Rattle.scoping_rows.proofs.Entries.{values-by_value}
 use Rattle.scoping.proofs.unresolved.FreeLists.new.Goals as goal
 
 pub returns : goal.returns

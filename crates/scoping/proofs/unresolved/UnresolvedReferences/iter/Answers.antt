@@ -1,5 +1,5 @@
 use Rattle.std.proofs.Common.{length, sym}
-use Rattle.scoping.proofs.Entries.{known-by_value}
+use Rattle.scoping_rows.proofs.Entries.{known-by_value}
 use Rattle.scoping.proofs.unresolved.UnresolvedReferences.iter.Goals as goal
 
 pub invariant_of-result : goal.invariant_of-result

@@ -1,5 +1,5 @@
 use Rattle.std.proofs.Common.{◌≡◌, drop}
-use Rattle.scoping.specs.Names.{name_of}
+use Rattle.scoping_rows.specs.Names.{name_of}
 use Rattle.walk_model.specs.Hoists.{remember_all}
 use Rattle.table_building.specs.Growth.{Goes}
 use Rattle.table_building.proofs.declared.Declared.remember_all.Given as goal

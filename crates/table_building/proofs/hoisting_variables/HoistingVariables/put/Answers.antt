@@ -1,5 +1,5 @@
 use Rattle.std.proofs.Common.{ap, ◌∙◌}
-use Rattle.scoping.specs.Names.{name_of}
+use Rattle.scoping_rows.specs.Names.{name_of}
 use Rattle.semantic_syntax.proofs.Results.{on_err}
 use Rattle.semantic_model.specs.Binding.{put}
 use Rattle.table_building.proofs.Numbered.{interned_same, interned_numbered, numbered_insert, put_numbered}

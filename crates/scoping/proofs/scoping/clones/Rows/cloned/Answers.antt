@@ -1,4 +1,4 @@
-use Rattle.scoping.proofs.Clones.{clones_shown, clones_same}
+use Rattle.scoping_rows.proofs.Clones.{clones_shown, clones_same}
 use Rattle.scoping.proofs.scoping.clones.Rows.cloned.Goals as goal
 
 pub returns-clause-scopes : goal.returns-clause-scopes

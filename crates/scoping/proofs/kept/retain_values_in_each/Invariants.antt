@@ -1,7 +1,0 @@
-use Rattle.scoping.specs.Kept.{without_type_uses}
-use Rattle.scoping.proofs.Rows.{rows}
-use Rattle.scoping.proofs.Sweeps.{IsSwept}
-use Rattle.scoping.proofs.kept.retain_values_in_each.Given as goal
-
-abbrev pub invariant-loop-list : goal.invariant-loop-list
-invariant-loop-list l = IsSwept (λ _. without_type_uses l.references) (rows l.initial.list-items) (rows l.list-items) l.list-index

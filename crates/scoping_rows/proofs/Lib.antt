@@ -1,0 +1,13 @@
+pub mod Names
+pub mod Found
+pub mod Filled
+pub mod Indexed
+pub mod Rows
+pub mod Entries
+pub mod Renumbered
+pub mod Sweeps
+pub mod Keeping
+pub mod Clones
+pub mod Rising
+pub mod Apart
+pub mod PlainCounts
