@@ -3,7 +3,7 @@ ghost use Rattle.std.specs.Prelude.{◌≡◌, ◌<◌, ◌++◌, true, length, 
 ghost use Rattle.semantic_model.specs.Label.{unused_labels};
 ghost use Rattle.semantic_model.specs.NodeTable.{node_tables};
 ghost use Rattle.semantic_model.specs.Step.{steps};
-ghost use Rattle.semantic.specs.Begun.{IsAnalysis};
+ghost use Rattle.promise.specs.Analysis.{IsAnalysis};
 ghost use Rattle.semantic.specs.Shown.{entries};
 ghost use Rattle.program_ends.specs.Answering.{WritesAll, GivesAnswer};
 ghost use Rattle.program_ends.specs.FindingEnds.{end_of};

@@ -3,7 +3,7 @@ use Rattle.std.proofs.Common.{◌≡◌, List, Bool, ap, ◌∙◌}
 use Rattle.semantic_syntax.specs.NodeEntries.{NodeEntries}
 use Rattle.semantic_diagnostics.specs.declared.diagnostic.Diagnostic.{Diagnostic}
 use Rattle.semantic_syntax.specs.Tables.{Tables}
-use Rattle.semantic_walk.specs.Begun.{IsAnalysis, BelongsToNodes}
+use Rattle.promise.specs.Analysis.{IsAnalysis, BelongsToNodes}
 use Rattle.module_set.specs.declared.modules.Module.{Module}
 use Rattle.semantic.specs.Shown.{shown}
 use Rattle.semantic_queries.proofs.Lookups.{shows}

@@ -7,7 +7,7 @@ use Rattle.semantic_diagnostics.specs.declared.diagnostic.Diagnostic.{Diagnostic
 use Rattle.semantic_syntax.specs.Tables.{Name, Tables}
 use Rattle.semantic_model.specs.TablesOf.{tables_of}
 use Rattle.semantic_tree.specs.Faults.{first_fault}
-use Rattle.semantic_walk.specs.Begun.{IsAnalysis, BelongsToNodes}
+use Rattle.promise.specs.Analysis.{IsAnalysis, BelongsToNodes}
 use Rattle.semantic_queries.proofs.Lookups.{shows}
 use Rattle.semantic_model.specs.Step.{steps}
 use Rattle.semantic_tree.specs.Children.{node_count}

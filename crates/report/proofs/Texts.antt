@@ -10,8 +10,7 @@ use Rattle.semantic_diagnostics.specs.declared.diagnostic.Diagnostic.{Diagnostic
 use Rattle.node_store.specs.NodeList.{NodeList}
 use Rattle.class_table.specs.Lists.{ClassLists}
 use Rattle.class_table.specs.Told.{lists_told}
-use Rattle.semantic.specs.Listed.{node_list, kept_nodes}
-use Rattle.semantic.specs.NoteLists.{classes_noted}
+use Rattle.promise.specs.Kept.{node_list, kept_nodes, classes_noted}
 use Rattle.report_lines.specs.ClassLines.{all_class_lines}
 use Rattle.report_lines.specs.CountLines.{node_lines, label_line, stats_line, made_line}
 use Rattle.report_lines.specs.DiagnosticLine.{diagnostic_line}

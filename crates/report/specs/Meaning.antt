@@ -14,8 +14,9 @@ use Rattle.program_ends.specs.Completeness.{IsClear}
 use Rattle.program_ends.specs.Lines.{tree_line}
 use Rattle.program_ends.specs.Meaning.{End, Finds, MeansOf}
 use Rattle.program_ends.specs.Reads.{Stands, RefusedFor}
+use Rattle.promise.specs.Analysis.{IsAnalysis}
 use Rattle.report_answers.specs.Codes.{end_of, status_for}
-use Rattle.report.specs.Built.{IsBuilt, found_of}
+use Rattle.report.specs.Built.{found_of}
 use Rattle.report_answers.specs.Report.{answer_text}
 use Rattle.report_answers.specs.Requests.{request_of}
 use Rattle.report.specs.Telling.{usage_line}
@@ -33,7 +34,7 @@ IsAbout (Some functions) source p = Unread source × (p ≡ generated functions)
 pub record Answers (request : Request) (end : End) (p : Tree) (text : List ℕ) : Type 0 where
   pub tables : Tables
   pub diagnostics : List Diagnostic
-  pub built : IsBuilt request.check p tables diagnostics
+  pub built : IsAnalysis request.check p tables diagnostics
   pub told : text ≡ answer_text request (found_of p tables diagnostics)
   pub ends : end ≡ end_of (status_for diagnostics)
 

@@ -15,8 +15,7 @@ use Rattle.semantic_model.specs.Place.{Place}
 use Rattle.semantic_model.specs.Step.{Step, root_place, steps_below, steps}
 use Rattle.node_store.specs.NodeList.{SeenNode}
 use Rattle.class_table.specs.Told.{lists_told}
-use Rattle.walk_notes.specs.NoteLists.{classes_noted}
-use Rattle.semantic_walk.specs.Listed.{seen_of, kept_nodes}
+use Rattle.promise.specs.Kept.{seen_of, kept_nodes, classes_noted}
 use Rattle.semantic_walk.proofs.Listing.{nodes_within, count_nodes}
 use Rattle.report_answers.specs.Found.{Found}
 use Rattle.report_answers.specs.Report.{options_of, report_text, text_by}

@@ -7,8 +7,7 @@ use Rattle.semantic_model.specs.Label.{unused_labels}
 use Rattle.semantic_model.specs.TablesOf.{tables_of}
 use Rattle.node_store.specs.NodeList.{NodeList, SeenNode}
 use Rattle.check_model.specs.DiagnosticsOf.{diagnostics_of}
-use Rattle.walk_notes.specs.NoteLists.{classes_noted}
-use Rattle.semantic_walk.specs.Listed.{kept_nodes}
+use Rattle.promise.specs.Kept.{kept_nodes, classes_noted}
 use Rattle.report_answers.specs.Found.{Found}
 use Rattle.report_answers.specs.declared.options.Options.{Options}
 

@@ -12,8 +12,8 @@ use Rattle.semantic_model.proofs.swapped.AlikeNodes.{node_tables_renamed}
 use Rattle.semantic_model.proofs.swapped.AlikeProgram.{swap_keeps}
 use Rattle.semantic_model.proofs.swapped.AlikeTies.{tables_renamed}
 use Rattle.walk_model.specs.Noted.{pairs_of}
-use Rattle.semantic_walk.specs.Begun.{BelongsToNodes}
-use Rattle.semantic.specs.SwappedNames.{ComparesNames}
+use Rattle.promise.specs.Analysis.{BelongsToNodes}
+use Rattle.promise.specs.SwappedNames.{ComparesNames}
 
 pub compares_names : (p : Tree) (t : Tables) (nodes : NodeEntries) → t ≡ tables_of p → BelongsToNodes p nodes → ComparesNames p t nodes
 compares_names p t nodes is belongs = record {

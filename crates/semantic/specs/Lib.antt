@@ -1,10 +1,11 @@
 pub mod Expected
-pub mod SwappedNames
+pub mod Chosen
 pub use Rattle.check_model.specs.DiagnosticsOf
 pub use Rattle.walk_model.specs.Counted
-pub use Rattle.semantic_walk.specs.Begun
-pub use Rattle.semantic_walk.specs.Listed
-pub use Rattle.walk_notes.specs.NoteLists
+pub use Rattle.promise.specs.Analysis
+pub use Rattle.promise.specs.Kept
+pub use Rattle.promise.specs.SwappedNames
+pub use Rattle.promise.specs.Analysed
 pub use Rattle.namespace_states.specs.InstanceStates
 pub use Rattle.semantic_queries.specs.Tally
 pub use Rattle.semantic_queries.specs.FreeReference

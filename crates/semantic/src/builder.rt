@@ -1,16 +1,13 @@
 //! The builder, which analyses a program.
 
-ghost use Rattle.std.specs.Prelude.{◌≡◌, ◌≤◌, ◌||◌, true, false, [], None, Some, IfOk, OnOk, OnErr};
+ghost use Rattle.std.specs.Prelude.{◌≡◌, ◌≤◌, true, false, None, Some, IfOk, OnOk, OnErr};
 ghost use Rattle.semantic_syntax.specs.Counts.{raised};
 ghost use Rattle.semantic_tree.specs.Children.{node_count};
 ghost use Rattle.semantic_model.specs.TablesOf.{tables_of};
 ghost use Rattle.walk_model.specs.Probes.{probes, depths};
-ghost use Rattle.semantic_walk.specs.Begun.{BelongsToNodes, IsAnalysis};
-ghost use Rattle.semantic_walk.specs.Listed.{kept_nodes};
-ghost use Rattle.semantic_model.specs.Label.{unused_labels};
-ghost use Rattle.walk_notes.specs.NoteLists.{classes_noted};
+ghost use Rattle.promise.specs.Analysed.{IsAnalysed};
 ghost use Rattle.semantic.specs.Expected.{expected, room_within};
-ghost use Rattle.semantic.specs.SwappedNames.{ComparesNames};
+ghost use Rattle.semantic.specs.Chosen.{settings_of};
 
 use checker::EarlyErrors;
 use semantic_queries::{SemanticBuilderReturn, Stats, put_together};
@@ -183,28 +180,14 @@ impl SemanticBuilder {
 
     /// Analyses a program. The only error is want of memory. The diagnostics are the redeclarations of its declarations
     /// and, where they are told, its early errors (ECMAScript, TypeScript), in the order of a walk over the program: a
-    /// redeclaration at its declaration, an early error on leaving the node that violates the rule.
+    /// redeclaration at its declaration, an early error on leaving the node that violates the rule. All that is promised of
+    /// what it gives back is `IsAnalysed`.
     pub fn build<'a>(
         self,
         alloc: Global,
         program: &'a Program,
     ) -> Result<SemanticBuilderReturn<'a>, AllocError>
-        ensures program { IfOk result (λ ret. ret.semantic.program.now ≡ program.now) }
-        ensures analysis { IfOk result
-            (λ ret. IsAnalysis self.check_syntax_error program.now ret.semantic.scoping
-            ret.diagnostics) }
-        ensures nodes { IfOk result (λ ret. BelongsToNodes program.now ret.semantic.tables) }
-        ensures node_list { IfOk result
-            (λ ret. ret.semantic.nodes ≡ kept_nodes self.build_nodes program.now) }
-        ensures classes { IfOk result
-            (λ ret. ret.semantic.classes
-            ≡ classes_noted (self.class_table || self.check_syntax_error) program.now) }
-        ensures labels { IfOk result
-            (λ ret. ret.semantic.unused_labels.items ≡ unused_labels program.now.root) }
-        ensures comments { IfOk result (λ ret. ret.semantic.comments.now ≡ program.now.comments) }
-        ensures whitespace { IfOk result (λ ret. ret.semantic.irregular_whitespaces.items ≡ []) }
-        ensures names { IfOk result
-            (λ ret. ComparesNames program.now ret.semantic.scoping ret.semantic.tables) }
+        ensures analysed { IfOk result (λ ret. IsAnalysed (settings_of self) program.now ret) }
     {
         let mut steps = Steps::new(());
         self.build_counted(alloc, program, &mut steps)
@@ -221,22 +204,7 @@ impl SemanticBuilder {
         program: &'a Program,
         steps: &mut Steps<L>,
     ) -> Result<SemanticBuilderReturn<'a>, AllocError>
-        ensures program { IfOk result (λ ret. ret.semantic.program.now ≡ program.now) }
-        ensures analysis { IfOk result
-            (λ ret. IsAnalysis self.check_syntax_error program.now ret.semantic.scoping
-            ret.diagnostics) }
-        ensures nodes { IfOk result (λ ret. BelongsToNodes program.now ret.semantic.tables) }
-        ensures node_list { IfOk result
-            (λ ret. ret.semantic.nodes ≡ kept_nodes self.build_nodes program.now) }
-        ensures classes { IfOk result
-            (λ ret. ret.semantic.classes
-            ≡ classes_noted (self.class_table || self.check_syntax_error) program.now) }
-        ensures labels { IfOk result
-            (λ ret. ret.semantic.unused_labels.items ≡ unused_labels program.now.root) }
-        ensures comments { IfOk result (λ ret. ret.semantic.comments.now ≡ program.now.comments) }
-        ensures whitespace { IfOk result (λ ret. ret.semantic.irregular_whitespaces.items ≡ []) }
-        ensures names { IfOk result
-            (λ ret. ComparesNames program.now ret.semantic.scoping ret.semantic.tables) }
+        ensures analysed { IfOk result (λ ret. IsAnalysed (settings_of self) program.now ret) }
         ensures cost { OnOk result (steps.new ≡ raised steps.old (probes program.now)) }
         ensures risen { steps.old ≤ steps.new }
         ensures given_up { OnErr result (steps.new ≤ raised steps.old (probes program.now)) }

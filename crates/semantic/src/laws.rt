@@ -8,7 +8,7 @@ ghost use Rattle.semantic_model.specs.Event.{events};
 ghost use Rattle.semantic_model.specs.Fold.{start};
 ghost use Rattle.semantic_model.specs.Hoist.{run};
 ghost use Rattle.semantic_model.specs.Step.{steps};
-ghost use Rattle.semantic_walk.specs.Begun.{IsAnalysis};
+ghost use Rattle.promise.specs.Analysis.{IsAnalysis};
 
 /// The tables are the same whether early errors are told or not. The diagnostics depend on nothing else than that, and
 /// without early errors they are the conflicts of declarations, each as a redeclaration, in order.

@@ -44,15 +44,17 @@ use Rattle.walk_model.specs.Room.{HasRoom}
 use Rattle.walk_model.proofs.sizes.ProgramRoom.{program_room}
 use Rattle.walk_model.proofs.sizes.Rooms.{room_first}
 use Rattle.semantic_walk.specs.AtPlace.{IsComing, entered, walked_within, left_at, walked_over}
-use Rattle.semantic_walk.specs.Begun.{begun, notes_classes, IsBegun, BelongsToNodes}
+use Rattle.promise.specs.Analysis.{BelongsToNodes}
+use Rattle.promise.specs.Kept.{listed, kept_nodes, classes_noted}
+use Rattle.semantic_walk.specs.Begun.{begun, notes_classes, IsBegun}
 use Rattle.node_store.specs.NodeList.{no_nodes}
-use Rattle.semantic_walk.specs.Listed.{IsNext, listed, all_listed, kept_from, list_kept, kept_nodes}
+use Rattle.semantic_walk.specs.Listed.{IsNext, all_listed, kept_from, list_kept}
 use Rattle.semantic_model.specs.NodeTable.{NodeEntry, nodes as entered_nodes}
 use Rattle.semantic_walk.specs.Stated.{AllStated}
 use Rattle.semantic_walk.specs.Walker.{Walker}
 use Rattle.semantic_walk.specs.declared.settings.Settings.{Settings}
 use Rattle.semantic_model.specs.Label.{unused_labels}
-use Rattle.walk_notes.specs.NoteLists.{NoteLists, nothing_noted, classes_noted}
+use Rattle.walk_notes.specs.NoteLists.{NoteLists, nothing_noted}
 use Rattle.walk_notes.proofs.WholeProgram.{program_classes, program_labels}
 use Rattle.unused_labels.specs.LabelStack.{LabelLists}
 use Rattle.semantic_walk.proofs.Listing.{nodes_within, last_without}

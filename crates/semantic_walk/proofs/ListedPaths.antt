@@ -19,7 +19,7 @@ use Rattle.semantic_model.proofs.lists.Members.{among_left, among_right, among_c
 use Rattle.node_store.specs.NodeList.{NodeList, SeenNode, node_at}
 use Rattle.node_store.specs.Outward.{outward_within, above, numbered_of, kinds_of}
 use Rattle.node_store.specs.PathIn.{path_in}
-use Rattle.semantic_walk.specs.Listed.{seen_of, node_list}
+use Rattle.promise.specs.Kept.{seen_of, node_list}
 use Rattle.semantic_walk.proofs.Listing.{nodes-append, nodes_below, count_nodes, last_without, first_steps, later_steps}
 
 -- the id of the parent; the root is its own

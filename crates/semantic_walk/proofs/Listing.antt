@@ -16,7 +16,8 @@ use Rattle.node_store.specs.Entered.{Entered, no_flags}
 use Rattle.node_store.specs.Entered as store
 use Rattle.node_store.specs.NodeList.{NodeList, SeenNode}
 use Rattle.semantic_model.specs.NodeTable.{NodeEntry, nodes as entered_nodes}
-use Rattle.semantic_walk.specs.Listed.{seen_of, listed, all_listed, entered_at, IsBelow, IsNext, IsAmong}
+use Rattle.promise.specs.Kept.{seen_of, listed}
+use Rattle.semantic_walk.specs.Listed.{all_listed, entered_at, IsBelow, IsNext, IsAmong}
 
 -- steps one after another enter their nodes one after another
 pub nodes-append : (xs ys : List Step) → entered_nodes (xs ++ ys) ≡ entered_nodes xs ++ entered_nodes ys

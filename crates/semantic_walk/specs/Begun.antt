@@ -1,25 +1,17 @@
--- A walk at the root of a program, and what belongs to a program beside its tables.
+-- A walk at the root of a program.
 use Rattle.std.specs.Prelude.{◌≡◌, ℕ, List, [], Bool, ◌&&◌, ◌||◌}
 use Rattle.std.specs.Str.{encode_utf8_all}
 use Rattle.semantic_syntax.specs.SourceTypes.{is_typescript_definition}
-use Rattle.semantic_syntax.specs.Tables.{Name, Tables}
-use Rattle.semantic_syntax.specs.NodeEntries.{NodeEntries}
+use Rattle.semantic_syntax.specs.Tables.{Name}
 use Rattle.semantic_tree.specs.Tree.{Tree}
 use Rattle.semantic_model.specs.Namespace.{InstanceState}
 use Rattle.semantic_model.specs.Place.{Place}
 use Rattle.semantic_model.specs.ScopeKind.{opened_scope}
 use Rattle.semantic_model.specs.Step.{root_place, steps}
-use Rattle.semantic_model.specs.Fits.{Fits}
-use Rattle.semantic_model.specs.Moment.{UsesAreTies, StandsInOneList, BindingsAreSymbols, ListsBeginWithOwn}
-use Rattle.semantic_model.specs.NodeTable.{node_tables}
-use Rattle.semantic_model.specs.TablesOf.{tables_of}
-use Rattle.semantic_diagnostics.specs.declared.diagnostic.Diagnostic.{Diagnostic}
 use Rattle.walk_model.specs.WalkState.{nothing_made}
 use Rattle.walk_model.specs.Opens.{open_scope}
-use Rattle.walk_model.specs.Noted.{pairs_of}
 use Rattle.walk_model.specs.WrittenNames.{Written, is_written, is_sloppy, names_written}
 use Rattle.walk_notes.specs.NoteLists.{nothing_noted}
-use Rattle.check_model.specs.DiagnosticsOf.{diagnostics_of}
 use Rattle.semantic_walk.specs.Listed.{kept_from}
 use Rattle.semantic_walk.specs.Stated.{AllStated}
 use Rattle.semantic_walk.specs.Walker.{Walker}
@@ -59,23 +51,3 @@ pub record IsBegun (settings : Settings) (w : Walker) (program : Tree) : Type 0 
   pub first : w ≡ begun program w.states w.namesakes settings.build_nodes (notes_classes settings) settings.checks
   pub names : AreNamesOf program w.namesakes
   pub states : AllStated w.states (steps program)
-
--- the tables fit the program
-abbrev pub FitsProgram : Tree → Tables → Type 0
-FitsProgram p t = Fits p t (node_tables (steps p))
-
--- what belongs to each node: the scope that it opens, the symbol that it declares, the reference that it is
-pub record BelongsToNodes (p : Tree) (nodes : NodeEntries) : Type 0 where
-  pub scopes : nodes.scopes ≡ pairs_of (node_tables (steps p)).scopes
-  pub symbols : nodes.symbols ≡ pairs_of (node_tables (steps p)).symbols
-  pub references : nodes.references ≡ pairs_of (node_tables (steps p)).references
-
--- the analysis of the program: its tables, which fit it, what holds of them right after, and its diagnostics, with early errors where they are checked
-pub record IsAnalysis (checks : Bool) (p : Tree) (t : Tables) (diagnostics : List Diagnostic) : Type 0 where
-  pub tables : t ≡ tables_of p
-  pub fits : FitsProgram p t
-  pub uses : UsesAreTies t
-  pub lists : StandsInOneList t
-  pub bindings : BindingsAreSymbols t
-  pub redeclarations : ListsBeginWithOwn t
-  pub told_of : diagnostics ≡ diagnostics_of checks p

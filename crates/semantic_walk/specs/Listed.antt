@@ -1,34 +1,14 @@
--- The list of a program's nodes.
-use Rattle.std.specs.Prelude.{◌≡◌, ◌<◌, ℕ, List, [], ◌∷◌, ◌++◌, Option, Some, None, map, length, slice_index, Bool, if◌then◌else◌}
+-- The list of nodes while a walk makes it.
+use Rattle.std.specs.Prelude.{◌≡◌, ◌<◌, ℕ, List, [], ◌∷◌, ◌++◌, Option, Some, None, length, slice_index, Bool, if◌then◌else◌}
 use Rattle.semantic_tree.specs.Forest.{Forest, numbered}
-use Rattle.semantic_tree.specs.Tree.{Tree, IsPreorder}
+use Rattle.semantic_tree.specs.Tree.{IsPreorder}
 use Rattle.semantic_model.specs.Place.{Place, at}
-use Rattle.semantic_model.specs.NodeTable.{NodeEntry, nodes as entered_nodes}
-use Rattle.semantic_model.specs.Step.{Step, entering, steps}
-use Rattle.node_store.specs.Entered.{Entered, no_flags, nothing_entered}
+use Rattle.semantic_model.specs.NodeTable.{nodes as entered_nodes}
+use Rattle.semantic_model.specs.Step.{Step, entering}
+use Rattle.node_store.specs.Entered.{Entered, nothing_entered}
 use Rattle.node_store.specs.Entered as store
-use Rattle.node_store.specs.NodeList.{NodeList, SeenNode, no_nodes}
-
--- a node as a store shows it
-abbrev pub seen_of : NodeEntry → SeenNode
-seen_of entry = record { node = entry.node; id = entry.node.node_id; scope = entry.scope }
-
--- the list with these nodes, without flags
-abbrev pub listed : NodeList → List NodeEntry → NodeList
-listed list entries =
-    record {
-      nodes = list.nodes ++ map seen_of entries;
-      parents = list.parents ++ map (λ (entry : NodeEntry). entry.parent) entries;
-      flags = list.flags ++ map (λ (entry : NodeEntry). no_flags) entries;
-    }
-
--- the nodes of a program in preorder, each with the scope where it stands and its parent, and without flags
-abbrev pub node_list : Tree → NodeList
-node_list program = listed no_nodes (entered_nodes (steps program))
-
--- the nodes that an analysis keeps
-abbrev pub kept_nodes : Bool → Tree → NodeList
-kept_nodes keeps program = if keeps then node_list program else no_nodes
+use Rattle.node_store.specs.NodeList.{NodeList, no_nodes}
+use Rattle.promise.specs.Kept.{listed}
 
 -- what a walk begins with, where it keeps the nodes that it enters
 abbrev pub kept_from : Bool → Option Entered

@@ -3,10 +3,11 @@
 ghost use Rattle.std.specs.Prelude.{◌≡◌, ◌≤◌, ◌||◌, IfOk, OnOk, OnErr};
 ghost use Rattle.semantic_syntax.specs.Counts.{raised};
 ghost use Rattle.walk_model.specs.Probes.{probes};
-ghost use Rattle.semantic_walk.specs.Begun.{IsBegun, BelongsToNodes, IsAnalysis};
-ghost use Rattle.semantic_walk.specs.Listed.{kept_nodes, list_kept};
+ghost use Rattle.promise.specs.Analysis.{IsAnalysis, BelongsToNodes};
+ghost use Rattle.promise.specs.Kept.{kept_nodes, classes_noted};
+ghost use Rattle.semantic_walk.specs.Begun.{IsBegun};
+ghost use Rattle.semantic_walk.specs.Listed.{list_kept};
 ghost use Rattle.semantic_model.specs.Label.{unused_labels};
-ghost use Rattle.walk_notes.specs.NoteLists.{classes_noted};
 
 use crate::settings::Settings;
 use crate::walk::Walk;

@@ -15,7 +15,7 @@ ghost use Rattle.node_store.specs.Outward.{above};
 ghost use Rattle.node_store.specs.PathIn.{path_in};
 ghost use Rattle.node_store.specs.Store.{path_to};
 ghost use Rattle.semantic_walk.specs.Folded.{ShowsFold};
-ghost use Rattle.semantic_walk.specs.Listed.{node_list};
+ghost use Rattle.promise.specs.Kept.{node_list};
 ghost use Rattle.semantic_walk.specs.Stored.{empty_store, stored_after};
 
 /// At each place of the walk over a program the tables show what the declarations so far fold into.

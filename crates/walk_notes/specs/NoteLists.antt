@@ -1,17 +1,14 @@
 -- What a walk notes of classes and labels.
-use Rattle.std.specs.Prelude.{List, Bool, ◌||◌, None, if◌then◌else◌}
+use Rattle.std.specs.Prelude.{List, Bool, ◌||◌, None}
 use Rattle.semantic_kinds.specs.Kinds.{same_kind}
 use Rattle.semantic_kinds.specs.declared.kind.AstType.{AstType}
 use Rattle.semantic_kinds.specs.declared.kind.AstType.TheVariants as kind
 use Rattle.semantic_tree.specs.Forest.{Forest}
-use Rattle.semantic_tree.specs.Tree.{Tree}
 use Rattle.semantic_tree.specs.declared.node.Node.{Node}
-use Rattle.semantic_model.specs.Class.{classes as classes_of}
 use Rattle.semantic_model.specs.Label.{is_jump, is_labelled}
-use Rattle.class_table.specs.Lists.{ClassLists, no_classes}
+use Rattle.class_table.specs.Lists.{no_classes}
 use Rattle.class_table.specs.Noted.{left, noted_below}
 use Rattle.class_table.specs.NotedSteps.{entered_under}
-use Rattle.class_table.specs.Told.{lists_told}
 use Rattle.class_table.specs.declared.builder.ClassTableBuilder.{ClassTableBuilder}
 use Rattle.unused_labels.specs.LabelStack.{LabelLists, no_labels}
 use Rattle.unused_labels.specs.Labelling.{node_entered, node_left, walked_below}
@@ -52,7 +49,3 @@ is_noted k = has_label_kind k || (same_kind k kind.ClassBody || same_kind k kind
 -- whether something may be noted where it is left
 abbrev pub is_noted_behind : AstType → Bool
 is_noted_behind k = is_labelled k || same_kind k kind.Class
-
--- the classes of a program, where they are noted
-abbrev pub classes_noted : Bool → Tree → ClassLists
-classes_noted on p = if on then lists_told (classes_of p.root) else no_classes

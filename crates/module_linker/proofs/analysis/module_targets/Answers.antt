@@ -12,7 +12,7 @@ pub returns : goal.returns
 returns c =
     let m = c.args.module.now in
     let told : seen_by m c.scoping.result.now c.tables.result.now ≡ analysed m =
-    analysed_told m c.scoping.result.now c.in_ok-analysis.analysis.semantic.scoping c.tables.result.now c.in_ok-analysis.analysis.semantic.tables c.in_ok-analysis.analysis.diagnostics c.scoping.ensures c.tables.ensures c.in_ok-analysis.ensures.analysis c.in_ok-analysis.ensures.nodes in
+    analysed_told m c.scoping.result.now c.in_ok-analysis.analysis.semantic.scoping c.tables.result.now c.in_ok-analysis.analysis.semantic.tables c.in_ok-analysis.analysis.diagnostics c.scoping.ensures c.tables.ensures c.in_ok-analysis.ensures.analysed.analysis c.in_ok-analysis.ensures.analysed.nodes in
     record {
       grows = c.targets_of-made.ensures.grows;
       nodes = subst (λ (x : Analysed). IfOk c.targets_of-made.result (λ made. made.nodes.items ≡ nodes_of (imports x))) told c.targets_of-made.ensures.nodes;

@@ -9,5 +9,5 @@ pub returns : goal.returns
 returns c =
     let told : told_by c.analysed_by.result ≡ analysis_of c.args.made.now =
     built c.args.made.now c.analysed_by.result c.in_ok-analysis.analysis.semantic.scoping c.in_ok-analysis.analysis.semantic.tables c.in_ok-analysis.analysis.diagnostics
-    c.analysed_by.ensures.scoping c.analysed_by.ensures.tables c.in_ok-analysis.ensures.analysis c.in_ok-analysis.ensures.nodes in
+    c.analysed_by.ensures.scoping c.analysed_by.ensures.tables c.in_ok-analysis.ensures.analysed.analysis c.in_ok-analysis.ensures.analysed.nodes in
     sym (c.first_difference-found.ensures ∙ (λ i. first_difference (told_by c.args.analysed.now) (told i) 0 (c.node_count.ensures i)))

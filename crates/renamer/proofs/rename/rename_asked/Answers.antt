@@ -10,7 +10,7 @@ returns-in_err-analysis c = answers_nothing (asked_by c.args.request.now) c.args
 pub rename_known-result-requires-clause-analysis : goal.rename_known-result-requires-clause-analysis
 rename_known-result-requires-clause-analysis c =
     built c.args.program.now c.analysed_by.result c.in_ok-analysis.analysis.semantic.scoping c.in_ok-analysis.analysis.semantic.tables c.in_ok-analysis.analysis.diagnostics
-    c.analysed_by.ensures.scoping c.analysed_by.ensures.tables c.in_ok-analysis.ensures.analysis c.in_ok-analysis.ensures.nodes
+    c.analysed_by.ensures.scoping c.analysed_by.ensures.tables c.in_ok-analysis.ensures.analysed.analysis c.in_ok-analysis.ensures.analysed.nodes
 
 pub rename_known-result-requires-clause-tables : goal.rename_known-result-requires-clause-tables
-rename_known-result-requires-clause-tables c = c.analysed_by.ensures.scoping ∙ c.in_ok-analysis.ensures.analysis.tables
+rename_known-result-requires-clause-tables c = c.analysed_by.ensures.scoping ∙ c.in_ok-analysis.ensures.analysed.analysis.tables

@@ -7,7 +7,7 @@ use Rattle.renamer.proofs.rename.rename_program.Goals as goal
 pub rename_analysed-result-requires-clause-analysis : goal.rename_analysed-result-requires-clause-analysis
 rename_analysed-result-requires-clause-analysis c =
     built c.args.p.now c.analysed_by.result c.in_ok-analysis.analysis.semantic.scoping c.in_ok-analysis.analysis.semantic.tables c.in_ok-analysis.analysis.diagnostics
-    c.analysed_by.ensures.scoping c.analysed_by.ensures.tables c.in_ok-analysis.ensures.analysis c.in_ok-analysis.ensures.nodes
+    c.analysed_by.ensures.scoping c.analysed_by.ensures.tables c.in_ok-analysis.ensures.analysed.analysis c.in_ok-analysis.ensures.analysed.nodes
 
 pub returns-clause-renamed : goal.returns-clause-renamed
 returns-clause-renamed c = renaming_of c.args.p.now c.args.s (chars c.args.new.now) c.rename_analysed-result.result c.rename_analysed-result.ensures

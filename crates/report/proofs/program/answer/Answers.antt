@@ -1,6 +1,8 @@
-use Rattle.std.proofs.Common.{refl, ap}
+use Rattle.std.proofs.Common.{Bool, ◌||◌, refl, ap, subst, ◌∙◌}
 use Rattle.semantic_tree.specs.Children.{node_count}
 use Rattle.semantic_tree.specs.Tree.{Tree}
+use Rattle.promise.specs.Analysis.{IsAnalysis}
+use Rattle.promise.specs.Kept.{kept_nodes, classes_noted}
 use Rattle.report_answers.specs.Codes.{status_for, end_of}
 use Rattle.report_answers.specs.Found.{found_in}
 use Rattle.report_answers.specs.Report.{options_of, answer_text}
@@ -18,10 +20,12 @@ returns g c =
     (record {
       tables = c.in_ok-ret.ret.semantic.scoping;
       diagnostics = c.in_ok-ret.ret.diagnostics;
-      built = rw c.settings.ensures.check at c.in_ok-ret.ensures.analysis;
+      built = subst (λ (checks : Bool). IsAnalysis checks c.args.program.now c.in_ok-ret.ret.semantic.scoping c.in_ok-ret.ret.diagnostics) c.settings.ensures.check c.in_ok-ret.ensures.analysed.analysis;
       told = text_same (options_of c.args.request) _ _ _ _ _ _ c.args.program.now c.args.request.make c.args.request.check
-          (rw c.settings.ensures.nodes at c.in_ok-ret.ensures.node_list) (rw (c.settings.ensures.classes, c.settings.ensures.check) at c.in_ok-ret.ensures.classes) c.in_ok-ret.ensures.labels
-          (ap (λ (t : Tree). node_count t.root) c.in_ok-ret.ensures.program);
+          (c.in_ok-ret.ensures.analysed.node_list ∙ ap (λ (asked : Bool). kept_nodes asked c.args.program.now) c.settings.ensures.nodes)
+          (c.in_ok-ret.ensures.analysed.classes ∙ (λ i. classes_noted (c.settings.ensures.classes i || c.settings.ensures.check i) c.args.program.now))
+          c.in_ok-ret.ensures.analysed.labels
+          (ap (λ (t : Tree). node_count t.root) c.in_ok-ret.ensures.analysed.program);
       ends = refl;
     })
     c.finish_answer-answered.ensures

@@ -2,7 +2,7 @@ use Rattle.std.proofs.Common.{◌≡◌, Bool, Result, Ok, List, OnOk, subst, sy
 use Rattle.semantic_syntax.specs.Tables.{Tables}
 use Rattle.semantic_syntax.specs.NodeEntries.{NodeEntries}
 use Rattle.semantic_diagnostics.specs.declared.diagnostic.Diagnostic.{Diagnostic}
-use Rattle.semantic_walk.specs.Begun.{BelongsToNodes, IsAnalysis}
+use Rattle.promise.specs.Analysis.{IsAnalysis, BelongsToNodes}
 use Rattle.semantic_walk.proofs.analysis.analyse.Goals as goal
 
 on_done : {X E : Type 0} (r : Result X E) (x : X) (P : Type 0) → r ≡ Ok x → OnOk r P → P

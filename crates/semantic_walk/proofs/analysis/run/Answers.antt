@@ -22,7 +22,8 @@ use Rattle.semantic_model.proofs.fits.TablesFit.{tables_fit}
 use Rattle.semantic_diagnostics.specs.declared.diagnostic.Diagnostic.{Diagnostic}
 use Rattle.walk_model.specs.Walks.{walked}
 use Rattle.walk_model.proofs.turns.RootSteps.{root_scope}
-use Rattle.semantic_walk.specs.Begun.{IsBegun, FitsProgram, IsAnalysis}
+use Rattle.promise.specs.Analysis.{FitsProgram, IsAnalysis}
+use Rattle.semantic_walk.specs.Begun.{IsBegun}
 use Rattle.semantic_walk.specs.AtPlace.{IsComing, left_at}
 use Rattle.semantic_walk.specs.Leaving.{IsFit}
 use Rattle.semantic_walk.specs.Walker.{Walker, telling_of}

@@ -6,7 +6,7 @@ use Rattle.semantic_tree.specs.Renamed.{swapped_tree}
 use Rattle.semantic_tree.specs.Tree.{Tree}
 use Rattle.semantic_model.specs.Swap.{IsSwappable, swapped_tables}
 use Rattle.semantic_model.specs.TablesOf.{tables_of}
-use Rattle.semantic_walk.specs.Begun.{BelongsToNodes}
+use Rattle.promise.specs.Analysis.{BelongsToNodes}
 
 -- names are only compared: of all names but the empty one, `arguments` and `eval`, the program with two swapped has the tables with these two swapped, and the same belongs to its nodes
 pub record ComparesNames (p : Tree) (t : Tables) (nodes : NodeEntries) : Type 0 where

@@ -1,0 +1,4 @@
+pub mod Analysis
+pub mod Kept
+pub mod SwappedNames
+pub mod Analysed
