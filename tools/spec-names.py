@@ -1,11 +1,12 @@
 #!/usr/bin/env python3
-"""Sees that a name of the definitions has one meaning, or is listed with its meanings.
-usage: tools/spec-names.py
+"""Sees that a name of the definitions has one meaning.
+usage: tools/spec-names.py [--files]
 
-A name that several files of `specs/` define stands in tools/spec-names.txt, in one line with the files and what it means in each:
-`NAME | CRATE/FILE: meaning | CRATE/FILE: meaning`. What isn't listed so, and what is listed and isn't there, is told with the line
-that is wanted, and the status is 1 then. The names are those of definitions, records and data that other files can see; fields and
-constructors are told apart by what they belong to."""
+A name that several files of `specs/` define means one idea in all of them, as a method's name does in several types, and stands in
+tools/spec-names.txt: `NAME | the idea | CRATE/FILE CRATE/FILE`. What several files define and isn't listed so wants other names; it is
+told with what each file says of it, as is what is listed and isn't there, and the status is 1 then. With --files each line gets the
+files that there are now: look whether they mean its idea. The names are those of definitions, records and data that other files can
+see; fields and constructors are told apart by what they belong to."""
 
 import glob
 import os
@@ -49,27 +50,46 @@ def names_in_several_files():
 
 
 def listed():
-    """The names of the list, each with the files that stand there, and the lines that say nothing of a file."""
-    names, silent = {}, []
+    """The names of the list, each with its idea and its files."""
+    names = {}
     with open(LIST, encoding="utf-8") as file:
-        for line in file:
-            name, *meanings = (it.strip() for it in line.split(" | "))
-            pairs = [it.partition(":") for it in meanings]
-            names[name] = {file for file, _, _ in pairs}
-            silent += [f"{name} in {file}" for file, _, meaning in pairs if not meaning.strip()]
-    return names, silent
+        for number, line in enumerate(file, 1):
+            parts = [it.strip() for it in line.split(" | ")]
+            if len(parts) != 3 or not all(parts):
+                sys.exit(f"spec-names: line {number} of the list isn't `NAME | the idea | CRATE/FILE CRATE/FILE`")
+            names[parts[0]] = parts[1], parts[2].split()
+    return names
+
+
+def write_files(there, named):
+    """Gives each line of the list the files that there are."""
+    with open(LIST, "w", encoding="utf-8") as file:
+        for name, (idea, _) in sorted(named.items()):
+            if name in there:
+                file.write(" | ".join([name, idea, " ".join(sorted(there[name]))]) + "\n")
+
+
+def faults(there, named):
+    """What is wrong with the names, in lines."""
+    for name, files in sorted(there.items()):
+        if name not in named:
+            yield " | ".join([f"{name} wants one meaning", *(f"{file}: {said}" for file, said in sorted(files.items()))])
+        elif set(named[name][1]) != set(files):
+            yield f"{name} | {named[name][0]} | {' '.join(sorted(files))} is wanted: the files aren't those of the list"
+    for name in sorted(named):
+        if name not in there:
+            yield f"{name} doesn't stand in several files"
 
 
 def main(words):
-    if words:
-        print("usage: tools/spec-names.py", file=sys.stderr)
+    if words not in ([], ["--files"]):
+        print("usage: tools/spec-names.py [--files]", file=sys.stderr)
         return 2
-    there, (named, silent) = names_in_several_files(), listed()
-    told = [f"the list says nothing of {it}" for it in silent]
-    for name, files in sorted(there.items()):
-        if named.get(name) != set(files):
-            told.append(" | ".join([f"wanted: {name}", *(f"{file}: {said}" for file, said in sorted(files.items()))]))
-    told += [f"{name} doesn't stand in several files" for name in sorted(named) if name not in there]
+    there, named = names_in_several_files(), listed()
+    if words:
+        write_files(there, named)
+        return 0
+    told = list(faults(there, named))
     for line in told:
         print(f"spec-names: {line}", file=sys.stderr)
     return 1 if told else 0
